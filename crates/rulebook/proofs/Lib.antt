@@ -1,0 +1,4 @@
+-- The few claims that give the definitions teeth; the laws stand in crates above.
+pub mod Marked
+pub mod OneStep
+pub mod Width

@@ -1,0 +1,37 @@
+-- One-step laws: each says of one definition what the marked run does not meet, so that an edit of it is refused. Assumes nothing.
+use Prim.Native.Nat.{ℕ, _+_, _<_, min}
+use mathlib.Core.Path.{_≡_, refl}
+use mathlib.Core.Bool.{Bool, true, false}
+use mathlib.Core.List.{List}
+use native.Mathlib.Omega.{arith}
+use lib.Dec.{leb, eqb}
+use borrow.Author.Tests.{lt-leb, ne-eqb, eqb-true}
+use Rattle.rulebook.specs.Table.{threshold, longWait, networkOwner, itemKind, itemA, kindAsk, platform}
+use Rattle.rulebook.specs.Reasons.{itemOwned}
+use Rattle.rulebook.specs.State.{Network, stateRecover, statusPending}
+use Rattle.rulebook.specs.Lists.{networkIn}
+use Rattle.rulebook.specs.Arbitration.{unmarkPort}
+use Rattle.rulebook.specs.Events.{statusIn, wake, moved, moveNetwork, takes, wait, offBus, busOff}
+
+-- a repeated wakeup does not restart the timeout
+pub wake-pending : (t : List ℕ) (k : ℕ) (s : List ℕ) → statusIn t k s ≡ statusPending → wake t k s ≡ s
+unfolding wake
+wake-pending t k s h = rw h
+
+-- the mark of a port that is not arbitrated stays
+pub mark-stays : (q : ℕ → Bool) (p : ℕ) (s : List ℕ) → q p ≡ false → unmarkPort q p s ≡ s
+unfolding unmarkPort
+mark-stays q p s h = rw h
+
+-- the counter is compared after 1 is added: at the threshold, one bus-off more loads the long wait
+pub wait-at-threshold : (t : List ℕ) (n : ℕ) (s : List ℕ) → takes (networkIn t n s) ≡ true → networkIn t n s .counter ≡ threshold t n → threshold t n < 255
+    → busOff t n s ≡ moveNetwork t n (moved stateRecover (threshold t n + 1) (longWait t n) (networkIn t n s)) s
+unfolding busOff offBus wait
+wait-at-threshold t n s h e b =
+    let m : min 255 (threshold t n + 1) ≡ threshold t n + 1 = omega arith in
+    rw h (simp (e, m, lt-leb (threshold t n + 1) (threshold t n) (omega arith)))
+
+-- an operator's list asks no stranger's network
+pub asks-own : (t : List ℕ) (o i : ℕ) → itemOwned t o i ≡ true → (o ≡ platform → ⊥) → itemKind t i ≡ kindAsk → networkOwner t (itemA t i) ≡ o
+unfolding itemOwned
+asks-own t o i h ne k = eqb-true (networkOwner t (itemA t i)) o (rw (k, ne-eqb o platform ne) at h)

@@ -1,0 +1,76 @@
+-- Expressions: how deep they nest, which ports they mention, what they give.
+-- An expression of kind 4 to 8 is an operator, any other a condition, everywhere alike. The `right` of a NOT is a zero field and
+-- no argument. Each recursion is one level, over `below` for the arguments, and then d levels.
+use Prim.Native.Nat.{ℕ, zero, suc}
+use mathlib.Core.Bool.{Bool, true, false, cond, _&&_, _||_, not, xor}
+use mathlib.Core.List.{List}
+use lib.Dec.{leb, eqb}
+use Rattle.rulebook.specs.Words.{between}
+use Rattle.rulebook.specs.Table.{expressionKind, conditionPort, conditionValue, left, right}
+
+-- "an expression nested seven deep stands, eight is refused"; lists likewise
+abbrev pub deepest : ℕ
+deepest = 7
+
+unfoldable pub operator : List ℕ → ℕ → Bool
+operator t e = between 4 8 (expressionKind t e)
+
+abbrev pub isNot : List ℕ → ℕ → Bool
+isNot t e = eqb (expressionKind t e) 8
+
+-- Depth: "a condition has depth 1, an operator 1 more than its deeper argument".
+
+unfoldable pub expressionNests : List ℕ → (ℕ → Bool) → ℕ → Bool
+expressionNests t below e =
+    elim (operator t e) [
+      | true ↦ below (left t e) && (isNot t e || below (right t e))
+      | false ↦ true
+    ]
+
+-- expression e is at most d deep
+unfoldable pub expressionWithin : ℕ → List ℕ → ℕ → Bool
+expressionWithin zero t e = false
+expressionWithin (suc d) t e = expressionNests t (expressionWithin d t) e
+
+-- Mention: whether a port that the expression mentions is one of q's.
+
+unfoldable pub expressionMentions : List ℕ → (ℕ → Bool) → (ℕ → Bool) → ℕ → Bool
+expressionMentions t q below e =
+    elim (operator t e) [
+      | true ↦ below (left t e) || not (isNot t e) && below (right t e)
+      | false ↦ q (conditionPort t e)
+    ]
+
+unfoldable pub mentions : ℕ → List ℕ → (ℕ → Bool) → ℕ → Bool
+mentions zero t q e = false
+mentions (suc d) t q e = expressionMentions t q (mentions d t q) e
+
+-- Evaluation, by the values that v gives the ports.
+
+-- 0 equal, 1 not equal, 2 set, 3 cleared
+unfoldable pub condition : List ℕ → (ℕ → ℕ) → ℕ → Bool
+condition t v e =
+    cond (eqb (expressionKind t e) 0) (eqb (v (conditionPort t e)) (conditionValue t e))
+    (cond (eqb (expressionKind t e) 1) (not (eqb (v (conditionPort t e)) (conditionValue t e)))
+    (cond (eqb (expressionKind t e) 2) (eqb (v (conditionPort t e)) 1)
+    (eqb (v (conditionPort t e)) 0)))
+
+-- 4 AND, 5 OR, 6 XOR, 7 NAND, 8 NOT
+unfoldable pub joined : ℕ → Bool → Bool → Bool
+joined kind a b =
+    cond (eqb kind 4) (a && b)
+    (cond (eqb kind 5) (a || b)
+    (cond (eqb kind 6) (xor a b)
+    (cond (eqb kind 7) (not (a && b))
+    (not a))))
+
+unfoldable pub expressionHolds : List ℕ → (ℕ → ℕ) → (ℕ → Bool) → ℕ → Bool
+expressionHolds t v below e =
+    elim (operator t e) [
+      | true ↦ joined (expressionKind t e) (below (left t e)) (below (right t e))
+      | false ↦ condition t v e
+    ]
+
+unfoldable pub holds : ℕ → List ℕ → (ℕ → ℕ) → ℕ → Bool
+holds zero t v e = false
+holds (suc d) t v e = expressionHolds t v (holds d t v) e

@@ -1,0 +1,132 @@
+-- Lists: what each item does, the trace words, and a list run with the lists and rules that it names.
+use Prim.Native.Nat.{ℕ, zero, suc, _+_}
+use mathlib.Core.Bool.{Bool, true, false, cond, _&&_, _||_, not}
+use mathlib.Core.List.{List, [], _∷_, _++_}
+use lib.ListN.{set}
+use lib.Dec.{eqb}
+use Rattle.rulebook.specs.Words.{word, laid, each}
+use Rattle.rulebook.specs.Table.{reload, ruleExpression, trueList, falseList, noList}
+use Rattle.rulebook.specs.Table.{listOwner, triggered, firstItem, itemCount, itemKind, itemA, itemB}
+use Rattle.rulebook.specs.Table.{kindClear, kindStart, kindStop, kindAsk, kindList, kindRule}
+use Rattle.rulebook.specs.Expressions.{deepest, mentions, holds}
+use Rattle.rulebook.specs.State.{ruleIndex, networkIndex, definedOf, markedOf, valueOf, timerStopped, timerStarted}
+use Rattle.rulebook.specs.State.{resultOf, undefinedResult, Network, networkOf, packPort, packRule, packNetwork}
+
+-- A run so far, x below: the state, the trace words written, and whether a list would have started at an eighth level.
+pub record Run : Type 0 where
+  pub state : List ℕ
+  pub words : List ℕ
+  pub deep : Bool
+
+abbrev pub start : List ℕ → Run
+start s = record { state = s; words = []; deep = false }
+
+abbrev pub become : List ℕ → Run → Run
+become s x = record { state = s; words = x .words; deep = x .deep }
+
+abbrev pub emit : ℕ → Run → Run
+emit w x = record { state = x .state; words = x .words ++ (w ∷ []); deep = x .deep }
+
+abbrev pub tooDeep : Run → Run
+tooDeep x = record { state = x .state; words = x .words; deep = true }
+
+-- "Trace word: kind(4), owner(4) of the list that holds it, a(8), b(16): 15 list start, .. 0 to 4 as the item; 6 .. the rule"
+
+unfoldable pub traceWord : ℕ → ℕ → ℕ → ℕ → ℕ
+traceWord kind owner a b = laid 0 4 kind + laid 4 4 owner + laid 8 8 a + laid 16 16 b
+
+abbrev pub kindListStart : ℕ
+kindListStart = 15
+
+-- a port written anew, which defines it
+unfoldable pub setPort : ℕ → ℕ → ℕ → ℕ → List ℕ → List ℕ
+setPort p marked value remaining s = set s p (packPort 1 marked value remaining)
+
+abbrev pub networkIn : List ℕ → ℕ → List ℕ → Network
+networkIn t n s = networkOf (word s (networkIndex t n))
+
+unfoldable pub setNetwork : List ℕ → ℕ → Network → List ℕ → List ℕ
+setNetwork t n c s = set s (networkIndex t n) (packNetwork c)
+
+abbrev pub asking : ℕ → Network → Network
+asking mode c = record { asked = mode; state = c .state; counter = c .counter; remaining = c .remaining }
+
+-- What an item of kind 0 to 4 does to the state. "Start reloads and marks the timer, stop zeroes and marks it; a network request
+-- only sets asked; clear sets the event to 0 and marks nothing." An outside call changes nothing.
+unfoldable pub effect : List ℕ → ℕ → List ℕ → List ℕ
+effect t i s =
+    cond (eqb (itemKind t i) kindClear) (setPort (itemA t i) (markedOf (word s (itemA t i))) 0 0 s)
+    (cond (eqb (itemKind t i) kindStart) (setPort (itemA t i) 1 timerStarted (reload t (itemA t i)) s)
+    (cond (eqb (itemKind t i) kindStop) (setPort (itemA t i) 1 timerStopped 0 s)
+    (cond (eqb (itemKind t i) kindAsk) (setNetwork t (itemA t i) (asking (itemB t i) (networkIn t (itemA t i) s)) s)
+    s)))
+
+unfoldable pub act : List ℕ → ℕ → ℕ → Run → Run
+act t o i x = become (effect t i (x .state)) (emit (traceWord (itemKind t i) o (itemA t i) (itemB t i)) x)
+
+-- A rule r in a state: whether it mentions an undefined port, its result, and the list that it then starts, 255 for none: "its
+-- list for that result .. if conditional (triggered 0), or if the result differs from the previous one".
+
+unfoldable pub valueIn : List ℕ → ℕ → ℕ
+valueIn s p = valueOf (word s p)
+
+unfoldable pub undefinedIn : List ℕ → ℕ → Bool
+undefinedIn s p = eqb (definedOf (word s p)) 0
+
+unfoldable pub unready : List ℕ → List ℕ → ℕ → Bool
+unready t s r = mentions deepest t (undefinedIn s) (ruleExpression t r)
+
+unfoldable pub resultIn : List ℕ → List ℕ → ℕ → ℕ
+resultIn t s r = cond (holds deepest t (valueIn s) (ruleExpression t r)) 1 0
+
+abbrev pub previousIn : List ℕ → List ℕ → ℕ → ℕ
+previousIn t s r = resultOf (word s (ruleIndex t r))
+
+abbrev pub listFor : List ℕ → ℕ → ℕ → ℕ
+listFor t r result = cond (eqb result 1) (trueList t r) (falseList t r)
+
+unfoldable pub choice : List ℕ → ℕ → ℕ → ℕ → ℕ
+choice t r previous result =
+    cond (eqb (triggered t (listFor t r result)) 0 || not (eqb result previous)) (listFor t r result) noList
+
+unfoldable pub choiceIn : List ℕ → List ℕ → ℕ → ℕ
+choiceIn t s r = choice t r (previousIn t s r) (resultIn t s r)
+
+unfoldable pub setResult : List ℕ → ℕ → ℕ → List ℕ → List ℕ
+setResult t r result s = set s (ruleIndex t r) (packRule result)
+
+-- The cycle: o is the owner of the list that holds the item, `below` runs a list that is named.
+
+-- "A rule item evaluates with current values, stores, and runs its list on the same test"; its word 6 stands before its list's
+unfoldable pub judge : List ℕ → ℕ → ℕ → Run → Run
+judge t o r x =
+    become (setResult t r (resultIn t (x .state) r) (x .state)) (emit (traceWord kindRule o r (resultIn t (x .state) r)) x)
+
+unfoldable pub runChoice : (ℕ → Run → Run) → ℕ → Run → Run
+runChoice below l x = elim (eqb l noList) [ true ↦ x | false ↦ below l x ]
+
+-- "if a port is undefined it stores and runs nothing"
+unfoldable pub runRule : (ℕ → Run → Run) → List ℕ → ℕ → ℕ → Run → Run
+runRule below t o r x =
+    elim (unready t (x .state) r) [
+      | true ↦ emit (traceWord kindRule o r undefinedResult) x
+      | false ↦ runChoice below (choiceIn t (x .state) r) (judge t o r x)
+    ]
+
+-- "A named list always runs"; "Item 5 adds no word"
+unfoldable pub runItem : (ℕ → Run → Run) → List ℕ → ℕ → ℕ → Run → Run
+runItem below t o i x =
+    elim (eqb (itemKind t i) kindList) [
+      | true ↦ below (itemA t i) x
+      | false ↦ elim (eqb (itemKind t i) kindRule) [ true ↦ runRule below t o (itemA t i) x | false ↦ act t o i x ]
+    ]
+
+-- "Items take effect in order", after the word for the list's start
+unfoldable pub runItems : (ℕ → Run → Run) → List ℕ → ℕ → Run → Run
+runItems below t l x =
+    each (firstItem t l) (itemCount t l) (runItem below t (listOwner t l)) (emit (traceWord kindListStart (listOwner t l) l 0) x)
+
+-- list l with d levels left
+unfoldable pub runList : ℕ → List ℕ → ℕ → Run → Run
+runList zero t l x = tooDeep x
+runList (suc d) t l x = runItems (runList d t) t l x

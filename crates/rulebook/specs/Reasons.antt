@@ -1,0 +1,271 @@
+-- "Table reasons, in order": nine rules, and the check, which gives the first reason whose rule is broken, and the place.
+-- Rules 5 to 8 are judged of every word of the table, used or not.
+use Prim.Native.Nat.{ℕ, zero, suc, _+_, max}
+use mathlib.Core.Bool.{Bool, true, false, cond, _&&_, _||_, not}
+use mathlib.Core.List.{List}
+use lib.ListN.{length}
+use lib.Dec.{leb, ltb, eqb}
+use Rattle.rulebook.specs.Words.{field, implies, between, first, all, any, sum}
+use Rattle.rulebook.specs.Table.{edition, ports, networks, sources, expressions, rules, lists, items, tableLength}
+use Rattle.rulebook.specs.Table.{Part, inHeader, atPort, atNetwork, atWaits, atSource, atExpression, atRule, atList, atItem, part}
+use Rattle.rulebook.specs.Table.{portKind, kindMode, kindEvent, kindTimer, deferred, hasInitial, portOwner, initial, reload}
+use Rattle.rulebook.specs.Table.{networkWord, networkOwner, networkPort, shortWait, longWait, eTicks}
+use Rattle.rulebook.specs.Table.{sourceWord, sourceOwner, sourcePort}
+use Rattle.rulebook.specs.Table.{expressionWord, expressionKind, conditionPort, conditionValue, left, right}
+use Rattle.rulebook.specs.Table.{ruleOwner, firstResult, ruleExpression, trueList, falseList, noList}
+use Rattle.rulebook.specs.Table.{listOwner, firstItem, itemCount, itemKind, itemA, itemB}
+use Rattle.rulebook.specs.Table.{kindCall, kindClear, kindStart, kindStop, kindAsk, kindList, kindRule, platform, stranger}
+use Rattle.rulebook.specs.Expressions.{deepest, operator, isNot, expressionWithin, mentions}
+
+-- Rule 1: there are three words at least.
+unfoldable pub hasHeader : List ℕ → Bool
+hasHeader t = leb 3 (length t)
+
+-- Rule 2: the edition is 1.
+unfoldable pub knownEdition : List ℕ → Bool
+knownEdition t = eqb (edition t) 1
+
+-- Rule 3: each count is inside its limits.
+unfoldable pub countsInside : List ℕ → Bool
+countsInside t =
+    between 1 64 (ports t)
+    && between 0 8 (networks t)
+    && between 0 32 (sources t)
+    && between 1 512 (expressions t)
+    && between 1 256 (rules t)
+    && between 0 255 (lists t)
+    && between 0 2047 (items t)
+
+-- Rule 4: the length is exactly the header's.
+unfoldable pub exactLength : List ℕ → Bool
+exactLength t = eqb (length t) (tableLength t)
+
+-- Rule 5: each word keeps its own field rules.
+
+-- "Only a mode port may have an initial value; without one that field is 0. Reload is at least 1 in a timer, else 0. A timer is
+-- deferred."
+unfoldable pub portFields : List ℕ → ℕ → Bool
+portFields t p =
+    leb (portKind t p) kindTimer
+    && implies (eqb (hasInitial t p) 1) (eqb (portKind t p) kindMode)
+    && implies (eqb (hasInitial t p) 0) (eqb (initial t p) 0)
+    && implies (eqb (portKind t p) kindTimer) (leb 1 (reload t p))
+    && implies (not (eqb (portKind t p) kindTimer)) (eqb (reload t p) 0)
+    && implies (eqb (portKind t p) kindTimer) (eqb (deferred t p) 1)
+
+unfoldable pub expressionFields : List ℕ → ℕ → Bool
+expressionFields t e =
+    leb (expressionKind t e) 8
+    && implies (not (operator t e)) (eqb (field 20 12 (expressionWord t e)) 0)
+    && implies (between 2 3 (expressionKind t e)) (eqb (conditionValue t e) 0)
+    && implies (isNot t e) (eqb (right t e) 0)
+
+unfoldable pub itemFields : List ℕ → ℕ → Bool
+itemFields t i =
+    leb (itemKind t i) kindRule
+    && implies (eqb (itemKind t i) kindCall) (eqb (itemA t i) 0)
+    && implies (between kindClear kindStop (itemKind t i)) (eqb (itemB t i) 0)
+    && implies (eqb (itemKind t i) kindAsk) (leb (itemB t i) 2)
+    && implies (between kindList kindRule (itemKind t i)) (eqb (itemB t i) 0)
+
+unfoldable pub ownFields : List ℕ → Part → Bool
+ownFields t inHeader = true
+ownFields t (atPort p) = portFields t p
+ownFields t (atNetwork n) = eqb (field 20 12 (networkWord t n)) 0
+ownFields t (atWaits n) = leb 1 (shortWait t n) && leb 1 (longWait t n) && leb 1 (eTicks t n)
+ownFields t (atSource k) = eqb (field 28 4 (sourceWord t k)) 0
+ownFields t (atExpression e) = expressionFields t e
+ownFields t (atRule r) = leb (firstResult t r) 2
+ownFields t (atList l) = leb 1 (itemCount t l)
+ownFields t (atItem i) = itemFields t i
+
+-- Rule 6: each name is of a thing that is there, and of the right kind.
+
+unfoldable pub networkHas : List ℕ → ℕ → ℕ → Bool
+networkHas t p n = eqb (networkPort t n) p
+
+unfoldable pub sourceHas : List ℕ → ℕ → ℕ → Bool
+sourceHas t p k = eqb (sourcePort t k) p
+
+-- one of the first n networks or of the first k sources has port p
+unfoldable pub held : List ℕ → ℕ → ℕ → ℕ → Bool
+held t p n k = any 0 n (networkHas t p) || any 0 k (sourceHas t p)
+
+-- what the port of a network or source is: "a deferred mode port without initial value"
+unfoldable pub mayShow : List ℕ → ℕ → Bool
+mayShow t p =
+    ltb p (ports t)
+    && eqb (portKind t p) kindMode
+    && eqb (deferred t p) 1
+    && eqb (hasInitial t p) 0
+
+unfoldable pub portOfKind : List ℕ → ℕ → ℕ → Bool
+portOfKind t kind p = ltb p (ports t) && eqb (portKind t p) kind
+
+-- "conditions 0, 1 want mode or timer ports, 2, 3 event ports"
+unfoldable pub expressionNames : List ℕ → ℕ → Bool
+expressionNames t e =
+    implies (operator t e) (ltb (left t e) (expressions t))
+    && implies (operator t e && not (isNot t e)) (ltb (right t e) (expressions t))
+    && implies (not (operator t e)) (ltb (conditionPort t e) (ports t))
+    && implies (leb (expressionKind t e) 1) (not (eqb (portKind t (conditionPort t e)) kindEvent))
+    && implies (between 2 3 (expressionKind t e)) (eqb (portKind t (conditionPort t e)) kindEvent)
+
+unfoldable pub listOrNone : List ℕ → ℕ → Bool
+listOrNone t l = eqb l noList || ltb l (lists t)
+
+-- "item 1 an event port, 2 and 3 a timer"
+unfoldable pub itemNames : List ℕ → ℕ → Bool
+itemNames t i =
+    implies (eqb (itemKind t i) kindClear) (portOfKind t kindEvent (itemA t i))
+    && implies (between kindStart kindStop (itemKind t i)) (portOfKind t kindTimer (itemA t i))
+    && implies (eqb (itemKind t i) kindAsk) (ltb (itemA t i) (networks t))
+    && implies (eqb (itemKind t i) kindList) (ltb (itemA t i) (lists t))
+    && implies (eqb (itemKind t i) kindRule) (ltb (itemA t i) (rules t))
+
+unfoldable pub names : List ℕ → Part → Bool
+names t inHeader = true
+names t (atPort p) = true
+names t (atNetwork n) = mayShow t (networkPort t n) && not (held t (networkPort t n) n 0)
+names t (atWaits n) = true
+names t (atSource k) = mayShow t (sourcePort t k) && not (held t (sourcePort t k) (networks t) k)
+names t (atExpression e) = expressionNames t e
+names t (atRule r) =
+    ltb (ruleExpression t r) (expressions t) && listOrNone t (trueList t r) && listOrNone t (falseList t r)
+names t (atList l) = leb (firstItem t l + itemCount t l) (items t)
+names t (atItem i) = itemNames t i
+
+-- Rule 7: no expression and no list nests deeper than 7, or without end. "A list's depth is 1 plus the deepest list it names,
+-- directly or by a rule item's lists." An absent list is of no depth.
+
+unfoldable pub ruleNests : List ℕ → (ℕ → Bool) → ℕ → Bool
+ruleNests t below r =
+    (eqb (trueList t r) noList || below (trueList t r)) && (eqb (falseList t r) noList || below (falseList t r))
+
+unfoldable pub itemNests : List ℕ → (ℕ → Bool) → ℕ → Bool
+itemNests t below i =
+    elim (eqb (itemKind t i) kindList) [
+      | true ↦ below (itemA t i)
+      | false ↦ elim (eqb (itemKind t i) kindRule) [ true ↦ ruleNests t below (itemA t i) | false ↦ true ]
+    ]
+
+unfoldable pub listNests : List ℕ → (ℕ → Bool) → ℕ → Bool
+listNests t below l = ltb l (lists t) && all (firstItem t l) (itemCount t l) (itemNests t below)
+
+-- list l is at most d deep
+unfoldable pub listWithin : ℕ → List ℕ → ℕ → Bool
+listWithin zero t l = false
+listWithin (suc d) t l = listNests t (listWithin d t) l
+
+unfoldable pub nesting : List ℕ → Part → Bool
+nesting t inHeader = true
+nesting t (atPort p) = true
+nesting t (atNetwork n) = true
+nesting t (atWaits n) = true
+nesting t (atSource k) = true
+nesting t (atExpression e) = expressionWithin deepest t e
+nesting t (atRule r) = true
+nesting t (atList l) = listWithin deepest t l
+nesting t (atItem i) = true
+
+-- Rule 8: owners do not clash. "A network or source has its port's owner. A rule mentions only ports of its own owner or owner 0,
+-- and its lists have its owner. A list names only lists and rules of its owner; unless its owner is 0, the ports and networks its
+-- items name have its owner too."
+
+unfoldable pub strangersPort : List ℕ → ℕ → ℕ → Bool
+strangersPort t o p = stranger o (portOwner t p)
+
+unfoldable pub ruleOwned : List ℕ → ℕ → Bool
+ruleOwned t r =
+    not (mentions deepest t (strangersPort t (ruleOwner t r)) (ruleExpression t r))
+    && (eqb (trueList t r) noList || eqb (listOwner t (trueList t r)) (ruleOwner t r))
+    && (eqb (falseList t r) noList || eqb (listOwner t (falseList t r)) (ruleOwner t r))
+
+-- item i may stand in a list of owner o
+unfoldable pub itemOwned : List ℕ → ℕ → ℕ → Bool
+itemOwned t o i =
+    implies (eqb (itemKind t i) kindList) (eqb (listOwner t (itemA t i)) o)
+    && implies (eqb (itemKind t i) kindRule) (eqb (ruleOwner t (itemA t i)) o)
+    && (eqb o platform || implies (between kindClear kindStop (itemKind t i)) (eqb (portOwner t (itemA t i)) o))
+    && (eqb o platform || implies (eqb (itemKind t i) kindAsk) (eqb (networkOwner t (itemA t i)) o))
+
+unfoldable pub owners : List ℕ → Part → Bool
+owners t inHeader = true
+owners t (atPort p) = true
+owners t (atNetwork n) = eqb (networkOwner t n) (portOwner t (networkPort t n))
+owners t (atWaits n) = true
+owners t (atSource k) = eqb (sourceOwner t k) (portOwner t (sourcePort t k))
+owners t (atExpression e) = true
+owners t (atRule r) = ruleOwned t r
+owners t (atList l) = all (firstItem t l) (itemCount t l) (itemOwned t (listOwner t l))
+owners t (atItem i) = true
+
+-- Rule 9: B, the sum over all lists of their cost, is at most 4,096. "A list costs 1 plus its items. Items 0 to 4 cost 1, item 5
+-- its list's cost, item 6 costs 1 plus the dearer of that rule's lists (none: 0)." An absent list costs 0 too.
+
+unfoldable pub ruleCost : List ℕ → (ℕ → ℕ) → ℕ → ℕ
+ruleCost t below r =
+    1 + max (cond (eqb (trueList t r) noList) 0 (below (trueList t r))) (cond (eqb (falseList t r) noList) 0 (below (falseList t r)))
+
+unfoldable pub itemCost : List ℕ → (ℕ → ℕ) → ℕ → ℕ
+itemCost t below i =
+    elim (eqb (itemKind t i) kindList) [
+      | true ↦ below (itemA t i)
+      | false ↦ elim (eqb (itemKind t i) kindRule) [ true ↦ ruleCost t below (itemA t i) | false ↦ 1 ]
+    ]
+
+unfoldable pub listCost : List ℕ → (ℕ → ℕ) → ℕ → ℕ
+listCost t below l = cond (ltb l (lists t)) (1 + sum (firstItem t l) (itemCount t l) (itemCost t below)) 0
+
+-- the cost of list l, down to d levels
+unfoldable pub costWithin : ℕ → List ℕ → ℕ → ℕ
+costWithin zero t l = 0
+costWithin (suc d) t l = listCost t (costWithin d t) l
+
+-- B
+unfoldable pub bound : List ℕ → ℕ
+bound t = sum 0 (lists t) (costWithin deepest t)
+
+unfoldable pub affordable : List ℕ → Bool
+affordable t = leb (bound t) 4096
+
+-- The check: "0, or the first reason that holds. Within a reason, the place is the lowest word that breaks the rule (0 for reasons
+-- 0 to 4 and 9)."
+
+pub record Verdict : Type 0 where
+  pub reason : ℕ
+  pub place : ℕ
+
+abbrev pub verdict : ℕ → ℕ → Verdict
+verdict k i = record { reason = k; place = i }
+
+unfoldable pub breaks : (List ℕ → Part → Bool) → List ℕ → ℕ → Bool
+breaks rule t i = not (rule t (part t i))
+
+-- the lowest word that breaks a rule; the length where none does
+unfoldable pub lowest : (List ℕ → Part → Bool) → List ℕ → ℕ
+lowest rule t = first 0 (length t) (breaks rule t)
+
+-- a rule of the whole table, and one of each word: its reason, or what comes next
+
+unfoldable pub wholly : ℕ → Bool → Verdict → Verdict
+wholly k kept next = cond kept next (verdict k 0)
+
+unfoldable pub wordwise : ℕ → (List ℕ → Part → Bool) → List ℕ → Verdict → Verdict
+wordwise k rule t next = cond (ltb (lowest rule t) (length t)) (verdict k (lowest rule t)) next
+
+unfoldable pub check : List ℕ → Verdict
+check t =
+    wholly 1 (hasHeader t)
+    (wholly 2 (knownEdition t)
+    (wholly 3 (countsInside t)
+    (wholly 4 (exactLength t)
+    (wordwise 5 ownFields t
+    (wordwise 6 names t
+    (wordwise 7 nesting t
+    (wordwise 8 owners t
+    (wholly 9 (affordable t)
+    (verdict 0 0)))))))))
+
+abbrev pub accepted : List ℕ → Bool
+accepted t = eqb (check t .reason) 0

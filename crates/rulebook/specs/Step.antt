@@ -1,0 +1,80 @@
+-- The step: table, state, trace room and event word to answer, next state and trace words; the answers in their order.
+use Prim.Native.Nat.{ℕ}
+use mathlib.Core.Bool.{Bool, cond, _&&_, _||_, not}
+use mathlib.Core.List.{List, []}
+use lib.Dec.{leb, ltb, eqb}
+use Rattle.rulebook.specs.Words.{field, implies}
+use Rattle.rulebook.specs.Table.{ports, networks, sources, rules, portKind, kindMode, kindEvent}
+use Rattle.rulebook.specs.Reasons.{accepted, bound, held}
+use Rattle.rulebook.specs.State.{Thing, aPort, aRule, aNetwork, aSource, ownerOf, fits}
+use Rattle.rulebook.specs.Lists.{Run}
+use Rattle.rulebook.specs.Events.{eventKind, eventOwner, eventIndex, eventValue, tickKind, modeKind, requestKind, busOffKind, highestKind, happen}
+
+-- Answers 1 to 3 read table, state and room: the table check gives a reason; the state doesn't fit; trace shorter than B words.
+
+unfoldable pub refusedState : List ℕ → List ℕ → ℕ
+refusedState t s = cond (not (accepted t)) 1 (cond (not (fits t s)) 2 0)
+
+unfoldable pub refusedCall : List ℕ → List ℕ → ℕ → ℕ
+refusedCall t s room = cond (eqb (refusedState t s) 0) (cond (ltb room (bound t)) 3 0) (refusedState t s)
+
+-- Answers 4 to 6 read the event and the table.
+
+-- "0 tick, all else 0"; "Value is 0 except in kind 1"
+unfoldable pub wellFormed : ℕ → Bool
+wellFormed e =
+    leb (eventKind e) highestKind
+    && eqb (field 24 8 e) 0
+    && implies (eqb (eventKind e) tickKind) (eqb (eventOwner e) 0 && eqb (eventIndex e) 0)
+    && implies (not (eqb (eventKind e) modeKind)) (eqb (eventValue e) 0)
+
+-- the thing that an event other than a tick names
+unfoldable pub named : ℕ → Thing
+named e =
+    cond (eqb (eventKind e) modeKind || eqb (eventKind e) requestKind) (aPort (eventIndex e))
+    (cond (eqb (eventKind e) busOffKind) (aNetwork (eventIndex e))
+    (aSource (eventIndex e)))
+
+unfoldable pub present : List ℕ → Thing → Bool
+present t (aPort p) = ltb p (ports t)
+present t (aRule r) = ltb r (rules t)
+present t (aNetwork n) = ltb n (networks t)
+present t (aSource k) = ltb k (sources t)
+
+-- kind 1 wants a mode port that no network or source has, kind 2 an event port
+unfoldable pub suited : List ℕ → ℕ → Bool
+suited t e =
+    implies (eqb (eventKind e) modeKind) (eqb (portKind t (eventIndex e)) kindMode)
+    && implies (eqb (eventKind e) modeKind) (not (held t (eventIndex e) (networks t) (sources t)))
+    && implies (eqb (eventKind e) requestKind) (eqb (portKind t (eventIndex e)) kindEvent)
+
+unfoldable pub known : List ℕ → ℕ → Bool
+known t e = eqb (eventKind e) tickKind || present t (named e) && suited t e
+
+unfoldable pub sentByOwner : List ℕ → ℕ → Bool
+sentByOwner t e = eqb (eventKind e) tickKind || eqb (eventOwner e) (ownerOf t (named e))
+
+unfoldable pub refusedEvent : List ℕ → ℕ → ℕ
+refusedEvent t e = cond (not (wellFormed e)) 4 (cond (not (known t e)) 5 (cond (not (sentByOwner t e)) 6 0))
+
+-- The count that is reported is the number of words. "A refused check ends the call at that point, count 0, state and trace
+-- unchanged."
+
+pub record Result : Type 0 where
+  pub answer : ℕ
+  pub state : List ℕ
+  pub words : List ℕ
+
+abbrev pub refusal : ℕ → List ℕ → Result
+refusal k s = record { answer = k; state = s; words = [] }
+
+-- done, unless the run would have started a list at an eighth level, answer 7
+unfoldable pub finish : List ℕ → Run → Result
+finish s r = cond (r .deep) (refusal 7 s) (record { answer = 0; state = r .state; words = r .words })
+
+-- what comes after the checks of table, state and room
+unfoldable pub handle : List ℕ → List ℕ → ℕ → Result
+handle t s e = cond (eqb (refusedEvent t e) 0) (finish s (happen t e s)) (refusal (refusedEvent t e) s)
+
+unfoldable pub step : List ℕ → List ℕ → ℕ → ℕ → Result
+step t s room e = cond (eqb (refusedCall t s room) 0) (handle t s e) (refusal (refusedCall t s room) s)
