@@ -1,0 +1,4 @@
+-- Laws of the rulebook's definitions.
+pub mod Tests
+pub mod Walks
+pub mod Acceptance

@@ -1,0 +1,2 @@
+-- What the laws say, where a statement needs words of its own.
+pub mod Acceptance
