@@ -2,3 +2,5 @@
 pub mod Tests
 pub mod Walks
 pub mod Acceptance
+pub mod Parts
+pub mod Facts

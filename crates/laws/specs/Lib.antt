@@ -1,2 +1,3 @@
 -- What the laws say, where a statement needs words of its own.
 pub mod Acceptance
+pub mod Facts
