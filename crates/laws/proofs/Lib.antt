@@ -4,3 +4,8 @@ pub mod Walks
 pub mod Acceptance
 pub mod Parts
 pub mod Facts
+pub mod Fields
+pub mod Items
+pub mod Cases
+pub mod Order
+pub mod Runs

@@ -1,0 +1,58 @@
+-- The cycle of lists, case by case: one law for each way an item, a rule item, a choice and a chosen list can go. Assumes nothing.
+use mathlib.Core.Path.{_≡_, refl}
+use mathlib.Core.Bool.{Bool, true, false}
+use mathlib.Core.List.{List}
+use Prim.Native.Nat.{ℕ}
+use lib.Dec.{eqb}
+use borrow.Author.Tests.{eqb-true}
+use Rattle.rulebook.specs.Table.{noList, itemKind, itemA, kindList, kindRule}
+use Rattle.rulebook.specs.Expressions.{deepest}
+use Rattle.rulebook.specs.State.{undefinedResult}
+use Rattle.rulebook.specs.Lists.{Run, emit, traceWord, act, unready, choiceIn, judge, runChoice, runRule, runItem, runList}
+use Rattle.rulebook.specs.Arbitration.{runIf}
+use Rattle.laws.proofs.Tests.{split}
+
+module _ (below : ℕ → Run → Run) (t : List ℕ) (o : ℕ) where
+  pub item-list : (i : ℕ) (x : Run) → eqb (itemKind t i) kindList ≡ true → runItem below t o i x ≡ below (itemA t i) x
+  unfolding runItem
+  item-list i x h = rw (h, runItem)
+
+  pub item-rule : (i : ℕ) (x : Run) → eqb (itemKind t i) kindList ≡ false → eqb (itemKind t i) kindRule ≡ true → runItem below t o i x ≡ runRule below t o (itemA t i) x
+  unfolding runItem
+  item-rule i x h k = rw (h, k, runItem)
+
+  pub item-act : (i : ℕ) (x : Run) → eqb (itemKind t i) kindList ≡ false → eqb (itemKind t i) kindRule ≡ false → runItem below t o i x ≡ act t o i x
+  unfolding runItem
+  item-act i x h k = rw (h, k, runItem)
+
+  pub rule-unready : (r : ℕ) (x : Run) → unready t (x .state) r ≡ true → runRule below t o r x ≡ emit (traceWord kindRule o r undefinedResult) x
+  unfolding runRule
+  rule-unready r x h = rw (h, runRule)
+
+  pub rule-ready : (r : ℕ) (x : Run) → unready t (x .state) r ≡ false → runRule below t o r x ≡ runChoice below (choiceIn t (x .state) r) (judge t o r x)
+  unfolding runRule
+  rule-ready r x h = rw (h, runRule)
+
+  -- every way an item can go
+  pub item-cases {ℓ} : {A : Type ℓ} (i : ℕ) → (itemKind t i ≡ kindList → eqb (itemKind t i) kindList ≡ true → A)
+    → (itemKind t i ≡ kindRule → eqb (itemKind t i) kindList ≡ false → eqb (itemKind t i) kindRule ≡ true → A)
+    → (eqb (itemKind t i) kindList ≡ false → eqb (itemKind t i) kindRule ≡ false → A) → A
+  item-cases i f g h =
+      split (eqb (itemKind t i) kindList) (λ e. f (eqb-true _ _ e) e)
+      (λ e. split (eqb (itemKind t i) kindRule) (λ d. g (eqb-true _ _ d) e d) (λ d. h e d))
+
+pub choice-none : (below : ℕ → Run → Run) (l : ℕ) (x : Run) → eqb l noList ≡ true → runChoice below l x ≡ x
+unfolding runChoice
+choice-none below l x h = rw (h, runChoice)
+
+pub choice-some : (below : ℕ → Run → Run) (l : ℕ) (x : Run) → eqb l noList ≡ false → runChoice below l x ≡ below l x
+unfolding runChoice
+choice-some below l x h = rw (h, runChoice)
+
+pub if-chosen : (t : List ℕ) (c : ℕ → Bool) (l : ℕ) (x : Run) → c l ≡ true → runIf t c l x ≡ runList deepest t l x
+unfolding runIf
+if-chosen t c l x h = rw (h, runIf)
+
+pub if-not : (t : List ℕ) (c : ℕ → Bool) (l : ℕ) (x : Run) → c l ≡ false → runIf t c l x ≡ x
+unfolding runIf
+if-not t c l x h = rw (h, runIf)

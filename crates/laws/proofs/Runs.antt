@@ -1,0 +1,80 @@
+-- What every single act of a run keeps, a whole run keeps: once for statements of runs, and once for statements of states, kind of
+-- write by kind of write. Assumes nothing.
+use mathlib.Core.Path.{_≡_, refl, sym, _∙_, ap}
+use mathlib.Core.Bool.{Bool, true, false, cond}
+use mathlib.Core.List.{List, [], _∷_}
+use Prim.Native.Nat.{ℕ, zero, suc, _+_, _≤_, _<_}
+use native.Mathlib.Omega.{arith}
+use lib.ListN.{set}
+use lib.Dec.{eqb}
+use borrow.Author.Tests.{eqb-true}
+use Rattle.rulebook.specs.Words.{word, each}
+use Rattle.rulebook.specs.Table.{ports, networks, rules, lists, items, portKind, kindEvent, kindTimer, reload, noList, listOwner, firstItem, itemCount, itemKind, itemA, itemB, kindClear, kindStart, kindStop, kindAsk, kindList, kindRule}
+use Rattle.rulebook.specs.State.{markedOf, timerStopped, timerStarted, undefinedResult}
+use Rattle.rulebook.specs.Lists.{Run, start, become, emit, tooDeep, traceWord, kindListStart, setPort, networkIn, asking, setNetwork, effect, act, unready, resultIn, choiceIn, choice, setResult, judge, runChoice, runRule, runItem, runItems, runList}
+use Rattle.rulebook.specs.Arbitration.{unmarked, unmarkPort, unmarkPorts, evaluated, storeResult, storeResults, chosen, order, runIf, runChosen, decide, arbitrate}
+use Rattle.laws.specs.Facts.{RuleFacts, ListFacts, Facts}
+use Rattle.laws.proofs.Tests.{split}
+use Rattle.laws.proofs.Walks.{each-keeps}
+use Rattle.laws.proofs.Items.{clear-there, start-there, stop-there, ask-there, list-there, rule-there, mode-small, port-there, kind-is, result-small, choice-there}
+use Rattle.laws.proofs.Cases.{item-list, item-rule, item-act, item-cases, rule-unready, rule-ready, choice-none, choice-some, if-chosen, if-not}
+use Rattle.laws.proofs.Order.{Each, order-there}
+
+-- item i stands in list l
+pub record Within (t : List ℕ) (l i : ℕ) : Type 0 where
+  pub list : l < lists t
+  pub from : firstItem t l ≤ i
+  pub below : i < firstItem t l + itemCount t l
+
+pub record KeptByActs (t : List ℕ) (Q : Run → Type 0) : Type 0 where
+  pub begin : (l : ℕ) (x : Run) → l < lists t → Q x → Q (emit (traceWord kindListStart (listOwner t l) l 0) x)
+  pub act : (l i : ℕ) (x : Run) → Within t l i → eqb (itemKind t i) kindList ≡ false → eqb (itemKind t i) kindRule ≡ false → Q x → Q (act t (listOwner t l) i x)
+  pub undefined : (l i : ℕ) (x : Run) → Within t l i → itemKind t i ≡ kindRule → Q x → Q (emit (traceWord kindRule (listOwner t l) (itemA t i) undefinedResult) x)
+  pub judge : (l i : ℕ) (x : Run) → Within t l i → itemKind t i ≡ kindRule → unready t (x .state) (itemA t i) ≡ false → Q x → Q (judge t (listOwner t l) (itemA t i) x)
+  pub deep : (x : Run) → Q x → Q (tooDeep x)
+
+module _ (t : List ℕ) (f : Facts t) (Q : Run → Type 0) (k : KeptByActs t Q) where
+  -- what a list that is named keeps
+  abbrev Keeps : (ℕ → Run → Run) → Type 0
+  Keeps below = (l : ℕ) (x : Run) → l < lists t → Q x → Q (below l x)
+
+  item-there : (l i : ℕ) → Within t l i → i < items t
+  item-there l i w = let r : firstItem t l + itemCount t l ≤ items t = f .list l (w .list) .range in let b : i < firstItem t l + itemCount t l = w .below in omega arith
+
+  choice-keeps : (below : ℕ → Run → Run) → Keeps below → (r previous result : ℕ) (x : Run) → r < rules t → Q x → Q (runChoice below (choice t r previous result) x)
+  choice-keeps below b r previous result x h q =
+      split (eqb (choice t r previous result) noList) (λ e. rw (choice-none below _ x e) q)
+      (λ e. rw (choice-some below _ x e) (b _ x (choice-there t r previous result (f .rule r h) e) q))
+
+  rule-keeps : (below : ℕ → Run → Run) → Keeps below → (l i : ℕ) (x : Run) → Within t l i → itemKind t i ≡ kindRule → Q x → Q (runRule below t (listOwner t l) (itemA t i) x)
+  unfolding choiceIn
+  rule-keeps below b l i x w e q =
+      split (unready t (x .state) (itemA t i))
+      (λ u. rw (rule-unready below t (listOwner t l) (itemA t i) x u) (k .undefined l i x w e q))
+      (λ u. rw (rule-ready below t (listOwner t l) (itemA t i) x u)
+        (choice-keeps below b (itemA t i) _ _ _ (rule-there t i (f .item i (item-there l i w) .1) e) (k .judge l i x w e u q)))
+
+  item-keeps : (below : ℕ → Run → Run) → Keeps below → (l i : ℕ) (x : Run) → Within t l i → Q x → Q (runItem below t (listOwner t l) i x)
+  item-keeps below b l i x w q =
+      item-cases below t (listOwner t l) i
+      (λ e g. rw (item-list below t (listOwner t l) i x g) (b (itemA t i) x (list-there t i (f .item i (item-there l i w) .1) e) q))
+      (λ e g h. rw (item-rule below t (listOwner t l) i x g h) (rule-keeps below b l i x w e q))
+      (λ g h. rw (item-act below t (listOwner t l) i x g h) (k .act l i x w g h q))
+
+  pub list-keeps : (d : ℕ) → Keeps (runList d t)
+  unfolding runList runItems
+  list-keeps zero l x h q = k .deep x q
+  list-keeps (suc d) l x h q =
+      each-keeps Q (runItem (runList d t) t (listOwner t l)) (firstItem t l) (itemCount t l) _
+      (λ i y a b c. item-keeps (runList d t) (list-keeps d) l i y (record { list = h; from = a; below = b }) c) (k .begin l x h q)
+
+  chosen-keep : (c : ℕ → Bool) (ls : List ℕ) (x : Run) → Each (λ l. l < lists t) ls → Q x → Q (runChosen t c ls x)
+  unfolding runChosen
+  chosen-keep c [] x e q = q
+  chosen-keep c (l ∷ ls) x e q =
+      chosen-keep c ls (runIf t c l x) (e .1)
+      (split (c l) (λ h. rw (if-chosen t c l x h) (list-keeps _ l x (e .0) q)) (λ h. rw (if-not t c l x h) q))
+
+  pub decide-keeps : (q : ℕ → Bool) (s : List ℕ) → Q (start (storeResults t q s)) → Q (decide t q s)
+  unfolding decide
+  decide-keeps q s h = chosen-keep (chosen t q s) (order t) _ (order-there t) h
