@@ -9,3 +9,5 @@ pub mod Items
 pub mod Cases
 pub mod Order
 pub mod Runs
+pub mod Nesting
+pub mod Deep

@@ -26,6 +26,12 @@ pub record Within (t : List ℕ) (l i : ℕ) : Type 0 where
   pub from : firstItem t l ≤ i
   pub below : i < firstItem t l + itemCount t l
 
+pub item-there : (t : List ℕ) → Facts t → (l i : ℕ) → Within t l i → i < items t
+item-there t f l i w =
+    let r : firstItem t l + itemCount t l ≤ items t = f .list l (w .list) .range in
+    let b : i < firstItem t l + itemCount t l = w .below in
+    omega arith
+
 pub record KeptByActs (t : List ℕ) (Q : Run → Type 0) : Type 0 where
   pub begin : (l : ℕ) (x : Run) → l < lists t → Q x → Q (emit (traceWord kindListStart (listOwner t l) l 0) x)
   pub act : (l i : ℕ) (x : Run) → Within t l i → eqb (itemKind t i) kindList ≡ false → eqb (itemKind t i) kindRule ≡ false → Q x → Q (act t (listOwner t l) i x)
@@ -38,9 +44,6 @@ module _ (t : List ℕ) (f : Facts t) (Q : Run → Type 0) (k : KeptByActs t Q) 
   abbrev Keeps : (ℕ → Run → Run) → Type 0
   Keeps below = (l : ℕ) (x : Run) → l < lists t → Q x → Q (below l x)
 
-  item-there : (l i : ℕ) → Within t l i → i < items t
-  item-there l i w = let r : firstItem t l + itemCount t l ≤ items t = f .list l (w .list) .range in let b : i < firstItem t l + itemCount t l = w .below in omega arith
-
   choice-keeps : (below : ℕ → Run → Run) → Keeps below → (r previous result : ℕ) (x : Run) → r < rules t → Q x → Q (runChoice below (choice t r previous result) x)
   choice-keeps below b r previous result x h q =
       split (eqb (choice t r previous result) noList) (λ e. rw (choice-none below _ x e) q)
@@ -52,12 +55,12 @@ module _ (t : List ℕ) (f : Facts t) (Q : Run → Type 0) (k : KeptByActs t Q) 
       split (unready t (x .state) (itemA t i))
       (λ u. rw (rule-unready below t (listOwner t l) (itemA t i) x u) (k .undefined l i x w e q))
       (λ u. rw (rule-ready below t (listOwner t l) (itemA t i) x u)
-        (choice-keeps below b (itemA t i) _ _ _ (rule-there t i (f .item i (item-there l i w) .1) e) (k .judge l i x w e u q)))
+        (choice-keeps below b (itemA t i) _ _ _ (rule-there t i (f .item i (item-there t f l i w) .1) e) (k .judge l i x w e u q)))
 
   item-keeps : (below : ℕ → Run → Run) → Keeps below → (l i : ℕ) (x : Run) → Within t l i → Q x → Q (runItem below t (listOwner t l) i x)
   item-keeps below b l i x w q =
       item-cases below t (listOwner t l) i
-      (λ e g. rw (item-list below t (listOwner t l) i x g) (b (itemA t i) x (list-there t i (f .item i (item-there l i w) .1) e) q))
+      (λ e g. rw (item-list below t (listOwner t l) i x g) (b (itemA t i) x (list-there t i (f .item i (item-there t f l i w) .1) e) q))
       (λ e g h. rw (item-rule below t (listOwner t l) i x g h) (rule-keeps below b l i x w e q))
       (λ g h. rw (item-act below t (listOwner t l) i x g h) (k .act l i x w g h q))
 
@@ -78,3 +81,56 @@ module _ (t : List ℕ) (f : Facts t) (Q : Run → Type 0) (k : KeptByActs t Q) 
   pub decide-keeps : (q : ℕ → Bool) (s : List ℕ) → Q (start (storeResults t q s)) → Q (decide t q s)
   unfolding decide
   decide-keeps q s h = chosen-keep (chosen t q s) (order t) _ (order-there t) h
+
+-- Statements of the state: what each kind of write keeps, an arbitration keeps.
+
+pub record KeptByWrites (t : List ℕ) (P : List ℕ → Type 0) : Type 0 where
+  pub clear : (p : ℕ) (s : List ℕ) → p < ports t → portKind t p ≡ kindEvent → P s → P (setPort p (markedOf (word s p)) 0 0 s)
+  pub begin : (p : ℕ) (s : List ℕ) → p < ports t → portKind t p ≡ kindTimer → P s → P (setPort p 1 timerStarted (reload t p) s)
+  pub stop : (p : ℕ) (s : List ℕ) → p < ports t → portKind t p ≡ kindTimer → P s → P (setPort p 1 timerStopped 0 s)
+  pub ask : (n mode : ℕ) (s : List ℕ) → n < networks t → mode ≤ 2 → P s → P (setNetwork t n (asking mode (networkIn t n s)) s)
+  pub store : (r result : ℕ) (s : List ℕ) → r < rules t → result ≤ 1 → P s → P (setResult t r result s)
+  pub unmark : (p : ℕ) (s : List ℕ) → p < ports t → P s → P (set s p (unmarked (word s p)))
+
+module _ (t : List ℕ) (f : Facts t) (P : List ℕ → Type 0) (k : KeptByWrites t P) where
+  effect-keeps : (i : ℕ) (s : List ℕ) → i < items t → P s → P (effect t i s)
+  unfolding effect
+  effect-keeps i s h q =
+      split (eqb (itemKind t i) kindClear)
+      (λ e. let there = clear-there t i (f .item i h .1) (eqb-true _ _ e) in
+        rw e (k .clear (itemA t i) s (port-there t kindEvent (itemA t i) there) (kind-is t kindEvent (itemA t i) there) q))
+      (λ e. split (eqb (itemKind t i) kindStart)
+      (λ e₁. let there = start-there t i (f .item i h .1) (eqb-true _ _ e₁) in
+        rw (e, e₁) (k .begin (itemA t i) s (port-there t kindTimer (itemA t i) there) (kind-is t kindTimer (itemA t i) there) q))
+      (λ e₁. split (eqb (itemKind t i) kindStop)
+      (λ e₂. let there = stop-there t i (f .item i h .1) (eqb-true _ _ e₂) in
+        rw (e, e₁, e₂) (k .stop (itemA t i) s (port-there t kindTimer (itemA t i) there) (kind-is t kindTimer (itemA t i) there) q))
+      (λ e₂. split (eqb (itemKind t i) kindAsk)
+      (λ e₃. rw (e, e₁, e₂, e₃) (k .ask (itemA t i) (itemB t i) s (ask-there t i (f .item i h .1) (eqb-true _ _ e₃)) (mode-small t i (f .item i h .0) (eqb-true _ _ e₃)) q))
+      (λ e₃. rw (e, e₁, e₂, e₃) q))))
+
+  acts-keep : KeptByActs t (λ x. P (x .state))
+  unfolding act judge
+  acts-keep =
+      record {
+        begin = λ l x h q. q;
+        act = λ l i x w g h q. effect-keeps i (x .state) (item-there t f l i w) q;
+        undefined = λ l i x w e q. q;
+        judge = λ l i x w e u q. k .store (itemA t i) _ (x .state) (rule-there t i (f .item i (item-there t f l i w) .1) e) (result-small t (x .state) (itemA t i)) q;
+        deep = λ x q. q }
+
+  unmark-keeps : (q : ℕ → Bool) (s : List ℕ) → P s → P (unmarkPorts t q s)
+  unfolding unmarkPorts unmarkPort
+  unmark-keeps q s h =
+      each-keeps P (unmarkPort q) 0 (ports t) s
+      (λ p x a b c. split (q p) (λ e. rw e (k .unmark p x (omega arith) c)) (λ e. rw e c)) h
+
+  store-keeps : (q : ℕ → Bool) (s : List ℕ) → P s → P (storeResults t q s)
+  unfolding storeResults storeResult
+  store-keeps q s h =
+      each-keeps P (storeResult t q s) 0 (rules t) s
+      (λ r x a b c. split (evaluated t q s r) (λ e. rw e (k .store r _ x (omega arith) (result-small t s r) c)) (λ e. rw e c)) h
+
+  pub arbitrate-keeps : (q : ℕ → Bool) (s : List ℕ) → P s → P (arbitrate t q s .state)
+  unfolding arbitrate
+  arbitrate-keeps q s h = decide-keeps t f (λ x. P (x .state)) acts-keep q (unmarkPorts t q s) (store-keeps q (unmarkPorts t q s) (unmark-keeps q s h))
