@@ -11,3 +11,4 @@ pub mod Order
 pub mod Runs
 pub mod Nesting
 pub mod Deep
+pub mod Cost

@@ -1,16 +1,19 @@
 -- The order in which chosen lists run: each list number once, larger priority first, then lower number. Assumes nothing.
-use mathlib.Core.Path.{_≡_, refl, sym, _∙_, ap}
+use mathlib.Core.Path.{_≡_, refl, sym, _∙_, ap, ap₂}
 use mathlib.Core.Bool.{Bool, true, false, cond}
 use mathlib.Core.Logic.{_⊎_, inl, inr}
 use mathlib.Core.List.{List, [], _∷_, _++_}
 use Prim.Native.Nat.{ℕ, zero, suc, _+_, _≤_, _<_}
 use native.Mathlib.Omega.{arith}
+use native.Mathlib.Nat.{zero-add, add-zero}
 use lib.Dec.{eqb, ltb}
 use borrow.Author.Tests.{eqb-true, eqb-false, eq-eqb, ne-eqb, lt-ltb, le-ltb, ltb-true, ltb-false}
 use Rattle.rulebook.specs.Words.{digit, sum}
 use Rattle.rulebook.specs.Table.{lists, priority}
 use Rattle.rulebook.specs.Arbitration.{ofPriority, orderBelow, order}
 use Rattle.laws.proofs.Tests.{split, clash}
+use Rattle.laws.proofs.Walks.{sum-same}
+use Rattle.laws.proofs.Fields.{digit-small}
 
 -- P holds of each member
 abbrev pub Each : (ℕ → Type 0) → List ℕ → Type 0
@@ -59,3 +62,67 @@ order-below t (suc k) =
 pub order-there : (t : List ℕ) → Each (λ l. l < lists t) (order t)
 unfolding order
 order-there t = each-weaker _ _ (orderBelow 256 t) (λ x o. o .there) (order-below t 256)
+
+-- a sum over the order is the sum over all lists: each is there once
+
+unfoldable pub sumOver : (ℕ → ℕ) → List ℕ → ℕ
+sumOver f [] = 0
+sumOver f (x ∷ xs) = f x + sumOver f xs
+
+sum-both : (f : ℕ → ℕ) (xs ys : List ℕ) → sumOver f (xs ++ ys) ≡ sumOver f xs + sumOver f ys
+unfolding sumOver
+sum-both f [] ys = omega arith
+sum-both f (x ∷ xs) ys = let e : sumOver f (xs ++ ys) ≡ sumOver f xs + sumOver f ys = sum-both f xs ys in omega arith
+
+-- f of a list of priority k, or below k, and 0 of the others
+onlyAt : List ℕ → (ℕ → ℕ) → ℕ → ℕ → ℕ
+onlyAt t f k l = cond (eqb (priority t l) k) (f l) 0
+
+onlyBelow : List ℕ → (ℕ → ℕ) → ℕ → ℕ → ℕ
+onlyBelow t f k l = cond (ltb (priority t l) k) (f l) 0
+
+priority-sum : (t : List ℕ) (f : ℕ → ℕ) (k l n : ℕ) → sumOver f (ofPriority t k l n) ≡ sum l n (onlyAt t f k)
+unfolding sumOver ofPriority sum onlyAt
+priority-sum t f k l zero = refl
+priority-sum t f k l (suc n) =
+    split (eqb (priority t l) k) (λ e. rw (e, ofPriority) (ap (λ (m : ℕ). f l + m) (priority-sum t f k (suc l) n)))
+    (λ e. rw (e, ofPriority) (priority-sum t f k (suc l) n ∙ sym (zero-add _)))
+
+one-priority-more : (t : List ℕ) (f : ℕ → ℕ) (k l : ℕ) → onlyAt t f k l + onlyBelow t f k l ≡ onlyBelow t f (suc k) l
+unfolding onlyAt onlyBelow
+one-priority-more t f k l =
+    split (ltb (priority t l) k)
+    (λ e. let a : priority t l < k = ltb-true _ _ e in rw (e, lt-ltb (priority t l) (suc k) (omega arith), ne-eqb (priority t l) k (λ z. omega arith)) (zero-add (f l)))
+    (λ e. let a : k ≤ priority t l = ltb-false _ _ e in
+      split (eqb (priority t l) k)
+      (λ d. let b : priority t l ≡ k = eqb-true _ _ d in rw (e, d, lt-ltb (priority t l) (suc k) (omega arith)) (add-zero (f l)))
+      (λ d. let b : (priority t l ≡ k → ⊥) = eqb-false _ _ d in rw (e, d, le-ltb (priority t l) (suc k) (omega arith))))
+
+sum-two : (f g : ℕ → ℕ) (i n : ℕ) → sum i n f + sum i n g ≡ sum i n (λ j. f j + g j)
+unfolding sum
+sum-two f g i zero = refl
+sum-two f g i (suc n) = let e : sum (suc i) n f + sum (suc i) n g ≡ sum (suc i) n (λ j. f j + g j) = sum-two f g (suc i) n in omega arith
+
+sum-none : (f : ℕ → ℕ) (i n : ℕ) → ((j : ℕ) → f j ≡ 0) → sum i n f ≡ 0
+unfolding sum
+sum-none f i zero h = refl
+sum-none f i (suc n) h = let a : f i ≡ 0 = h i in let b : sum (suc i) n f ≡ 0 = sum-none f (suc i) n h in omega arith
+
+none-below : (t : List ℕ) (f : ℕ → ℕ) (l : ℕ) → onlyBelow t f 0 l ≡ 0
+unfolding onlyBelow
+none-below t f l = rw (le-ltb (priority t l) 0 (omega arith))
+
+below-sum : (t : List ℕ) (f : ℕ → ℕ) (k : ℕ) → sumOver f (orderBelow k t) ≡ sum 0 (lists t) (onlyBelow t f k)
+unfolding sumOver orderBelow
+below-sum t f zero = sym (sum-none (onlyBelow t f 0) 0 (lists t) (λ j. none-below t f j))
+below-sum t f (suc k) =
+    sum-both f (ofPriority t k 0 (lists t)) (orderBelow k t)
+    ∙ ap₂ _+_ (priority-sum t f k 0 (lists t)) (below-sum t f k)
+    ∙ sum-two (onlyAt t f k) (onlyBelow t f k) 0 (lists t)
+    ∙ sum-same (λ j. onlyAt t f k j + onlyBelow t f k j) (onlyBelow t f (suc k)) 0 (lists t) (λ j a b. one-priority-more t f k j)
+
+pub order-sum : (t : List ℕ) (f : ℕ → ℕ) → sumOver f (order t) ≡ sum 0 (lists t) f
+unfolding order onlyBelow
+order-sum t f =
+    below-sum t f 256
+    ∙ sum-same (onlyBelow t f 256) f 0 (lists t) (λ j a b. rw (lt-ltb (priority t j) 256 (digit-small _ 256 _ (omega arith))))
