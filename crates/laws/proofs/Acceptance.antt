@@ -29,7 +29,7 @@ kept-one-more t k b h m i lt =
 
 -- a rule of the whole table
 whole-link : (t : List ℕ) (k : ℕ) (kept : Bool) (next : Verdict) → 1 ≤ k → k ≤ 9 → ((i : ℕ) → broken k t i ≡ brokenWhole kept i)
-  → KeptBefore k t → (KeptBefore (suc k) t → Exact t next) → Exact t (wholly k kept next)
+    → KeptBefore k t → (KeptBefore (suc k) t → Exact t next) → Exact t (wholly k kept next)
 unfolding wholly
 whole-link t k true next a b is before go = go (kept-one-more t k before is)
 whole-link t k false next a b is before go =
@@ -40,23 +40,24 @@ word-kept : (rule : List ℕ → Part → Bool) (t : List ℕ) (i : ℕ) → (lt
 word-kept rule t i h = split (ltb i (length t)) (λ e. rw (e, h e)) (λ e. rw e)
 
 word-link : (t : List ℕ) (k : ℕ) (rule : List ℕ → Part → Bool) (next : Verdict) → 1 ≤ k → k ≤ 9 → ((i : ℕ) → broken k t i ≡ brokenAt rule t i)
-  → KeptBefore k t → (KeptBefore (suc k) t → Exact t next) → Exact t (wordwise k rule t next)
+    → KeptBefore k t → (KeptBefore (suc k) t → Exact t next) → Exact t (wordwise k rule t next)
 unfolding wordwise lowest
 word-link t k rule next a b is before go =
     split (ltb (first 0 (length t) (breaks rule t)) (length t))
     (λ e. let lt : first 0 (length t) (breaks rule t) < length t = ltb-true _ _ e in
-      rw e
-      (given (record {
-        atLeast = a;
-        atMost = b;
-        earlier = before;
-        here = is (first 0 (length t) (breaks rule t)) ∙ and-both _ _ e (first-holds (breaks rule t) 0 (length t) (omega arith));
-        lowest = λ j c. is j ∙ word-kept rule t j (λ d. first-before (breaks rule t) 0 (length t) j (omega arith) c) }) refl))
+    rw e
+    (given (record {
+      atLeast = a;
+      atMost = b;
+      earlier = before;
+      here = is (first 0 (length t) (breaks rule t)) ∙ and-both _ _ e (first-holds (breaks rule t) 0 (length t) (omega arith));
+      lowest = λ j c. is j ∙ word-kept rule t j (λ d. first-before (breaks rule t) 0 (length t) j (omega arith) c);
+    }) refl))
     (λ e. let ge : length t ≤ first 0 (length t) (breaks rule t) = ltb-false _ _ e in
-      rw e
-      (go (kept-one-more t k before (λ i. is i ∙ word-kept rule t i (λ d.
-        let lt : i < length t = ltb-true i (length t) d in
-        first-before (breaks rule t) 0 (length t) i (omega arith) (omega arith))))))
+    rw e
+    (go (kept-one-more t k before (λ i. is i ∙ word-kept rule t i (λ d.
+    let lt : i < length t = ltb-true i (length t) d in
+    first-before (breaks rule t) 0 (length t) i (omega arith) (omega arith))))))
 
 none-before-one : (t : List ℕ) → KeptBefore 1 t
 unfolding broken
@@ -140,7 +141,8 @@ rules-of t b =
       named = everywhere-kept names t (λ i. b 6 i (omega arith));
       nested = everywhere-kept nesting t (λ i. b 7 i (omega arith));
       owned = everywhere-kept owners t (λ i. b 8 i (omega arith));
-      cost = whole-kept (affordable t) (b 9 0 (omega arith)) }
+      cost = whole-kept (affordable t) (b 9 0 (omega arith));
+    }
 
 -- under the rules no verdict but 0 is given: each rule's link passes on
 
@@ -153,7 +155,7 @@ unfolding wordwise lowest breaks
 word-passes k rule t next h =
     split (ltb (first 0 (length t) (breaks rule t)) (length t))
     (λ e. let lt : first 0 (length t) (breaks rule t) < length t = ltb-true _ _ e in
-      clash (first-holds (breaks rule t) 0 (length t) (omega arith)) (rw (h (first 0 (length t) (breaks rule t)) lt)))
+    clash (first-holds (breaks rule t) 0 (length t) (omega arith)) (rw (h (first 0 (length t) (breaks rule t)) lt)))
     (λ e. rw e)
 
 rules-check : (t : List ℕ) → Rules t → check t ≡ verdict 0 0

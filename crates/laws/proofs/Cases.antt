@@ -35,8 +35,8 @@ module _ (below : ℕ → Run → Run) (t : List ℕ) (o : ℕ) where
 
   -- every way an item can go
   pub item-cases {ℓ} : {A : Type ℓ} (i : ℕ) → (itemKind t i ≡ kindList → eqb (itemKind t i) kindList ≡ true → A)
-    → (itemKind t i ≡ kindRule → eqb (itemKind t i) kindList ≡ false → eqb (itemKind t i) kindRule ≡ true → A)
-    → (eqb (itemKind t i) kindList ≡ false → eqb (itemKind t i) kindRule ≡ false → A) → A
+      → (itemKind t i ≡ kindRule → eqb (itemKind t i) kindList ≡ false → eqb (itemKind t i) kindRule ≡ true → A)
+      → (eqb (itemKind t i) kindList ≡ false → eqb (itemKind t i) kindRule ≡ false → A) → A
   item-cases i f g h =
       split (eqb (itemKind t i) kindList) (λ e. f (eqb-true _ _ e) e)
       (λ e. split (eqb (itemKind t i) kindRule) (λ d. g (eqb-true _ _ d) e d) (λ d. h e d))

@@ -31,13 +31,13 @@ module _ (t : List ℕ) (fits : ℕ → Bool) (cost : ℕ → ℕ) (below : ℕ 
       let one : 1 ≤ ruleCost t cost r = rule-costs t cost r in
       split (unready t (x .state) r) (λ u. rw (rule-unready below t o r x u, one-more) (omega arith))
       (λ u. rw (rule-ready below t o r x u)
-        (let more : written (judge t o r x) ≡ written x + 1 = one-more _ x in
-        split (eqb (choiceIn t (x .state) r) noList)
-        (λ e. rw (choice-none below (choiceIn t (x .state) r) (judge t o r x) e) (omega arith))
-        (λ e. rw (choice-some below (choiceIn t (x .state) r) (judge t o r x) e)
-          (let p : written (below (choiceIn t (x .state) r) (judge t o r x)) ≤ written (judge t o r x) + cost (choiceIn t (x .state) r) = paid _ (judge t o r x) (nests-choice t fits r _ _ n e) in
-          let c : 1 + cost (choiceIn t (x .state) r) ≤ ruleCost t cost r = cost-choice t cost r _ _ e in
-          omega arith))))
+      (let more : written (judge t o r x) ≡ written x + 1 = one-more _ x in
+      split (eqb (choiceIn t (x .state) r) noList)
+      (λ e. rw (choice-none below (choiceIn t (x .state) r) (judge t o r x) e) (omega arith))
+      (λ e. rw (choice-some below (choiceIn t (x .state) r) (judge t o r x) e)
+      (let p : written (below (choiceIn t (x .state) r) (judge t o r x)) ≤ written (judge t o r x) + cost (choiceIn t (x .state) r) = paid _ (judge t o r x) (nests-choice t fits r _ _ n e) in
+      let c : 1 + cost (choiceIn t (x .state) r) ≤ ruleCost t cost r = cost-choice t cost r _ _ e in
+      omega arith))))
 
   item-paid : (i : ℕ) (x : Run) → itemNests t fits i ≡ true → written (runItem below t o i x) ≤ written x + itemCost t cost i
   unfolding act
@@ -62,7 +62,7 @@ list-paid t (suc d) l x h =
     let begun : written (emit (traceWord kindListStart (listOwner t l) l 0) x) ≡ written x + 1 = one-more _ x in
     let c : costWithin (suc d) t l ≡ 1 + sum (firstItem t l) (itemCount t l) (itemCost t (costWithin d t)) = cost-there t d l (within-there t d l h) in
     let p : written (runList (suc d) t l x) ≤ written (emit (traceWord kindListStart (listOwner t l) l 0) x) + sum (firstItem t l) (itemCount t l) (itemCost t (costWithin d t)) =
-      items-paid t (listWithin d t) (costWithin d t) (runList d t) (list-paid t d) (listOwner t l) (firstItem t l) (itemCount t l) _ (λ i a b. within-item t d l i h a b) in
+    items-paid t (listWithin d t) (costWithin d t) (runList d t) (list-paid t d) (listOwner t l) (firstItem t l) (itemCount t l) _ (λ i a b. within-item t d l i h a b) in
     omega arith
 
 module _ (t : List ℕ) (f : Facts t) where
@@ -71,7 +71,7 @@ module _ (t : List ℕ) (f : Facts t) where
   chosen-paid c [] x e = omega arith
   chosen-paid c (l ∷ ls) x e =
       let a : written (runIf t c l x) ≤ written x + costWithin deepest t l =
-        split (c l) (λ h. rw (if-chosen t c l x h) (list-paid t deepest l x (f .list l (e .0) .nested))) (λ h. rw (if-not t c l x h) (omega arith)) in
+      split (c l) (λ h. rw (if-chosen t c l x h) (list-paid t deepest l x (f .list l (e .0) .nested))) (λ h. rw (if-not t c l x h) (omega arith)) in
       let b : written (runChosen t c ls (runIf t c l x)) ≤ written (runIf t c l x) + sumOver (costWithin deepest t) ls = chosen-paid c ls (runIf t c l x) (e .1) in
       omega arith
 

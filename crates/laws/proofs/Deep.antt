@@ -22,9 +22,9 @@ module _ (t : List ℕ) (fits : ℕ → Bool) (below : ℕ → Run → Run) (sha
   rule-shallow r x n =
       split (unready t (x .state) r) (λ u. rw (rule-unready below t o r x u))
       (λ u. rw (rule-ready below t o r x u)
-        (split (eqb (choiceIn t (x .state) r) noList)
-        (λ e. rw (choice-none below (choiceIn t (x .state) r) (judge t o r x) e))
-        (λ e. rw (choice-some below (choiceIn t (x .state) r) (judge t o r x) e) (shallow _ (judge t o r x) (nests-choice t fits r _ _ n e)))))
+      (split (eqb (choiceIn t (x .state) r) noList)
+      (λ e. rw (choice-none below (choiceIn t (x .state) r) (judge t o r x) e))
+      (λ e. rw (choice-some below (choiceIn t (x .state) r) (judge t o r x) e) (shallow _ (judge t o r x) (nests-choice t fits r _ _ n e)))))
 
   item-shallow : (i : ℕ) (x : Run) → itemNests t fits i ≡ true → runItem below t o i x .deep ≡ x .deep
   unfolding act

@@ -58,7 +58,8 @@ counts-of t h =
       expressions = leb-true _ _ (part-of _ (λ e. rw (countsInside, e, and-false, and-false) at h));
       rules = leb-true _ _ (part-of _ (λ e. rw (countsInside, e, and-false, and-false) at h));
       lists = leb-true _ _ (part-of _ (λ e. rw (countsInside, e, and-false, and-false) at h));
-      items = leb-true _ _ (part-of _ (λ e. rw (countsInside, e, and-false, and-false) at h)) }
+      items = leb-true _ _ (part-of _ (λ e. rw (countsInside, e, and-false, and-false) at h));
+    }
 
 shows-network : (t : List ℕ) (n : ℕ) → names t (atNetwork n) ≡ true → owners t (atNetwork n) ≡ true → Shows t (networkPort t n) (networkOwner t n) n 0
 unfolding names owners
@@ -66,7 +67,8 @@ shows-network t n h o =
     record {
       may = and-left _ (not (held t (networkPort t n) n 0)) h;
       alone = not-true _ (and-right (mayShow t (networkPort t n)) _ h);
-      owned = eqb-true _ _ o }
+      owned = eqb-true _ _ o;
+    }
 
 shows-source : (t : List ℕ) (k : ℕ) → names t (atSource k) ≡ true → owners t (atSource k) ≡ true → Shows t (sourcePort t k) (sourceOwner t k) (networks t) k
 unfolding names owners
@@ -74,7 +76,8 @@ shows-source t k h o =
     record {
       may = and-left _ (not (held t (sourcePort t k) (networks t) k)) h;
       alone = not-true _ (and-right (mayShow t (sourcePort t k)) _ h);
-      owned = eqb-true _ _ o }
+      owned = eqb-true _ _ o;
+    }
 
 waits-of : (t : List ℕ) (n : ℕ) → ownFields t (atWaits n) ≡ true → Waits t n
 unfolding ownFields
@@ -82,7 +85,8 @@ waits-of t n h =
     record {
       short = leb-true _ _ (part-of _ (λ e. rw e at h));
       long = leb-true _ _ (part-of _ (λ e. rw (e, and-false) at h));
-      eticks = leb-true _ _ (part-of _ (λ e. rw (e, and-false) at h)) }
+      eticks = leb-true _ _ (part-of _ (λ e. rw (e, and-false) at h));
+    }
 
 rule-of : (t : List ℕ) (r : ℕ) → ownFields t (atRule r) ≡ true → names t (atRule r) ≡ true → owners t (atRule r) ≡ true → RuleFacts t r
 unfolding ownFields names owners
@@ -92,7 +96,8 @@ rule-of t r f n o =
       expression = ltb-true _ _ (part-of _ (λ e. rw e at n));
       whenTrue = part-of _ (λ e. rw (e, and-false) at n);
       whenFalse = and-right (ltb (ruleExpression t r) (expressions t) && listOrNone t (trueList t r)) _ n;
-      owned = o }
+      owned = o;
+    }
 
 list-of : (t : List ℕ) (l : ℕ) → ownFields t (atList l) ≡ true → names t (atList l) ≡ true → nesting t (atList l) ≡ true → owners t (atList l) ≡ true → ListFacts t l
 unfolding ownFields names nesting owners
@@ -101,7 +106,8 @@ list-of t l f n d o =
       some = leb-true _ _ f;
       range = leb-true _ _ n;
       nested = d;
-      owned = λ i a b. all-at (itemOwned t (listOwner t l)) (firstItem t l) (itemCount t l) i o a b }
+      owned = λ i a b. all-at (itemOwned t (listOwner t l)) (firstItem t l) (itemCount t l) i o a b;
+    }
 
 pub facts-of : (t : List ℕ) → Rules t → Facts t
 unfolding exactLength affordable ownFields names nesting
@@ -118,7 +124,8 @@ facts-of t r =
       rule = λ q h. rule-of t q (at-rule t exact ownFields (r .fields) q h) (at-rule t exact names (r .named) q h) (at-rule t exact owners (r .owned) q h);
       list = λ l h. list-of t l (at-list t exact ownFields (r .fields) l h) (at-list t exact names (r .named) l h) (at-list t exact nesting (r .nested) l h) (at-list t exact owners (r .owned) l h);
       item = λ i h. (at-item t exact ownFields (r .fields) i h, at-item t exact names (r .named) i h);
-      cost = leb-true _ _ (r .cost) }
+      cost = leb-true _ _ (r .cost);
+    }
 
 pub facts : (t : List ℕ) → accepted t ≡ true → Facts t
 facts t h = facts-of t (accepted-exactly t .0 h)

@@ -66,7 +66,7 @@ result-small t s r = go (holds deepest t (valueIn s) _)
 
 -- it is none, or the rule's list for the result
 pub choice-cases {ℓ} : {A : Type ℓ} (t : List ℕ) (r previous result : ℕ)
-  → (choice t r previous result ≡ noList → A) → (choice t r previous result ≡ trueList t r → A) → (choice t r previous result ≡ falseList t r → A) → A
+    → (choice t r previous result ≡ noList → A) → (choice t r previous result ≡ trueList t r → A) → (choice t r previous result ≡ falseList t r → A) → A
 unfolding choice
 choice-cases t r previous result none a b =
     split (eqb (triggered t (listFor t r result)) 0 || not (eqb result previous))

@@ -12,3 +12,5 @@ pub mod Runs
 pub mod Nesting
 pub mod Deep
 pub mod Cost
+pub mod Fit
+pub mod FitKept

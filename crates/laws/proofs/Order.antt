@@ -42,8 +42,10 @@ unfolding ofPriority
 of-priority t k l zero = tt
 of-priority t k l (suc n) =
     split (eqb (priority t l) k)
-    (λ e. rw (e, ofPriority) (record { priority = eqb-true _ _ e; from = omega arith; below = omega arith },
-      each-weaker _ _ (ofPriority t k (suc l) n) (of-later t k l n) (of-priority t k (suc l) n)))
+    (λ e. rw (e, ofPriority) (
+      record { priority = eqb-true _ _ e; from = omega arith; below = omega arith },
+      each-weaker _ _ (ofPriority t k (suc l) n) (of-later t k l n) (of-priority t k (suc l) n),
+    ))
     (λ e. rw (e, ofPriority) (each-weaker _ _ (ofPriority t k (suc l) n) (of-later t k l n) (of-priority t k (suc l) n)))
 
 -- the lists of priority below k
@@ -94,9 +96,9 @@ one-priority-more t f k l =
     split (ltb (priority t l) k)
     (λ e. let a : priority t l < k = ltb-true _ _ e in rw (e, lt-ltb (priority t l) (suc k) (omega arith), ne-eqb (priority t l) k (λ z. omega arith)) (zero-add (f l)))
     (λ e. let a : k ≤ priority t l = ltb-false _ _ e in
-      split (eqb (priority t l) k)
-      (λ d. let b : priority t l ≡ k = eqb-true _ _ d in rw (e, d, lt-ltb (priority t l) (suc k) (omega arith)) (add-zero (f l)))
-      (λ d. let b : (priority t l ≡ k → ⊥) = eqb-false _ _ d in rw (e, d, le-ltb (priority t l) (suc k) (omega arith))))
+    split (eqb (priority t l) k)
+    (λ d. let b : priority t l ≡ k = eqb-true _ _ d in rw (e, d, lt-ltb (priority t l) (suc k) (omega arith)) (add-zero (f l)))
+    (λ d. let b : (priority t l ≡ k → ⊥) = eqb-false _ _ d in rw (e, d, le-ltb (priority t l) (suc k) (omega arith))))
 
 sum-two : (f g : ℕ → ℕ) (i n : ℕ) → sum i n f + sum i n g ≡ sum i n (λ j. f j + g j)
 unfolding sum

@@ -55,7 +55,7 @@ module _ (t : List ℕ) (f : Facts t) (Q : Run → Type 0) (k : KeptByActs t Q) 
       split (unready t (x .state) (itemA t i))
       (λ u. rw (rule-unready below t (listOwner t l) (itemA t i) x u) (k .undefined l i x w e q))
       (λ u. rw (rule-ready below t (listOwner t l) (itemA t i) x u)
-        (choice-keeps below b (itemA t i) _ _ _ (rule-there t i (f .item i (item-there t f l i w) .1) e) (k .judge l i x w e u q)))
+      (choice-keeps below b (itemA t i) _ _ _ (rule-there t i (f .item i (item-there t f l i w) .1) e) (k .judge l i x w e u q)))
 
   item-keeps : (below : ℕ → Run → Run) → Keeps below → (l i : ℕ) (x : Run) → Within t l i → Q x → Q (runItem below t (listOwner t l) i x)
   item-keeps below b l i x w q =
@@ -98,13 +98,13 @@ module _ (t : List ℕ) (f : Facts t) (P : List ℕ → Type 0) (k : KeptByWrite
   effect-keeps i s h q =
       split (eqb (itemKind t i) kindClear)
       (λ e. let there = clear-there t i (f .item i h .1) (eqb-true _ _ e) in
-        rw e (k .clear (itemA t i) s (port-there t kindEvent (itemA t i) there) (kind-is t kindEvent (itemA t i) there) q))
+      rw e (k .clear (itemA t i) s (port-there t kindEvent (itemA t i) there) (kind-is t kindEvent (itemA t i) there) q))
       (λ e. split (eqb (itemKind t i) kindStart)
       (λ e₁. let there = start-there t i (f .item i h .1) (eqb-true _ _ e₁) in
-        rw (e, e₁) (k .begin (itemA t i) s (port-there t kindTimer (itemA t i) there) (kind-is t kindTimer (itemA t i) there) q))
+      rw (e, e₁) (k .begin (itemA t i) s (port-there t kindTimer (itemA t i) there) (kind-is t kindTimer (itemA t i) there) q))
       (λ e₁. split (eqb (itemKind t i) kindStop)
       (λ e₂. let there = stop-there t i (f .item i h .1) (eqb-true _ _ e₂) in
-        rw (e, e₁, e₂) (k .stop (itemA t i) s (port-there t kindTimer (itemA t i) there) (kind-is t kindTimer (itemA t i) there) q))
+      rw (e, e₁, e₂) (k .stop (itemA t i) s (port-there t kindTimer (itemA t i) there) (kind-is t kindTimer (itemA t i) there) q))
       (λ e₂. split (eqb (itemKind t i) kindAsk)
       (λ e₃. rw (e, e₁, e₂, e₃) (k .ask (itemA t i) (itemB t i) s (ask-there t i (f .item i h .1) (eqb-true _ _ e₃)) (mode-small t i (f .item i h .0) (eqb-true _ _ e₃)) q))
       (λ e₃. rw (e, e₁, e₂, e₃) q))))
@@ -117,7 +117,8 @@ module _ (t : List ℕ) (f : Facts t) (P : List ℕ → Type 0) (k : KeptByWrite
         act = λ l i x w g h q. effect-keeps i (x .state) (item-there t f l i w) q;
         undefined = λ l i x w e q. q;
         judge = λ l i x w e u q. k .store (itemA t i) _ (x .state) (rule-there t i (f .item i (item-there t f l i w) .1) e) (result-small t (x .state) (itemA t i)) q;
-        deep = λ x q. q }
+        deep = λ x q. q;
+      }
 
   unmark-keeps : (q : ℕ → Bool) (s : List ℕ) → P s → P (unmarkPorts t q s)
   unfolding unmarkPorts unmarkPort

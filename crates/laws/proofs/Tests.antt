@@ -2,6 +2,7 @@
 use mathlib.Core.Path.{_≡_, refl, sym, _∙_}
 use mathlib.Core.Bool.{Bool, true, false, _&&_, _||_, not, true≢false}
 use mathlib.Core.Logic.{_⊎_, inl, inr}
+use Rattle.rulebook.specs.Words.{implies}
 
 pub split {ℓ} : {A : Type ℓ} (b : Bool) → (b ≡ true → A) → (b ≡ false → A) → A
 split true f g = f refl
@@ -33,3 +34,22 @@ or-none false b h = (refl, h)
 pub or-some : (a b : Bool) → (a || b) ≡ true → (a ≡ true) ⊎ (b ≡ true)
 or-some true b h = inl refl
 or-some false b h = inr h
+
+pub implies-elim : (a b : Bool) → implies a b ≡ true → a ≡ true → b ≡ true
+implies-elim a b h e = rw e at h
+
+pub implies-intro : (a b : Bool) → (a ≡ true → b ≡ true) → implies a b ≡ true
+implies-intro true b f = f refl
+implies-intro false b f = refl
+
+pub or-intro : (a b : Bool) → (a ≡ false → b ≡ true) → (a || b) ≡ true
+or-intro true b f = refl
+or-intro false b f = f refl
+
+pub or-elim : (a b : Bool) → (a || b) ≡ true → a ≡ false → b ≡ true
+or-elim a b h e = rw e at h
+
+pub and-one-false : (a b : Bool) → (a ≡ true → b ≡ true → ⊥) → (a && b) ≡ false
+and-one-false true true f = absurd (f refl refl)
+and-one-false true false f = refl
+and-one-false false b f = refl

@@ -98,7 +98,7 @@ each-keeps P f i (suc n) a k h =
     each-keeps P f (suc i) n (f i a) (λ j x b c. k j x (omega arith) (omega arith)) (k i a (omega arith) (omega arith) h)
 
 pub each-alike {ℓ} : {A B : Type 0} (R : A → B → Type ℓ) (f : ℕ → A → A) (g : ℕ → B → B) (i n : ℕ) (a : A) (b : B)
-  → ((j : ℕ) (x : A) (y : B) → i ≤ j → j < i + n → R x y → R (f j x) (g j y)) → R a b → R (each i n f a) (each i n g b)
+    → ((j : ℕ) (x : A) (y : B) → i ≤ j → j < i + n → R x y → R (f j x) (g j y)) → R a b → R (each i n f a) (each i n g b)
 unfolding each
 each-alike R f g i zero a b k h = h
 each-alike R f g i (suc n) a b k h =
