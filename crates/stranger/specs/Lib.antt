@@ -1,0 +1,2 @@
+-- Demand 3's words: calls and runs, the view of an operator, what is taken, shown, settled.
+pub mod Calls
