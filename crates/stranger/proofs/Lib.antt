@@ -1,1 +1,3 @@
 -- The theorems of demand 3.
+pub mod View
+pub mod Alike

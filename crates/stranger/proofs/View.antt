@@ -1,0 +1,87 @@
+-- The view relation is reflexive, symmetric and transitive; what one write does to it; runs that are alike to o. Assumes nothing.
+use mathlib.Core.Path.{_≡_, refl, sym, _∙_, ap, ap₂}
+use mathlib.Core.Bool.{Bool, true, false, cond}
+use mathlib.Core.List.{List, [], _∷_, _++_}
+use Prim.Native.Nat.{ℕ, zero, suc, _+_, _≤_, _<_}
+use native.Mathlib.Omega.{arith}
+use lib.ListN.{length, set, length-set, List·getD-eq-default}
+use lib.Seq.{getD-set-same, getD-set-other, set-out}
+use lib.Dec.{ltb, eqb}
+use borrow.Author.Tests.{ltb-true, ltb-false, eqb-true, eqb-false}
+use Rattle.rulebook.specs.Words.{word}
+use Rattle.rulebook.specs.Table.{stranger}
+use Rattle.rulebook.specs.State.{stateLength}
+use Rattle.rulebook.specs.Lists.{Run, emit}
+use Rattle.laws.proofs.Tests.{split, clash}
+use Rattle.laws.proofs.Walks.{here-or-later}
+use Rattle.stranger.specs.View.{strangersWord, SameView, visibleFrom, visibleWords, traceOwner, ownWords}
+
+module _ (t : List ℕ) (o : ℕ) where
+  pub same-view-refl : (s : List ℕ) → SameView t o s s
+  same-view-refl s = record { long = refl; same = λ i h. refl }
+
+  pub same-view-sym : {s₁ s₂ : List ℕ} → SameView t o s₁ s₂ → SameView t o s₂ s₁
+  same-view-sym v = record { long = sym (v .long); same = λ i h. sym (v .same i h) }
+
+  pub same-view-trans : {s₁ s₂ s₃ : List ℕ} → SameView t o s₁ s₂ → SameView t o s₂ s₃ → SameView t o s₁ s₃
+  same-view-trans v w = record { long = v .long ∙ w .long; same = λ i h. v .same i h ∙ w .same i h }
+
+  -- each side goes on for itself, unseen
+  pub view-around : {s₁ s₂ x₁ x₂ : List ℕ} → SameView t o s₁ s₂ → SameView t o s₁ x₁ → SameView t o s₂ x₂ → SameView t o x₁ x₂
+  view-around v a b = same-view-trans (same-view-trans (same-view-sym a) v) b
+
+  -- One write: a stranger's word on one side, or any word on both, the same where it is seen.
+
+  pub write-hidden : (s : List ℕ) (i v : ℕ) → strangersWord t o i ≡ true → SameView t o s (set s i v)
+  write-hidden s i v h =
+      record {
+        long = sym (length-set s i v);
+        same = λ j k. sym (getD-set-other s i j v 0 (λ e. clash h (rw e at k)));
+      }
+
+  pub write-alike : {s₁ s₂ : List ℕ} (i v₁ v₂ : ℕ) → (strangersWord t o i ≡ false → v₁ ≡ v₂) → SameView t o s₁ s₂ → SameView t o (set s₁ i v₁) (set s₂ i v₂)
+  write-alike {s₁} {s₂} i v₁ v₂ e v =
+      record {
+        long = length-set s₁ i v₁ ∙ v .long ∙ sym (length-set s₂ i v₂);
+        same = λ j k. split (eqb j i)
+            (λ d. let j=i : j ≡ i = eqb-true _ _ d in let seen : strangersWord t o i ≡ false = rw j=i at k in
+            rw j=i (split (ltb i (length s₁))
+            (λ b. let here : i < length s₁ = ltb-true _ _ b in let there : i < length s₂ = rw (v .long) at here in
+            getD-set-same s₁ i v₁ 0 here ∙ e seen ∙ sym (getD-set-same s₂ i v₂ 0 there))
+            (λ b. let past : length s₁ ≤ i = ltb-false _ _ b in let past₂ : length s₂ ≤ i = rw (v .long) at past in
+            rw (set-out s₁ i v₁ past, set-out s₂ i v₂ past₂) (v .same i seen))))
+            (λ d. getD-set-other s₁ i j v₁ 0 (eqb-false _ _ d) ∙ v .same j k ∙ sym (getD-set-other s₂ i j v₂ 0 (eqb-false _ _ d)));
+      }
+
+  -- The list of visible words says what the relation says.
+
+  from-same : {s₁ s₂ : List ℕ} (i n : ℕ) → SameView t o s₁ s₂ → visibleFrom t o s₁ i n ≡ visibleFrom t o s₂ i n
+  unfolding visibleFrom
+  from-same i zero v = refl
+  from-same i (suc n) v =
+      split (strangersWord t o i) (λ e. rw (e, visibleFrom) (from-same (suc i) n v))
+      (λ e. rw (e, visibleFrom) (ap₂ _∷_ (v .same i e) (from-same (suc i) n v)))
+
+  pub same-visible : {s₁ s₂ : List ℕ} → SameView t o s₁ s₂ → visibleWords t o s₁ ≡ visibleWords t o s₂
+  unfolding visibleWords
+  same-visible v = from-same 0 (stateLength t) v
+
+  from-at : (s₁ s₂ : List ℕ) (i n j : ℕ) → visibleFrom t o s₁ i n ≡ visibleFrom t o s₂ i n → i ≤ j → j < i + n → strangersWord t o j ≡ false → word s₁ j ≡ word s₂ j
+  unfolding visibleFrom
+  from-at s₁ s₂ i zero j h a b k = absurd (omega arith)
+  from-at s₁ s₂ i (suc n) j h a b k =
+      split (strangersWord t o i)
+      (λ e. here-or-later i n j a b (λ d. clash (rw (← d) at e) k) (λ c d. from-at s₁ s₂ (suc i) n j (rw (e, visibleFrom) at h) c d k))
+      (λ e. let both : word s₁ i ∷ visibleFrom t o s₁ (suc i) n ≡ word s₂ i ∷ visibleFrom t o s₂ (suc i) n = rw (e, visibleFrom) at h in
+      here-or-later i n j a b (λ d. rw d (cc)) (λ c d. from-at s₁ s₂ (suc i) n j (cc) c d k))
+
+  pub visible-same : (s₁ s₂ : List ℕ) → length s₁ ≡ stateLength t → length s₂ ≡ stateLength t → visibleWords t o s₁ ≡ visibleWords t o s₂ → SameView t o s₁ s₂
+  unfolding visibleWords
+  visible-same s₁ s₂ a b h =
+      record {
+        long = a ∙ sym b;
+        same = λ i k. split (ltb i (stateLength t)) (λ e. from-at s₁ s₂ 0 (stateLength t) i h (omega arith) (let c : i < stateLength t = ltb-true _ _ e in omega arith) k)
+            (λ e. let c : stateLength t ≤ i = ltb-false _ _ e in
+            let past₁ : length s₁ ≤ i = omega arith in let past₂ : length s₂ ≤ i = omega arith in
+            List·getD-eq-default s₁ 0 past₁ ∙ sym (List·getD-eq-default s₂ 0 past₂));
+      }

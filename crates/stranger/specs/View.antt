@@ -1,0 +1,66 @@
+-- The view of operator o: the state words and the trace words that are no stranger's to o, those of o and of the platform. What o
+-- sees of a run of calls.
+use mathlib.Core.Path.{_≡_}
+use mathlib.Core.Bool.{Bool, true, false}
+use mathlib.Core.List.{List, [], _∷_}
+use Prim.Native.Nat.{ℕ, zero, suc}
+use lib.ListN.{length}
+use Rattle.rulebook.specs.Words.{word, field}
+use Rattle.rulebook.specs.Table.{stranger}
+use Rattle.rulebook.specs.State.{stateLength, thing, ownerOf}
+use Rattle.rulebook.specs.Step.{Result}
+use Rattle.stranger.specs.Calls.{Call, called, strangersCall}
+
+-- State words. A word's owner is that of its port, rule, network or source.
+
+unfoldable pub strangersWord : List ℕ → ℕ → ℕ → Bool
+strangersWord t o i = stranger o (ownerOf t (thing t i))
+
+-- two states that o cannot tell apart
+pub record SameView (t : List ℕ) (o : ℕ) (s₁ s₂ : List ℕ) : Type 0 where
+  pub long : length s₁ ≡ length s₂
+  pub same : (i : ℕ) → strangersWord t o i ≡ false → word s₁ i ≡ word s₂ i
+
+-- the words at the n indexes from i on, a stranger's left out
+unfoldable pub visibleFrom : List ℕ → ℕ → List ℕ → ℕ → ℕ → List ℕ
+visibleFrom t o s i zero = []
+visibleFrom t o s i (suc n) =
+    elim (strangersWord t o i) [ true ↦ visibleFrom t o s (suc i) n | false ↦ word s i ∷ visibleFrom t o s (suc i) n ]
+
+unfoldable pub visibleWords : List ℕ → ℕ → List ℕ → List ℕ
+visibleWords t o s = visibleFrom t o s 0 (stateLength t)
+
+-- Trace words: kind, owner of the list that holds it, a, b.
+
+abbrev pub traceKind : ℕ → ℕ
+traceKind w = field 0 4 w
+
+abbrev pub traceOwner : ℕ → ℕ
+traceOwner w = field 4 4 w
+
+abbrev pub traceA : ℕ → ℕ
+traceA w = field 8 8 w
+
+-- the trace words of o and of the platform together, in order
+unfoldable pub ownWords : ℕ → List ℕ → List ℕ
+ownWords o [] = []
+ownWords o (w ∷ ws) = elim (stranger o (traceOwner w)) [ true ↦ ownWords o ws | false ↦ w ∷ ownWords o ws ]
+
+-- What o sees after a call: the answer, the state words and the trace words that are no stranger's.
+
+pub record Seen : Type 0 where
+  pub answer : ℕ
+  pub state : List ℕ
+  pub words : List ℕ
+
+unfoldable pub seenOf : List ℕ → ℕ → Result → Seen
+seenOf t o r = record { answer = r .answer; state = visibleWords t o (r .state); words = ownWords o (r .words) }
+
+-- what o sees of a run: one entry for each call that is no stranger's
+unfoldable pub seen : List ℕ → ℕ → List ℕ → List Call → List Seen
+seen t o s [] = []
+seen t o s (c ∷ cs) =
+    elim (strangersCall o c) [
+      | true ↦ seen t o (called t s c .state) cs
+      | false ↦ seenOf t o (called t s c) ∷ seen t o (called t s c .state) cs
+    ]
