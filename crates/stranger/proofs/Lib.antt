@@ -1,3 +1,4 @@
 -- The theorems of demand 3.
 pub mod View
 pub mod Alike
+pub mod Evaluation

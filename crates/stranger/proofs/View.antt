@@ -9,11 +9,12 @@ use lib.Seq.{getD-set-same, getD-set-other, set-out}
 use lib.Dec.{ltb, eqb}
 use borrow.Author.Tests.{ltb-true, ltb-false, eqb-true, eqb-false}
 use Rattle.rulebook.specs.Words.{word}
-use Rattle.rulebook.specs.Table.{stranger}
-use Rattle.rulebook.specs.State.{stateLength}
+use Rattle.rulebook.specs.Table.{ports, networks, rules, portOwner, networkOwner, sourceOwner, ruleOwner, stranger}
+use Rattle.rulebook.specs.State.{ruleIndex, networkIndex, sourceIndex, stateLength, ownerOf}
 use Rattle.rulebook.specs.Lists.{Run, emit}
 use Rattle.laws.proofs.Tests.{split, clash}
 use Rattle.laws.proofs.Walks.{here-or-later}
+use Rattle.laws.proofs.Parts.{thing-port, thing-rule, thing-network, thing-source}
 use Rattle.stranger.specs.View.{strangersWord, SameView, visibleFrom, visibleWords, traceOwner, ownWords}
 
 module _ (t : List ℕ) (o : ℕ) where
@@ -85,3 +86,21 @@ module _ (t : List ℕ) (o : ℕ) where
             let past₁ : length s₁ ≤ i = omega arith in let past₂ : length s₂ ≤ i = omega arith in
             List·getD-eq-default s₁ 0 past₁ ∙ sym (List·getD-eq-default s₂ 0 past₂));
       }
+
+  -- Whose a thing's word is.
+
+  pub port-word : (p : ℕ) → p < ports t → strangersWord t o p ≡ stranger o (portOwner t p)
+  unfolding strangersWord ownerOf
+  port-word p h = rw (thing-port t p h)
+
+  pub rule-word : (r : ℕ) → r < rules t → strangersWord t o (ruleIndex t r) ≡ stranger o (ruleOwner t r)
+  unfolding strangersWord ownerOf
+  rule-word r h = rw (thing-rule t r h)
+
+  pub network-word : (n : ℕ) → n < networks t → strangersWord t o (networkIndex t n) ≡ stranger o (networkOwner t n)
+  unfolding strangersWord ownerOf
+  network-word n h = rw (thing-network t n h)
+
+  pub source-word : (k : ℕ) → strangersWord t o (sourceIndex t k) ≡ stranger o (sourceOwner t k)
+  unfolding strangersWord ownerOf
+  source-word k = rw (thing-source t k)
