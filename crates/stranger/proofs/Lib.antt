@@ -2,3 +2,6 @@
 pub mod View
 pub mod Alike
 pub mod Evaluation
+pub mod More
+pub mod Owners
+pub mod Lists

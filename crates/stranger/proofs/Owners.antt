@@ -1,0 +1,47 @@
+-- What "owners do not clash" says of the things that an item names and of the list that a rule starts. Assumes nothing.
+use mathlib.Core.Path.{_≡_, refl, sym, _∙_, ap}
+use mathlib.Core.Bool.{Bool, true, false, _&&_, _||_, not, and-false}
+use mathlib.Core.List.{List}
+use Prim.Native.Nat.{ℕ}
+use lib.Dec.{leb, eqb}
+use borrow.Author.Tests.{eqb-true, eq-eqb, ne-eqb, not-true}
+use Rattle.rulebook.specs.Words.{implies, between}
+use Rattle.rulebook.specs.Table.{portOwner, networkOwner, ruleOwner, listOwner, trueList, falseList, noList, itemKind, itemA, kindClear, kindStop, kindAsk, kindList, kindRule, platform, stranger}
+use Rattle.rulebook.specs.Reasons.{ruleOwned, itemOwned}
+use Rattle.rulebook.specs.Lists.{choice}
+use Rattle.laws.proofs.Tests.{split, clash, part-of, and-right, implies-elim, or-elim}
+use Rattle.laws.proofs.Items.{choice-cases}
+
+-- a stranger is not the platform
+pub no-platform : (o w : ℕ) → stranger o w ≡ true → eqb w platform ≡ false
+unfolding stranger
+no-platform o w h = not-true _ (and-right (not (eqb w o)) _ h)
+
+module _ (t : List ℕ) (w i : ℕ) (h : itemOwned t w i ≡ true) where
+  pub list-owned : itemKind t i ≡ kindList → listOwner t (itemA t i) ≡ w
+  unfolding itemOwned
+  list-owned k = eqb-true _ _ (implies-elim (eqb (itemKind t i) kindList) _ (part-of _ (λ e. rw (itemOwned, e) at h)) (eq-eqb _ _ k))
+
+  pub rule-owned : itemKind t i ≡ kindRule → ruleOwner t (itemA t i) ≡ w
+  unfolding itemOwned
+  rule-owned k = eqb-true _ _ (implies-elim (eqb (itemKind t i) kindRule) _ (part-of _ (λ e. rw (itemOwned, e, and-false) at h)) (eq-eqb _ _ k))
+
+  pub port-owned : eqb w platform ≡ false → between kindClear kindStop (itemKind t i) ≡ true → portOwner t (itemA t i) ≡ w
+  unfolding itemOwned
+  port-owned n k =
+      eqb-true _ _ (implies-elim (between kindClear kindStop (itemKind t i)) _
+      (or-elim (eqb w platform) (implies (between kindClear kindStop (itemKind t i)) (eqb (portOwner t (itemA t i)) w)) (part-of _ (λ e. rw (itemOwned, e, and-false) at h)) n) k)
+
+  pub network-owned : eqb w platform ≡ false → itemKind t i ≡ kindAsk → networkOwner t (itemA t i) ≡ w
+  unfolding itemOwned
+  network-owned n k =
+      eqb-true _ _ (implies-elim (eqb (itemKind t i) kindAsk) _
+      (or-elim (eqb w platform) (implies (eqb (itemKind t i) kindAsk) (eqb (networkOwner t (itemA t i)) w)) (part-of _ (λ e. rw (itemOwned, e, and-false) at h)) n) (eq-eqb _ _ k))
+
+-- the list that a rule starts has the rule's owner
+pub choice-owned : (t : List ℕ) (r previous result : ℕ) → ruleOwned t r ≡ true → eqb (choice t r previous result) noList ≡ false → listOwner t (choice t r previous result) ≡ ruleOwner t r
+unfolding ruleOwned
+choice-owned t r previous result h n =
+    choice-cases t r previous result (λ e. clash (eq-eqb _ _ e) n)
+    (λ e. rw e (eqb-true _ _ (or-elim (eqb (trueList t r) noList) (eqb (listOwner t (trueList t r)) (ruleOwner t r)) (part-of _ (λ d. rw (ruleOwned, d, and-false) at h)) (rw e at n))))
+    (λ e. rw e (eqb-true _ _ (or-elim (eqb (falseList t r) noList) (eqb (listOwner t (falseList t r)) (ruleOwner t r)) (part-of _ (λ d. rw (ruleOwned, d, and-false) at h)) (rw e at n))))
