@@ -5,3 +5,5 @@ pub mod Evaluation
 pub mod More
 pub mod Owners
 pub mod Lists
+pub mod Arbitration
+pub mod Events

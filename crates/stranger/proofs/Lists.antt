@@ -11,7 +11,7 @@ use Rattle.rulebook.specs.Words.{word, between, each}
 use Rattle.rulebook.specs.Table.{ports, networks, rules, lists, items, kindEvent, kindTimer, portOwner, networkOwner, ruleOwner, noList, listOwner, firstItem, itemCount, itemKind, itemA, kindClear, kindStart, kindStop, kindAsk, kindList, kindRule, stranger}
 use Rattle.rulebook.specs.State.{ruleIndex, networkIndex, undefinedResult}
 use Rattle.rulebook.specs.Reasons.{portOfKind, itemOwned}
-use Rattle.rulebook.specs.Lists.{Run, become, emit, tooDeep, traceWord, kindListStart, setPort, setNetwork, effect, act, unready, resultIn, choice, choiceIn, setResult, judge, runChoice, runRule, runItem, runItems, runList}
+use Rattle.rulebook.specs.Lists.{Run, become, emit, tooDeep, traceWord, kindListStart, setPort, setNetwork, effect, act, unready, choiceIn, setResult, judge, runChoice, runRule, runItem, runItems, runList}
 use Rattle.laws.specs.Facts.{Facts}
 use Rattle.laws.proofs.Tests.{split}
 use Rattle.laws.proofs.Walks.{each-keeps, each-alike}
@@ -60,12 +60,13 @@ module _ (t : List ℕ) (f : Facts t) (o : ℕ) where
   abbrev Unseen : (ℕ → Run → Run) → Type 0
   Unseen below = (l : ℕ) (x : Run) → l < lists t → stranger o (listOwner t l) ≡ true → Alike t o x (below l x)
 
-  choice-unseen : (below : ℕ → Run → Run) → Unseen below → (r previous result : ℕ) (x : Run) → r < rules t → stranger o (ruleOwner t r) ≡ true
-      → Alike t o x (runChoice below (choice t r previous result) x)
-  choice-unseen below u r previous result x b h =
-      split (eqb (choice t r previous result) noList) (λ e. rw (choice-none below _ x e) (alike-refl t o x))
+  choice-unseen : (below : ℕ → Run → Run) → Unseen below → (s : List ℕ) (r : ℕ) (x : Run) → r < rules t → stranger o (ruleOwner t r) ≡ true
+      → Alike t o x (runChoice below (choiceIn t s r) x)
+  unfolding choiceIn
+  choice-unseen below u s r x b h =
+      split (eqb (choiceIn t s r) noList) (λ e. rw (choice-none below _ x e) (alike-refl t o x))
       (λ e. rw (choice-some below _ x e)
-      (u _ x (choice-there t r previous result (f .rule r b) e) (rw (choice-owned t r previous result (f .rule r b .owned) e) h)))
+      (u _ x (choice-there t r _ _ (f .rule r b) e) (rw (choice-owned t s r (f .rule r b .owned) e) h)))
 
   judge-hidden : (l r : ℕ) (x : Run) → r < rules t → stranger o (listOwner t l) ≡ true → stranger o (ruleOwner t r) ≡ true → Alike t o x (judge t (listOwner t l) r x)
   unfolding judge setResult
@@ -73,7 +74,7 @@ module _ (t : List ℕ) (f : Facts t) (o : ℕ) where
       record { view = write-hidden t o (x .state) (ruleIndex t r) _ (rule-word t o r b ∙ k); own = word-hidden l kindRule r _ x h .own }
 
   item-unseen : (below : ℕ → Run → Run) → Unseen below → (l i : ℕ) (x : Run) → Within t l i → stranger o (listOwner t l) ≡ true → Alike t o x (runItem below t (listOwner t l) i x)
-  unfolding act choiceIn
+  unfolding act
   item-unseen below u l i x w h =
       let there = f .item i (item-there t f l i w) .1 in
       item-cases below t (listOwner t l) i
@@ -85,7 +86,7 @@ module _ (t : List ℕ) (f : Facts t) (o : ℕ) where
       (λ n. rw (rule-unready below t (listOwner t l) (itemA t i) x n) (word-hidden l kindRule (itemA t i) undefinedResult x h))
       (λ n. rw (rule-ready below t (listOwner t l) (itemA t i) x n)
       (alike-trans t o (judge-hidden l (itemA t i) x (rule-there t i there e) h own)
-      (choice-unseen below u (itemA t i) _ _ _ (rule-there t i there e) own)))))
+      (choice-unseen below u (x .state) (itemA t i) _ (rule-there t i there e) own)))))
       (λ g k. rw (item-act below t (listOwner t l) i x g k)
       (record { view = effect-hidden l i (x .state) w h; own = word-hidden l (itemKind t i) (itemA t i) _ x h .own }))
 
@@ -116,22 +117,22 @@ module _ (t : List ℕ) (f : Facts t) (o : ℕ) where
   abbrev Follows : (ℕ → Run → Run) → Type 0
   Follows below = (l : ℕ) (x y : Run) → l < lists t → stranger o (listOwner t l) ≡ false → Alike t o x y → Alike t o (below l x) (below l y)
 
-  choice-follows : (below : ℕ → Run → Run) → Follows below → (r previous result : ℕ) (x y : Run) → r < rules t → stranger o (ruleOwner t r) ≡ false → Alike t o x y
-      → Alike t o (runChoice below (choice t r previous result) x) (runChoice below (choice t r previous result) y)
-  choice-follows below u r previous result x y b h a =
-      split (eqb (choice t r previous result) noList) (λ e. rw (choice-none below _ x e, choice-none below _ y e) a)
+  choice-follows : (below : ℕ → Run → Run) → Follows below → (s : List ℕ) (r : ℕ) (x y : Run) → r < rules t → stranger o (ruleOwner t r) ≡ false → Alike t o x y
+      → Alike t o (runChoice below (choiceIn t s r) x) (runChoice below (choiceIn t s r) y)
+  unfolding choiceIn
+  choice-follows below u s r x y b h a =
+      split (eqb (choiceIn t s r) noList) (λ e. rw (choice-none below _ x e, choice-none below _ y e) a)
       (λ e. rw (choice-some below _ x e, choice-some below _ y e)
-      (u _ x y (choice-there t r previous result (f .rule r b) e) (rw (choice-owned t r previous result (f .rule r b .owned) e) h) a))
+      (u _ x y (choice-there t r _ _ (f .rule r b) e) (rw (choice-owned t s r (f .rule r b .owned) e) h) a))
 
   rule-follows : (below : ℕ → Run → Run) → Follows below → (l r : ℕ) (x y : Run) → r < rules t → stranger o (ruleOwner t r) ≡ false → Alike t o x y
       → Alike t o (runRule below t (listOwner t l) r x) (runRule below t (listOwner t l) r y)
-  unfolding choiceIn
   rule-follows below u l r x y b h a =
       let same : unready t (x .state) r ≡ unready t (y .state) r = unready-alike t f o r b h (a .view) in
       split (unready t (x .state) r)
       (λ n. rw (rule-unready below t (listOwner t l) r x n, rule-unready below t (listOwner t l) r y (sym same ∙ n)) (emit-alike t o _ a))
       (λ n. rw (rule-ready below t (listOwner t l) r x n, rule-ready below t (listOwner t l) r y (sym same ∙ n), choice-alike t f o r b h (a .view))
-      (choice-follows below u r _ _ _ _ b h (judge-alike l r b h a)))
+      (choice-follows below u (y .state) r _ _ b h (judge-alike l r b h a)))
 
   item-follows : (below : ℕ → Run → Run) → Follows below → (l i : ℕ) (x y : Run) → Within t l i → stranger o (listOwner t l) ≡ false → Alike t o x y
       → Alike t o (runItem below t (listOwner t l) i x) (runItem below t (listOwner t l) i y)

@@ -8,7 +8,7 @@ use borrow.Author.Tests.{eqb-true, eq-eqb, ne-eqb, not-true}
 use Rattle.rulebook.specs.Words.{implies, between}
 use Rattle.rulebook.specs.Table.{portOwner, networkOwner, ruleOwner, listOwner, trueList, falseList, noList, itemKind, itemA, kindClear, kindStop, kindAsk, kindList, kindRule, platform, stranger}
 use Rattle.rulebook.specs.Reasons.{ruleOwned, itemOwned}
-use Rattle.rulebook.specs.Lists.{choice}
+use Rattle.rulebook.specs.Lists.{choiceIn}
 use Rattle.laws.proofs.Tests.{split, clash, part-of, and-right, implies-elim, or-elim}
 use Rattle.laws.proofs.Items.{choice-cases}
 
@@ -39,9 +39,9 @@ module _ (t : List ℕ) (w i : ℕ) (h : itemOwned t w i ≡ true) where
       (or-elim (eqb w platform) (implies (eqb (itemKind t i) kindAsk) (eqb (networkOwner t (itemA t i)) w)) (part-of _ (λ e. rw (itemOwned, e, and-false) at h)) n) (eq-eqb _ _ k))
 
 -- the list that a rule starts has the rule's owner
-pub choice-owned : (t : List ℕ) (r previous result : ℕ) → ruleOwned t r ≡ true → eqb (choice t r previous result) noList ≡ false → listOwner t (choice t r previous result) ≡ ruleOwner t r
-unfolding ruleOwned
-choice-owned t r previous result h n =
-    choice-cases t r previous result (λ e. clash (eq-eqb _ _ e) n)
+pub choice-owned : (t s : List ℕ) (r : ℕ) → ruleOwned t r ≡ true → eqb (choiceIn t s r) noList ≡ false → listOwner t (choiceIn t s r) ≡ ruleOwner t r
+unfolding ruleOwned choiceIn
+choice-owned t s r h n =
+    choice-cases t r _ _ (λ e. clash (eq-eqb _ _ e) n)
     (λ e. rw e (eqb-true _ _ (or-elim (eqb (trueList t r) noList) (eqb (listOwner t (trueList t r)) (ruleOwner t r)) (part-of _ (λ d. rw (ruleOwned, d, and-false) at h)) (rw e at n))))
     (λ e. rw e (eqb-true _ _ (or-elim (eqb (falseList t r) noList) (eqb (listOwner t (falseList t r)) (ruleOwner t r)) (part-of _ (λ d. rw (ruleOwned, d, and-false) at h)) (rw e at n))))

@@ -1,0 +1,154 @@
+-- Arbitrations from states that o cannot tell apart, of ports that agree except on strangers', are alike to o; so an arbitration of
+-- a stranger's port, held against an arbitration of no port, is unseen. Assumes nothing.
+use mathlib.Core.Path.{_≡_, refl, sym, _∙_, ap}
+use mathlib.Core.Bool.{Bool, true, false, cond, _&&_, _||_, not, and-false}
+use mathlib.Core.List.{List, [], _∷_}
+use Prim.Native.Nat.{ℕ, zero, suc, _+_, _≤_, _<_}
+use native.Mathlib.Omega.{arith}
+use lib.ListN.{set}
+use lib.Dec.{eqb}
+use borrow.Author.Tests.{eqb-true, ne-eqb}
+use Rattle.rulebook.specs.Words.{word, any, each}
+use Rattle.rulebook.specs.Table.{ports, rules, lists, portOwner, ruleOwner, ruleExpression, noList, listOwner, left, right, stranger}
+use Rattle.rulebook.specs.Expressions.{deepest, operator, isNot, expressionMentions, mentions}
+use Rattle.rulebook.specs.State.{ruleIndex}
+use Rattle.rulebook.specs.Lists.{Run, start, choiceIn, setResult, resultIn, runList}
+use Rattle.rulebook.specs.Arbitration.{unmarkPort, unmarkPorts, evaluated, storeResult, storeResults, chooses, chosen, order, runIf, runChosen, decide, arbitrate}
+use Rattle.laws.specs.Facts.{Facts}
+use Rattle.laws.proofs.Tests.{split, clash, and-one-false}
+use Rattle.laws.proofs.Walks.{any-some, each-keeps, each-alike}
+use Rattle.laws.proofs.Cases.{if-chosen, if-not}
+use Rattle.laws.proofs.Order.{Each, order-there}
+use Rattle.stranger.specs.View.{SameView}
+use Rattle.stranger.proofs.More.{pick, pick-both, any-same}
+use Rattle.stranger.proofs.View.{same-view-refl, view-around, write-hidden, write-alike, port-word, rule-word}
+use Rattle.stranger.proofs.Alike.{Alike, alike-refl, alike-around, start-alike}
+use Rattle.stranger.proofs.Evaluation.{result-alike, choice-alike, evaluated-alike}
+use Rattle.stranger.proofs.Owners.{choice-owned}
+use Rattle.stranger.proofs.Lists.{list-unseen, list-follows}
+
+-- two choices of ports that agree on the ports of o and of the platform
+abbrev pub Agree : List ℕ → ℕ → (ℕ → Bool) → (ℕ → Bool) → Type 0
+Agree t o q₁ q₂ = (p : ℕ) → p < ports t → stranger o (portOwner t p) ≡ false → q₁ p ≡ q₂ p
+
+module _ (t : List ℕ) (f : Facts t) (o : ℕ) where
+  -- What a stranger's port, rule or list adds, on one side.
+
+  unmark-hidden : (q : ℕ → Bool) (p : ℕ) (s : List ℕ) → p < ports t → stranger o (portOwner t p) ≡ true → SameView t o s (unmarkPort q p s)
+  unfolding unmarkPort
+  unmark-hidden q p s b h =
+      pick (SameView t o s) (q p) (λ e. write-hidden t o s p _ (port-word t o p b ∙ h)) (λ e. same-view-refl t o s)
+
+  store-hidden : (q : ℕ → Bool) (s : List ℕ) (r : ℕ) (stored : List ℕ) → r < rules t → stranger o (ruleOwner t r) ≡ true → SameView t o stored (storeResult t q s r stored)
+  unfolding storeResult setResult
+  store-hidden q s r stored b h =
+      pick (SameView t o stored) (evaluated t q s r) (λ e. write-hidden t o stored (ruleIndex t r) _ (rule-word t o r b ∙ h)) (λ e. same-view-refl t o stored)
+
+  -- a stranger's rule chooses strangers' lists alone
+  chooses-none : (q : ℕ → Bool) (s : List ℕ) (l r : ℕ) → l < lists t → r < rules t → stranger o (listOwner t l) ≡ false → stranger o (ruleOwner t r) ≡ true → chooses t q s l r ≡ false
+  unfolding chooses
+  chooses-none q s l r b c h k =
+      and-one-false (evaluated t q s r) (eqb (choiceIn t s r) l) (λ e d.
+      let here : choiceIn t s r ≡ l = eqb-true _ _ d in
+      let cap : lists t ≤ 255 = f .counts .lists in
+      let some : eqb (choiceIn t s r) noList ≡ false = rw here (ne-eqb l noList (λ z. omega arith)) in
+      clash (rw (← choice-owned t s r (f .rule r c .owned) some, here) at k) h)
+
+  if-unseen : (c : ℕ → Bool) (l : ℕ) (x : Run) → l < lists t → stranger o (listOwner t l) ≡ true → Alike t o x (runIf t c l x)
+  if-unseen c l x b h =
+      split (c l) (λ e. rw (if-chosen t c l x e) (list-unseen t f o deepest l x b h)) (λ e. rw (if-not t c l x e) (alike-refl t o x))
+
+  -- The lists that are chosen, in the order that the table alone gives: both sides go through it in step.
+
+  if-alike : (c₁ c₂ : ℕ → Bool) (l : ℕ) (x y : Run) → l < lists t → (stranger o (listOwner t l) ≡ false → c₁ l ≡ c₂ l) → Alike t o x y → Alike t o (runIf t c₁ l x) (runIf t c₂ l y)
+  if-alike c₁ c₂ l x y b same a =
+      split (stranger o (listOwner t l))
+      (λ h. alike-around t o a (if-unseen c₁ l x b h) (if-unseen c₂ l y b h))
+      (λ h. split (c₁ l)
+      (λ e. rw (if-chosen t c₁ l x e, if-chosen t c₂ l y (sym (same h) ∙ e)) (list-follows t f o deepest l x y b h a))
+      (λ e. rw (if-not t c₁ l x e, if-not t c₂ l y (sym (same h) ∙ e)) a))
+
+  run-alike : (c₁ c₂ : ℕ → Bool) (ls : List ℕ) (x y : Run) → Each (λ l. l < lists t) ls → ((l : ℕ) → l < lists t → stranger o (listOwner t l) ≡ false → c₁ l ≡ c₂ l)
+      → Alike t o x y → Alike t o (runChosen t c₁ ls x) (runChosen t c₂ ls y)
+  unfolding runChosen
+  run-alike c₁ c₂ [] x y e same a = a
+  run-alike c₁ c₂ (l ∷ ls) x y e same a = run-alike c₁ c₂ ls _ _ (e .1) same (if-alike c₁ c₂ l x y (e .0) (same l (e .0)) a)
+
+  module _ (q₁ q₂ : ℕ → Bool) (agree : Agree t o q₁ q₂) {s₁ s₂ : List ℕ} (v : SameView t o s₁ s₂) where
+    unmark-alike : SameView t o (unmarkPorts t q₁ s₁) (unmarkPorts t q₂ s₂)
+    unfolding unmarkPorts unmarkPort
+    unmark-alike =
+        each-alike (SameView t o) (unmarkPort q₁) (unmarkPort q₂) 0 (ports t) _ _
+        (λ p x y a b w. split (stranger o (portOwner t p))
+        (λ h. view-around t o w (unmark-hidden q₁ p x (omega arith) h) (unmark-hidden q₂ p y (omega arith) h))
+        (λ h. rw (agree p (omega arith) h) (pick-both (SameView t o) (q₂ p) (λ e. write-alike t o p _ _ (λ k. rw (w .same p k)) w) (λ e. w)))) v
+
+    store-alike : SameView t o (storeResults t q₁ s₁) (storeResults t q₂ s₂)
+    unfolding storeResults storeResult setResult
+    store-alike =
+        each-alike (SameView t o) (storeResult t q₁ s₁) (storeResult t q₂ s₂) 0 (rules t) _ _
+        (λ r x y a b w. let there : r < rules t = omega arith in
+        split (stranger o (ruleOwner t r))
+        (λ h. view-around t o w (store-hidden q₁ s₁ r x there h) (store-hidden q₂ s₂ r y there h))
+        (λ h. rw (evaluated-alike t f o r there h v q₁ q₂ agree, result-alike t f o r there h v)
+        (pick-both (SameView t o) (evaluated t q₂ s₂ r) (λ e. write-alike t o (ruleIndex t r) _ _ (λ k. refl) w) (λ e. w)))) v
+
+    chosen-alike : (l : ℕ) → l < lists t → stranger o (listOwner t l) ≡ false → chosen t q₁ s₁ l ≡ chosen t q₂ s₂ l
+    unfolding chosen chooses
+    chosen-alike l b h =
+        any-same (chooses t q₁ s₁ l) (chooses t q₂ s₂ l) 0 (rules t)
+        (λ r a c. let there : r < rules t = omega arith in
+        split (stranger o (ruleOwner t r))
+        (λ k. chooses-none q₁ s₁ l r b there h k ∙ sym (chooses-none q₂ s₂ l r b there h k))
+        (λ k. rw (evaluated-alike t f o r there k v q₁ q₂ agree, choice-alike t f o r there k v)))
+
+    decide-alike : Alike t o (decide t q₁ s₁) (decide t q₂ s₂)
+    unfolding decide
+    decide-alike = run-alike _ _ (order t) _ _ (order-there t) chosen-alike (start-alike t o store-alike)
+
+  pub arbitrate-alike : (q₁ q₂ : ℕ → Bool) → Agree t o q₁ q₂ → {s₁ s₂ : List ℕ} → SameView t o s₁ s₂ → Alike t o (arbitrate t q₁ s₁) (arbitrate t q₂ s₂)
+  unfolding arbitrate
+  arbitrate-alike q₁ q₂ agree v = decide-alike q₁ q₂ agree (unmark-alike q₁ q₂ agree v)
+
+-- An arbitration of no port does nothing.
+
+unfoldable nothing : ℕ → Bool
+nothing p = false
+
+module _ (t : List ℕ) where
+  mentions-nothing : (d e : ℕ) → mentions d t nothing e ≡ false
+  unfolding mentions expressionMentions nothing
+  mentions-nothing zero e = refl
+  mentions-nothing (suc d) e =
+      split (operator t e) (λ op. rw (op, expressionMentions, mentions-nothing d (left t e), mentions-nothing d (right t e), and-false)) (λ op. rw (op, expressionMentions))
+
+  evaluated-nothing : (s : List ℕ) (r : ℕ) → evaluated t nothing s r ≡ false
+  unfolding evaluated
+  evaluated-nothing s r = rw (mentions-nothing deepest (ruleExpression t r), and-false)
+
+  chosen-nothing : (s : List ℕ) (l : ℕ) → chosen t nothing s l ≡ false
+  unfolding chosen chooses
+  chosen-nothing s l =
+      split (any 0 (rules t) (chooses t nothing s l))
+      (λ e. let r = any-some (chooses t nothing s l) 0 (rules t) e in clash (r .holds) (rw (evaluated-nothing s (r .at))))
+      (λ e. e)
+
+  run-nothing : (s : List ℕ) (ls : List ℕ) (x : Run) → runChosen t (chosen t nothing s) ls x ≡ x
+  unfolding runChosen
+  run-nothing s [] x = refl
+  run-nothing s (l ∷ ls) x = rw (if-not t (chosen t nothing s) l x (chosen-nothing s l)) (run-nothing s ls x)
+
+  arbitrate-nothing : (s : List ℕ) → arbitrate t nothing s ≡ start s
+  unfolding arbitrate decide unmarkPorts unmarkPort storeResults storeResult nothing
+  arbitrate-nothing s =
+      run-nothing _ (order t) _
+      ∙ ap start (each-keeps (λ x. x ≡ unmarkPorts t nothing s) (storeResult t nothing (unmarkPorts t nothing s)) 0 (rules t) _
+      (λ r x a b e. rw (evaluated-nothing (unmarkPorts t nothing s) r) e) refl
+      ∙ each-keeps (λ x. x ≡ s) (unmarkPort nothing) 0 (ports t) s (λ p x a b e. e) refl)
+
+-- an arbitration of strangers' ports alone
+pub arbitrate-hidden : (t : List ℕ) (f : Facts t) (o : ℕ) (q : ℕ → Bool) → ((p : ℕ) → p < ports t → stranger o (portOwner t p) ≡ false → q p ≡ false) → (s : List ℕ)
+    → Alike t o (start s) (arbitrate t q s)
+unfolding nothing
+arbitrate-hidden t f o q h s =
+    rw (← arbitrate-nothing t s) (arbitrate-alike t f o nothing q (λ p b k. sym (h p b k)) (same-view-refl t o s))
