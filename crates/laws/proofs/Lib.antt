@@ -14,3 +14,5 @@ pub mod Deep
 pub mod Cost
 pub mod Fit
 pub mod FitKept
+pub mod Happen
+pub mod FitEvents
