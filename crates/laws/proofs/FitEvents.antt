@@ -38,7 +38,8 @@ may-show t p h =
       there = ltb-true _ _ (part-of _ (λ e. rw (mayShow, e) at h));
       mode = eqb-true _ _ (part-of _ (λ e. rw (mayShow, e, and-false) at h));
       late = eqb-true _ _ (part-of _ (λ e. rw (mayShow, e, and-false) at h));
-      bare = eqb-true _ _ (part-of _ (λ e. rw (mayShow, e, and-false) at h)) }
+      bare = eqb-true _ _ (part-of _ (λ e. rw (mayShow, e, and-false) at h));
+    }
 
 show-fits : (t s : List ℕ) (p v : ℕ) → mayShow t p ≡ true → v < 256 → Fits t s → Fits t (setPort p 1 v 0 s)
 unfolding setPort
@@ -85,10 +86,10 @@ module _ (t : List ℕ) (f : Facts t) where
       let o = source-in t s h k b in
       split (eqb (statusIn t k s) statusPending)
       (λ e. let p = o .pending (eqb-true _ _ e) in let r₁₆ = o .remaining₁₆ in
-        split (leb (remainingIn s (sourceIndex t k)) 1)
-        (λ d. rw (e, d) (move-source-fits k _ _ s b (idle-ok k statusExpired (omega arith) (λ z. omega arith)) h))
-        (λ d. let m : 1 < remainingIn s (sourceIndex t k) = leb-false _ _ d in
-          rw (e, d) (move-source-fits k _ _ s b (record { status₂ = omega arith; remaining₁₆ = omega arith; pending = λ z. (omega arith, omega arith); rest = λ z. absurd (z refl) }) h)))
+      split (leb (remainingIn s (sourceIndex t k)) 1)
+      (λ d. rw (e, d) (move-source-fits k _ _ s b (idle-ok k statusExpired (omega arith) (λ z. omega arith)) h))
+      (λ d. let m : 1 < remainingIn s (sourceIndex t k) = leb-false _ _ d in
+      rw (e, d) (move-source-fits k _ _ s b (record { status₂ = omega arith; remaining₁₆ = omega arith; pending = λ z. (omega arith, omega arith); rest = λ z. absurd (z refl) }) h)))
       (λ e. rw e h)
 
   -- Networks.
@@ -139,13 +140,13 @@ module _ (t : List ℕ) (f : Facts t) where
       let e₁ = f .waits n b .eticks in let k₈ = o .counter₈ in
       split (eqb (c .state) stateRecover)
       (λ e. let p = o .recover (eqb-true _ _ e) in let k₁ = o .counted (eqb-true _ _ e) in
-        split (leb (c .remaining) 1) (λ d. rw (e, d) (checking-ok n (c .counter) (eTicks t n) c o (o .counter₈) (omega arith) (omega arith)))
-        (λ d. let m : 1 < c .remaining = leb-false _ _ d in rw (e, d) (recovering-ok n (c .counter) (c .remaining - 1) c o (o .counter₈) (omega arith) (omega arith) (omega arith))))
+      split (leb (c .remaining) 1) (λ d. rw (e, d) (checking-ok n (c .counter) (eTicks t n) c o (o .counter₈) (omega arith) (omega arith)))
+      (λ d. let m : 1 < c .remaining = leb-false _ _ d in rw (e, d) (recovering-ok n (c .counter) (c .remaining - 1) c o (o .counter₈) (omega arith) (omega arith) (omega arith))))
       (λ e. split (eqb (c .state) stateCheck)
-        (λ g. let p = o .check (eqb-true _ _ g) in
-          split (leb (c .remaining) 1) (λ d. rw (e, g, d) (resting-ok n stateFull c o (omega arith) (λ z. omega arith) (λ z. omega arith)))
-          (λ d. let m : 1 < c .remaining = leb-false _ _ d in rw (e, g, d) (checking-ok n (c .counter) (c .remaining - 1) c o (o .counter₈) (omega arith) (omega arith))))
-        (λ g. rw (e, g) o))
+      (λ g. let p = o .check (eqb-true _ _ g) in
+      split (leb (c .remaining) 1) (λ d. rw (e, g, d) (resting-ok n stateFull c o (omega arith) (λ z. omega arith) (λ z. omega arith)))
+      (λ d. let m : 1 < c .remaining = leb-false _ _ d in rw (e, g, d) (checking-ok n (c .counter) (c .remaining - 1) c o (o .counter₈) (omega arith) (omega arith))))
+      (λ g. rw (e, g) o))
 
   ticked-ok : (n : ℕ) (c : Network) → n < networks t → NetworkOk t n c → NetworkOk t n (tickedNetwork t n c)
   unfolding tickedNetwork
@@ -168,12 +169,12 @@ module _ (t : List ℕ) (f : Facts t) where
       let o = port-in t s h p b in
       split (eqb (portKind t p) kindTimer && eqb (valueOf (word s p)) timerStarted)
       (λ e. let k = eqb-true _ _ (and-left _ (eqb (valueOf (word s p)) timerStarted) e) in
-        let v = eqb-true _ _ (and-right (eqb (portKind t p) kindTimer) _ e) in
-        let r = o .started k v in let d₁ = timer-deferred t p (f .port p b) k in
-        split (leb (remainingIn s p) 1)
-        (λ d. rw (e, d) (port-put t s h p 1 1 timerExpired 0 b (timer-ok t p 1 timerExpired 0 k d₁ (omega arith) (omega arith) (omega arith) (λ z. absurd (omega arith)) (λ z. refl))))
-        (λ d. let m : 1 < remainingIn s p = leb-false _ _ d in
-          rw (e, d) (port-put t s h p 1 _ timerStarted _ b (timer-ok t p _ timerStarted _ k d₁ (o .marked₂) (omega arith) (omega arith) (λ z. omega arith) (λ z. absurd (z refl))))))
+      let v = eqb-true _ _ (and-right (eqb (portKind t p) kindTimer) _ e) in
+      let r = o .started k v in let d₁ = timer-deferred t p (f .port p b) k in
+      split (leb (remainingIn s p) 1)
+      (λ d. rw (e, d) (port-put t s h p 1 1 timerExpired 0 b (timer-ok t p 1 timerExpired 0 k d₁ (omega arith) (omega arith) (omega arith) (λ z. absurd (omega arith)) (λ z. refl))))
+      (λ d. let m : 1 < remainingIn s p = leb-false _ _ d in
+      rw (e, d) (port-put t s h p 1 _ timerStarted _ b (timer-ok t p _ timerStarted _ k d₁ (o .marked₂) (omega arith) (omega arith) (λ z. omega arith) (λ z. absurd (z refl))))))
       (λ e. rw e h)
 
   pub things-fit : (s : List ℕ) → Fits t s → Fits t (tickThings t s)

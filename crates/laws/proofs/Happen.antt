@@ -17,14 +17,14 @@ use Rattle.rulebook.specs.Step.{wellFormed, named, present, suited, known, sent
 use Rattle.laws.proofs.Tests.{split, clash, part-of, and-left, and-right, implies-elim, or-elim}
 
 pub happen-cases : (P : Run → Type 0) (t : List ℕ) (e : ℕ) (s : List ℕ)
-  → (eventKind e ≡ tickKind → P (tick t s))
-  → (eventKind e ≡ modeKind → P (request t (eventIndex e) (eventValue e) s))
-  → (eventKind e ≡ requestKind → P (request t (eventIndex e) 1 s))
-  → (eventKind e ≡ wakeupKind → P (start (wake t (eventIndex e) s)))
-  → (eventKind e ≡ validKind → P (start (validate t (eventIndex e) s)))
-  → (eventKind e ≡ busOffKind → P (start (busOff t (eventIndex e) s)))
-  → ((eventKind e ≤ busOffKind → ⊥) → P (start (clear t (eventIndex e) s)))
-  → P (happen t e s)
+    → (eventKind e ≡ tickKind → P (tick t s))
+    → (eventKind e ≡ modeKind → P (request t (eventIndex e) (eventValue e) s))
+    → (eventKind e ≡ requestKind → P (request t (eventIndex e) 1 s))
+    → (eventKind e ≡ wakeupKind → P (start (wake t (eventIndex e) s)))
+    → (eventKind e ≡ validKind → P (start (validate t (eventIndex e) s)))
+    → (eventKind e ≡ busOffKind → P (start (busOff t (eventIndex e) s)))
+    → ((eventKind e ≤ busOffKind → ⊥) → P (start (clear t (eventIndex e) s)))
+    → P (happen t e s)
 unfolding happen
 happen-cases P t e s f₀ f₁ f₂ f₃ f₄ f₅ f₆ =
     split (eqb (eventKind e) tickKind) (λ a. rw a (f₀ (eqb-true _ _ a)))
@@ -34,9 +34,9 @@ happen-cases P t e s f₀ f₁ f₂ f₃ f₄ f₅ f₆ =
     (λ d. split (eqb (eventKind e) validKind) (λ g. rw (a, b, c, d, g) (f₄ (eqb-true _ _ g)))
     (λ g. split (eqb (eventKind e) busOffKind) (λ h. rw (a, b, c, d, g, h) (f₅ (eqb-true _ _ h)))
     (λ h. rw (a, b, c, d, g, h) (f₆ (λ le.
-      let n₀ = eqb-false _ _ a in let n₁ = eqb-false _ _ b in let n₂ = eqb-false _ _ c in
-      let n₃ = eqb-false _ _ d in let n₄ = eqb-false _ _ g in let n₅ = eqb-false _ _ h in
-      none-left (eventKind e) n₀ n₁ n₂ n₃ n₄ n₅ le))))))))
+    let n₀ = eqb-false _ _ a in let n₁ = eqb-false _ _ b in let n₂ = eqb-false _ _ c in
+    let n₃ = eqb-false _ _ d in let n₄ = eqb-false _ _ g in let n₅ = eqb-false _ _ h in
+    none-left (eventKind e) n₀ n₁ n₂ n₃ n₄ n₅ le))))))))
   where
     none-left : (k : ℕ) → (k ≡ 0 → ⊥) → (k ≡ 1 → ⊥) → (k ≡ 2 → ⊥) → (k ≡ 3 → ⊥) → (k ≡ 4 → ⊥) → (k ≡ 5 → ⊥) → k ≤ 5 → ⊥
     none-left k a b c d g h le = omega arith
@@ -53,9 +53,9 @@ unfolding refusedEvent
 taken-event t e h =
     split (wellFormed e)
     (λ a. split (known t e)
-      (λ b. split (sentByOwner t e) (λ c. record { wellFormed = a; known = b; owner = c })
-        (λ c. let z : 6 ≡ 0 = rw (a, b, c) at h in absurd (omega arith)))
-      (λ b. let z : 5 ≡ 0 = rw (a, b) at h in absurd (omega arith)))
+    (λ b. split (sentByOwner t e) (λ c. record { wellFormed = a; known = b; owner = c })
+    (λ c. let z : 6 ≡ 0 = rw (a, b, c) at h in absurd (omega arith)))
+    (λ b. let z : 5 ≡ 0 = rw (a, b) at h in absurd (omega arith)))
     (λ a. let z : 4 ≡ 0 = rw a at h in absurd (omega arith))
 
 module _ (t : List ℕ) (e : ℕ) (w : Taken t e) where

@@ -16,3 +16,4 @@ pub mod Fit
 pub mod FitKept
 pub mod Happen
 pub mod FitEvents
+pub mod Steps
