@@ -17,3 +17,4 @@ pub mod FitKept
 pub mod Happen
 pub mod FitEvents
 pub mod Steps
+pub mod Chains

@@ -18,7 +18,8 @@ use Rattle.laws.proofs.Tests.{split}
 use Rattle.laws.proofs.Walks.{each-keeps}
 use Rattle.laws.proofs.Items.{clear-there, start-there, stop-there, ask-there, list-there, rule-there, mode-small, port-there, kind-is, result-small, choice-there}
 use Rattle.laws.proofs.Cases.{item-list, item-rule, item-act, item-cases, rule-unready, rule-ready, choice-none, choice-some, if-chosen, if-not}
-use Rattle.laws.proofs.Order.{Each, order-there}
+use Rattle.laws.specs.Sequence.{Each}
+use Rattle.laws.proofs.Order.{order-there}
 
 -- item i stands in list l
 pub record Within (t : List ℕ) (l i : ℕ) : Type 0 where
