@@ -1,1 +1,3 @@
 -- The theorems of demand 3.
+pub mod Holders
+pub mod Arbitrated
