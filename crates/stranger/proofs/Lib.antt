@@ -1,3 +1,4 @@
 -- The theorems of demand 3.
 pub mod Holders
 pub mod Arbitrated
+pub mod Asked

@@ -1,2 +1,3 @@
 -- Demand 3's words: calls and runs, the view of an operator, what is taken, shown, settled.
 pub mod Calls
+pub mod Demand
