@@ -4,11 +4,12 @@ use mathlib.Core.Bool.{Bool, true, false}
 use mathlib.Core.List.{List}
 use Prim.Native.Nat.{ℕ}
 use lib.Dec.{eqb}
-use borrow.Author.Tests.{eqb-true}
-use Rattle.rulebook.specs.Table.{noList, itemKind, itemA, kindList, kindRule}
+use borrow.Author.Tests.{eqb-true, eqb-false}
+use Rattle.rulebook.specs.Words.{word}
+use Rattle.rulebook.specs.Table.{reload, noList, itemKind, itemA, itemB, kindClear, kindStart, kindStop, kindAsk, kindList, kindRule}
 use Rattle.rulebook.specs.Expressions.{deepest}
-use Rattle.rulebook.specs.State.{undefinedResult}
-use Rattle.rulebook.specs.Lists.{Run, emit, traceWord, act, unready, choiceIn, judge, runChoice, runRule, runItem, runList}
+use Rattle.rulebook.specs.State.{markedOf, timerStopped, timerStarted, undefinedResult}
+use Rattle.rulebook.specs.Lists.{Run, emit, traceWord, setPort, networkIn, asking, setNetwork, effect, act, unready, choiceIn, judge, runChoice, runRule, runItem, runList}
 use Rattle.rulebook.specs.Arbitration.{runIf}
 use Rattle.laws.proofs.Tests.{split}
 
@@ -56,3 +57,19 @@ if-chosen t c l x h = rw (h, runIf)
 pub if-not : (t : List ℕ) (c : ℕ → Bool) (l : ℕ) (x : Run) → c l ≡ false → runIf t c l x ≡ x
 unfolding runIf
 if-not t c l x h = rw (h, runIf)
+
+-- what an item of kind 0 to 4 does, kind by kind
+pub effect-cases : (P : List ℕ → Type 0) (t : List ℕ) (i : ℕ) (s : List ℕ)
+  → (itemKind t i ≡ kindClear → P (setPort (itemA t i) (markedOf (word s (itemA t i))) 0 0 s))
+  → (itemKind t i ≡ kindStart → P (setPort (itemA t i) 1 timerStarted (reload t (itemA t i)) s))
+  → (itemKind t i ≡ kindStop → P (setPort (itemA t i) 1 timerStopped 0 s))
+  → (itemKind t i ≡ kindAsk → P (setNetwork t (itemA t i) (asking (itemB t i) (networkIn t (itemA t i) s)) s))
+  → ((itemKind t i ≡ kindAsk → ⊥) → P s)
+  → P (effect t i s)
+unfolding effect
+effect-cases P t i s f₁ f₂ f₃ f₄ f₅ =
+    split (eqb (itemKind t i) kindClear) (λ a. rw a (f₁ (eqb-true _ _ a)))
+    (λ a. split (eqb (itemKind t i) kindStart) (λ b. rw (a, b) (f₂ (eqb-true _ _ b)))
+    (λ b. split (eqb (itemKind t i) kindStop) (λ c. rw (a, b, c) (f₃ (eqb-true _ _ c)))
+    (λ c. split (eqb (itemKind t i) kindAsk) (λ d. rw (a, b, c, d) (f₄ (eqb-true _ _ d)))
+    (λ d. rw (a, b, c, d) (f₅ (eqb-false _ _ d))))))

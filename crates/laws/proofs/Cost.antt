@@ -16,7 +16,8 @@ use Rattle.laws.specs.Facts.{Facts}
 use Rattle.laws.proofs.Tests.{split, clash}
 use Rattle.laws.proofs.Cases.{item-list, item-rule, item-act, item-cases, rule-unready, rule-ready, choice-none, choice-some, if-chosen, if-not}
 use Rattle.laws.proofs.Nesting.{nests-list, nests-rule, nests-choice, within-there, within-item, cost-list, cost-rule, cost-act, rule-costs, cost-choice, cost-there}
-use Rattle.laws.proofs.Order.{Each, order-there, sumOver, order-sum}
+use Rattle.laws.specs.Sequence.{Each}
+use Rattle.laws.proofs.Order.{order-there, sumOver, order-sum}
 
 abbrev pub written : Run → ℕ
 written x = length (x .words)

@@ -14,7 +14,8 @@ use Rattle.laws.proofs.Tests.{split, clash}
 use Rattle.laws.proofs.Walks.{each-keeps}
 use Rattle.laws.proofs.Cases.{item-list, item-rule, item-act, item-cases, rule-unready, rule-ready, choice-none, choice-some, if-chosen, if-not}
 use Rattle.laws.proofs.Nesting.{nests-list, nests-rule, nests-choice, within-item}
-use Rattle.laws.proofs.Order.{Each, order-there}
+use Rattle.laws.specs.Sequence.{Each}
+use Rattle.laws.proofs.Order.{order-there}
 
 module _ (t : List ℕ) (fits : ℕ → Bool) (below : ℕ → Run → Run) (shallow : (l : ℕ) (x : Run) → fits l ≡ true → below l x .deep ≡ x .deep) (o : ℕ) where
   rule-shallow : (r : ℕ) (x : Run) → ruleNests t fits r ≡ true → runRule below t o r x .deep ≡ x .deep

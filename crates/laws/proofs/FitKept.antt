@@ -98,7 +98,7 @@ timer-ok t p m v r k d small v₂ r₁ on off =
 
 -- Arbitration's writes.
 
-fit-kept : (t : List ℕ) → Facts t → KeptByWrites t (Fits t)
+pub fit-kept : (t : List ℕ) → Facts t → KeptByWrites t (Fits t)
 unfolding setPort
 fit-kept t f =
     record {

@@ -14,3 +14,7 @@ pub mod Deep
 pub mod Cost
 pub mod Fit
 pub mod FitKept
+pub mod Happen
+pub mod FitEvents
+pub mod Steps
+pub mod Chains

@@ -11,14 +11,10 @@ use borrow.Author.Tests.{eqb-true, eqb-false, eq-eqb, ne-eqb, lt-ltb, le-ltb, lt
 use Rattle.rulebook.specs.Words.{digit, sum}
 use Rattle.rulebook.specs.Table.{lists, priority}
 use Rattle.rulebook.specs.Arbitration.{ofPriority, orderBelow, order}
+use Rattle.laws.specs.Sequence.{Before, Each, InOrder, times}
 use Rattle.laws.proofs.Tests.{split, clash}
-use Rattle.laws.proofs.Walks.{sum-same}
+use Rattle.laws.proofs.Walks.{here-or-later, sum-same}
 use Rattle.laws.proofs.Fields.{digit-small}
-
--- P holds of each member
-abbrev pub Each : (ℕ → Type 0) → List ℕ → Type 0
-Each P [] = Unit {0}
-Each P (x ∷ xs) = P x × Each P xs
 
 pub each-both : (P : ℕ → Type 0) (xs ys : List ℕ) → Each P xs → Each P ys → Each P (xs ++ ys)
 each-both P [] ys a b = b
@@ -128,3 +124,59 @@ unfolding order onlyBelow
 order-sum t f =
     below-sum t f 256
     ∙ sum-same (onlyBelow t f 256) f 0 (lists t) (λ j a b. rw (lt-ltb (priority t j) 256 (digit-small _ 256 _ (omega arith))))
+
+-- each list once
+
+is : ℕ → ℕ → ℕ
+is x y = cond (eqb x y) 1 0
+
+times-sum : (x : ℕ) (ys : List ℕ) → times x ys ≡ sumOver (is x) ys
+unfolding times sumOver is
+times-sum x [] = refl
+times-sum x (y ∷ ys) = ap (λ (n : ℕ). cond (eqb x y) 1 0 + n) (times-sum x ys)
+
+none-of : (x i n : ℕ) → x < i → sum i n (is x) ≡ 0
+unfolding sum is
+none-of x i zero h = refl
+none-of x i (suc n) h = let e : sum (suc i) n (is x) ≡ 0 = none-of x (suc i) n (omega arith) in rw (ne-eqb x i (λ z. omega arith), e)
+
+one-of : (x i n : ℕ) → i ≤ x → x < i + n → sum i n (is x) ≡ 1
+unfolding sum is
+one-of x i zero a b = absurd (omega arith)
+one-of x i (suc n) a b =
+    here-or-later i n x a b (λ e. let z : sum (suc i) n (is x) ≡ 0 = none-of x (suc i) n (omega arith) in rw (eq-eqb x i e, z))
+    (λ c d. let z : sum (suc i) n (is x) ≡ 1 = one-of x (suc i) n c d in rw (ne-eqb x i (λ y. omega arith), z))
+
+pub once : (t : List ℕ) (l : ℕ) → l < lists t → times l (order t) ≡ 1
+once t l h = times-sum l (order t) ∙ order-sum t (is l) ∙ one-of l 0 (lists t) (omega arith) (omega arith)
+
+-- in order
+
+all-before : (t : List ℕ) (xs ys : List ℕ) → Each (λ x. Each (Before t x) ys) xs → InOrder t xs → InOrder t ys → InOrder t (xs ++ ys)
+all-before t [] ys a b c = c
+all-before t (x ∷ xs) ys a b c = (each-both (Before t x) xs ys (b .0) (a .0), all-before t xs ys (a .1) (b .1) c)
+
+priority-in-order : (t : List ℕ) (k l n : ℕ) → InOrder t (ofPriority t k l n)
+unfolding ofPriority
+priority-in-order t k l zero = tt
+priority-in-order t k l (suc n) =
+    split (eqb (priority t l) k)
+    (λ e. rw (e, ofPriority) (
+      each-weaker (OfPriority t k (suc l) n) _ (ofPriority t k (suc l) n) (λ x o. inr (eqb-true _ _ e ∙ sym (o .priority), o .from)) (of-priority t k (suc l) n),
+      priority-in-order t k (suc l) n,
+    ))
+    (λ e. rw (e, ofPriority) (priority-in-order t k (suc l) n))
+
+below-in-order : (t : List ℕ) (k : ℕ) → InOrder t (orderBelow k t)
+unfolding orderBelow
+below-in-order t zero = tt
+below-in-order t (suc k) =
+    all-before t (ofPriority t k 0 (lists t)) (orderBelow k t)
+    (each-weaker (OfPriority t k 0 (lists t)) _ (ofPriority t k 0 (lists t))
+    (λ x o. each-weaker (PriorityBelow t k) _ (orderBelow k t) (λ y u. inl (let a : priority t x ≡ k = o .priority in let b : priority t y < k = u .priority in omega arith)) (order-below t k))
+    (of-priority t k 0 (lists t)))
+    (priority-in-order t k 0 (lists t)) (below-in-order t k)
+
+pub in-order : (t : List ℕ) → InOrder t (order t)
+unfolding order
+in-order t = below-in-order t 256

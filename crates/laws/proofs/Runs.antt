@@ -17,8 +17,9 @@ use Rattle.laws.specs.Facts.{RuleFacts, ListFacts, Facts}
 use Rattle.laws.proofs.Tests.{split}
 use Rattle.laws.proofs.Walks.{each-keeps}
 use Rattle.laws.proofs.Items.{clear-there, start-there, stop-there, ask-there, list-there, rule-there, mode-small, port-there, kind-is, result-small, choice-there}
-use Rattle.laws.proofs.Cases.{item-list, item-rule, item-act, item-cases, rule-unready, rule-ready, choice-none, choice-some, if-chosen, if-not}
-use Rattle.laws.proofs.Order.{Each, order-there}
+use Rattle.laws.proofs.Cases.{item-list, item-rule, item-act, item-cases, rule-unready, rule-ready, choice-none, choice-some, if-chosen, if-not, effect-cases}
+use Rattle.laws.specs.Sequence.{Each}
+use Rattle.laws.proofs.Order.{order-there}
 
 -- item i stands in list l
 pub record Within (t : List ℕ) (l i : ℕ) : Type 0 where
@@ -93,21 +94,15 @@ pub record KeptByWrites (t : List ℕ) (P : List ℕ → Type 0) : Type 0 where
   pub unmark : (p : ℕ) (s : List ℕ) → p < ports t → P s → P (set s p (unmarked (word s p)))
 
 module _ (t : List ℕ) (f : Facts t) (P : List ℕ → Type 0) (k : KeptByWrites t P) where
-  effect-keeps : (i : ℕ) (s : List ℕ) → i < items t → P s → P (effect t i s)
-  unfolding effect
+  pub effect-keeps : (i : ℕ) (s : List ℕ) → i < items t → P s → P (effect t i s)
   effect-keeps i s h q =
-      split (eqb (itemKind t i) kindClear)
-      (λ e. let there = clear-there t i (f .item i h .1) (eqb-true _ _ e) in
-      rw e (k .clear (itemA t i) s (port-there t kindEvent (itemA t i) there) (kind-is t kindEvent (itemA t i) there) q))
-      (λ e. split (eqb (itemKind t i) kindStart)
-      (λ e₁. let there = start-there t i (f .item i h .1) (eqb-true _ _ e₁) in
-      rw (e, e₁) (k .begin (itemA t i) s (port-there t kindTimer (itemA t i) there) (kind-is t kindTimer (itemA t i) there) q))
-      (λ e₁. split (eqb (itemKind t i) kindStop)
-      (λ e₂. let there = stop-there t i (f .item i h .1) (eqb-true _ _ e₂) in
-      rw (e, e₁, e₂) (k .stop (itemA t i) s (port-there t kindTimer (itemA t i) there) (kind-is t kindTimer (itemA t i) there) q))
-      (λ e₂. split (eqb (itemKind t i) kindAsk)
-      (λ e₃. rw (e, e₁, e₂, e₃) (k .ask (itemA t i) (itemB t i) s (ask-there t i (f .item i h .1) (eqb-true _ _ e₃)) (mode-small t i (f .item i h .0) (eqb-true _ _ e₃)) q))
-      (λ e₃. rw (e, e₁, e₂, e₃) q))))
+      let named = f .item i h .1 in
+      effect-cases P t i s
+      (λ e. let there = clear-there t i named e in k .clear (itemA t i) s (port-there t kindEvent (itemA t i) there) (kind-is t kindEvent (itemA t i) there) q)
+      (λ e. let there = start-there t i named e in k .begin (itemA t i) s (port-there t kindTimer (itemA t i) there) (kind-is t kindTimer (itemA t i) there) q)
+      (λ e. let there = stop-there t i named e in k .stop (itemA t i) s (port-there t kindTimer (itemA t i) there) (kind-is t kindTimer (itemA t i) there) q)
+      (λ e. k .ask (itemA t i) (itemB t i) s (ask-there t i named e) (mode-small t i (f .item i h .0) e) q)
+      (λ e. q)
 
   acts-keep : KeptByActs t (λ x. P (x .state))
   unfolding act judge
@@ -120,13 +115,13 @@ module _ (t : List ℕ) (f : Facts t) (P : List ℕ → Type 0) (k : KeptByWrite
         deep = λ x q. q;
       }
 
-  unmark-keeps : (q : ℕ → Bool) (s : List ℕ) → P s → P (unmarkPorts t q s)
+  pub unmark-keeps : (q : ℕ → Bool) (s : List ℕ) → P s → P (unmarkPorts t q s)
   unfolding unmarkPorts unmarkPort
   unmark-keeps q s h =
       each-keeps P (unmarkPort q) 0 (ports t) s
       (λ p x a b c. split (q p) (λ e. rw e (k .unmark p x (omega arith) c)) (λ e. rw e c)) h
 
-  store-keeps : (q : ℕ → Bool) (s : List ℕ) → P s → P (storeResults t q s)
+  pub store-keeps : (q : ℕ → Bool) (s : List ℕ) → P s → P (storeResults t q s)
   unfolding storeResults storeResult
   store-keeps q s h =
       each-keeps P (storeResult t q s) 0 (rules t) s

@@ -1,3 +1,4 @@
 -- What the laws say, where a statement needs words of its own.
 pub mod Acceptance
 pub mod Facts
+pub mod Sequence

@@ -7,7 +7,7 @@ use Prim.Native.Nat.{ℕ, _+_, _-_, _≤_, _<_, min}
 use native.Mathlib.Omega.{arith}
 use lib.ListN.{set}
 use lib.Dec.{leb, ltb, eqb}
-use borrow.Author.Tests.{ltb-true, eqb-true, ne-eqb}
+use borrow.Author.Tests.{ltb-true, eqb-true, eqb-false, ne-eqb}
 use Rattle.rulebook.specs.Words.{word, implies, each}
 use Rattle.rulebook.specs.Table.{ports, networks, sources, portKind, kindTimer, portOwner, deferred, networkOwner, networkPort, sourceOwner, sourcePort, timeout, platform, stranger}
 use Rattle.rulebook.specs.State.{networkIndex, sourceIndex, markedOf, valueOf, remainingOf, timerStarted, timerExpired, Network, networkOf, statusOf, statusNone, statusPending, statusValidated, statusExpired, Thing, aPort, aNetwork, aSource, ownerOf}
@@ -15,11 +15,11 @@ use Rattle.rulebook.specs.Reasons.{mayShow}
 use Rattle.rulebook.specs.Lists.{Run, start, setPort, setNetwork}
 use Rattle.rulebook.specs.Arbitration.{arbitrate}
 use Rattle.rulebook.specs.Events.{eventKind, eventOwner, eventIndex, eventValue, tickKind, modeKind, requestKind, wakeupKind, validKind, busOffKind, only, request, setSource, moveSource, wake, validate, clear, shown, moveNetwork, takes, offBus, busOff, tickedNetwork, tickNetwork, tickSource, tickTimer, tickThings, markedIn, arbitrateMarked, tick, happen}
-use Rattle.rulebook.specs.Step.{wellFormed, named, present, suited, known, sentByOwner, refusedEvent}
+use Rattle.rulebook.specs.Step.{wellFormed, named}
 use Rattle.laws.specs.Facts.{Facts, Shows}
 use Rattle.laws.proofs.Tests.{split, clash, part-of, and-left, and-right, implies-elim, or-elim}
 use Rattle.laws.proofs.Walks.{each-alike}
-use Rattle.laws.proofs.Deep.{arbitrate-shallow}
+use Rattle.laws.proofs.Happen.{Taken, owner-is, mode-index, request-index, bus-off-index, source-index}
 use Rattle.stranger.specs.View.{strangersWord, SameView}
 use Rattle.stranger.proofs.More.{pick, pick-both}
 use Rattle.stranger.proofs.View.{same-view-refl, same-view-trans, view-around, write-hidden, write-alike, port-word, network-word, source-word}
@@ -181,78 +181,32 @@ module _ (t : List ℕ) (f : Facts t) (o : ℕ) where
   unfolding tick
   tick-confined = record { hidden = λ h s. clash refl (no-platform o platform h); alike = λ h s₁ s₂ v. marked-alike _ _ (things-alike s₁ s₂ v) }
 
--- An event that is not refused names a thing that is there, and is its owner's; a tick is the platform's.
+-- An event that is not refused is its thing's owner's; a tick is the platform's.
 
-module _ (t : List ℕ) (e : ℕ) (h : refusedEvent t e ≡ 0) where
-  formed : wellFormed e ≡ true
-  unfolding refusedEvent
-  formed = split (wellFormed e) (λ d. d) (λ d. let z : 4 ≡ 0 = rw d at h in absurd (omega arith))
-
-  is-known : known t e ≡ true
-  unfolding refusedEvent
-  is-known = split (known t e) (λ d. d) (λ d. let z : 5 ≡ 0 = rw (formed, d) at h in absurd (omega arith))
-
-  is-sent : sentByOwner t e ≡ true
-  unfolding refusedEvent
-  is-sent = split (sentByOwner t e) (λ d. d) (λ d. let z : 6 ≡ 0 = rw (formed, is-known, d) at h in absurd (omega arith))
-
+module _ (t : List ℕ) (e : ℕ) (w : Taken t e) where
   tick-owner : eqb (eventKind e) tickKind ≡ true → eventOwner e ≡ platform
   unfolding wellFormed
   tick-owner k =
       eqb-true _ _ (and-left _ (eqb (eventIndex e) 0)
-      (implies-elim (eqb (eventKind e) tickKind) _ (part-of _ (λ d. rw (wellFormed, d, and-false) at formed)) k))
+      (implies-elim (eqb (eventKind e) tickKind) _ (part-of _ (λ d. rw (wellFormed, d, and-false) at (w .wellFormed))) k))
 
-  module _ (k : eqb (eventKind e) tickKind ≡ false) where
-    is-there : present t (named e) ≡ true
-    unfolding known
-    is-there = and-left _ (suited t e) (rw (known, k) at is-known)
+  thing-owner : (x : Thing) → eqb (eventKind e) tickKind ≡ false → named e ≡ x → eventOwner e ≡ ownerOf t x
+  thing-owner x k d = rw (← d) (owner-is t e w (eqb-false _ _ k))
 
-    is-owned : eventOwner e ≡ ownerOf t (named e)
-    unfolding sentByOwner
-    is-owned = eqb-true _ _ (rw (sentByOwner, k) at is-sent)
-
-    names-port : named e ≡ aPort (eventIndex e) → (eventIndex e < ports t) × (eventOwner e ≡ portOwner t (eventIndex e))
-    unfolding present ownerOf
-    names-port d = (ltb-true _ _ (rw d at is-there), rw d at is-owned)
-
-    names-network : named e ≡ aNetwork (eventIndex e) → (eventIndex e < networks t) × (eventOwner e ≡ networkOwner t (eventIndex e))
-    unfolding present ownerOf
-    names-network d = (ltb-true _ _ (rw d at is-there), rw d at is-owned)
-
-    names-source : named e ≡ aSource (eventIndex e) → (eventIndex e < sources t) × (eventOwner e ≡ sourceOwner t (eventIndex e))
-    unfolding present ownerOf
-    names-source d = (ltb-true _ _ (rw d at is-there), rw d at is-owned)
-
-pub happen-confined : (t : List ℕ) (f : Facts t) (o e : ℕ) → refusedEvent t e ≡ 0 → ConfinedRun t o (eventOwner e) (λ s. happen t e s)
-unfolding happen named
-happen-confined t f o e h =
-    split (eqb (eventKind e) tickKind) (λ d. rw (d, tick-owner t e h d) (tick-confined t f o))
+pub happen-confined : (t : List ℕ) (f : Facts t) (o e : ℕ) → Taken t e → ConfinedRun t o (eventOwner e) (λ s. happen t e s)
+unfolding happen named ownerOf
+happen-confined t f o e w =
+    split (eqb (eventKind e) tickKind) (λ d. rw (d, tick-owner t e w d) (tick-confined t f o))
     (λ k. split (eqb (eventKind e) modeKind)
-    (λ d. let n = names-port t e h k (rw d) in rw (k, d, n .1) (request-confined t f o (eventIndex e) (n .0) (eventValue e)))
+    (λ d. rw (k, d, thing-owner t e w (aPort (eventIndex e)) k (rw d)) (request-confined t f o (eventIndex e) (mode-index t e w (eqb-true _ _ d)) (eventValue e)))
     (λ d₁. split (eqb (eventKind e) requestKind)
-    (λ d. let n = names-port t e h k (rw (d₁, d)) in rw (k, d₁, d, n .1) (request-confined t f o (eventIndex e) (n .0) 1))
+    (λ d. rw (k, d₁, d, thing-owner t e w (aPort (eventIndex e)) k (rw (d₁, d))) (request-confined t f o (eventIndex e) (request-index t e w (eqb-true _ _ d)) 1))
     (λ d₂. split (eqb (eventKind e) busOffKind)
-    (λ d. let n = names-network t e h k (rw (d₁, d₂, d)) in let is : eventKind e ≡ busOffKind = eqb-true _ _ d in
-    rw (n .1, is) (quiet (bus-off t f o (eventIndex e) (n .0))))
-    (λ d₃. let n = names-source t e h k (rw (d₁, d₂, d₃)) in
-    split (eqb (eventKind e) wakeupKind) (λ d. rw (k, d₁, d₂, d, n .1) (quiet (wake-confined t f o (eventIndex e) (n .0))))
-    (λ d₄. split (eqb (eventKind e) validKind) (λ d. rw (k, d₁, d₂, d₄, d, n .1) (quiet (validate-confined t f o (eventIndex e) (n .0))))
-    (λ d₅. rw (k, d₁, d₂, d₄, d₅, d₃, n .1) (quiet (clear-confined t f o (eventIndex e) (n .0)))))))))
-
--- No event on an accepted table would start a list at an eighth level.
-
-abbrev Shallow : Run → Type 0
-Shallow x = x .deep ≡ false
-
-pub happen-shallow : (t : List ℕ) (f : Facts t) (e : ℕ) (s : List ℕ) → happen t e s .deep ≡ false
-unfolding happen tick arbitrateMarked request
-happen-shallow t f e s =
-    pick Shallow (eqb (eventKind e) tickKind) (λ d. arbitrate-shallow t f _ _)
-    (λ d. pick Shallow (eqb (eventKind e) modeKind) (λ d. requested (eventValue e))
-    (λ d. pick Shallow (eqb (eventKind e) requestKind) (λ d. requested 1)
-    (λ d. pick Shallow (eqb (eventKind e) wakeupKind) (λ d. refl)
-    (λ d. pick Shallow (eqb (eventKind e) validKind) (λ d. refl)
-    (λ d. pick Shallow (eqb (eventKind e) busOffKind) (λ d. refl) (λ d. refl))))))
-  where
-    requested : (value : ℕ) → request t (eventIndex e) value s .deep ≡ false
-    requested value = pick Shallow (eqb (deferred t (eventIndex e)) 1) (λ d. refl) (λ d. arbitrate-shallow t f _ _)
+    (λ d. let own : eventOwner e ≡ networkOwner t (eventIndex e) = thing-owner t e w (aNetwork (eventIndex e)) k (rw (d₁, d₂, d)) in
+    let is : eventKind e ≡ busOffKind = eqb-true _ _ d in
+    rw (own, is) (quiet (bus-off t f o (eventIndex e) (bus-off-index t e w is))))
+    (λ d₃. let own : eventOwner e ≡ sourceOwner t (eventIndex e) = thing-owner t e w (aSource (eventIndex e)) k (rw (d₁, d₂, d₃)) in
+    let there = source-index t e w (eqb-false _ _ k) (eqb-false _ _ d₁) (eqb-false _ _ d₂) (eqb-false _ _ d₃) in
+    split (eqb (eventKind e) wakeupKind) (λ d. rw (k, d₁, d₂, d, own) (quiet (wake-confined t f o (eventIndex e) there)))
+    (λ d₄. split (eqb (eventKind e) validKind) (λ d. rw (k, d₁, d₂, d₄, d, own) (quiet (validate-confined t f o (eventIndex e) there)))
+    (λ d₅. rw (k, d₁, d₂, d₄, d₅, d₃, own) (quiet (clear-confined t f o (eventIndex e) there))))))))

@@ -1,9 +1,13 @@
 -- The theorems of demand 3.
+pub mod Holders
+pub mod Arbitrated
+pub mod Asked
+pub mod More
 pub mod View
 pub mod Alike
-pub mod Evaluation
-pub mod More
 pub mod Owners
+pub mod Evaluation
 pub mod Lists
 pub mod Arbitration
 pub mod Events
+pub mod Strangers

@@ -46,6 +46,11 @@ unfoldable pub ownWords : ℕ → List ℕ → List ℕ
 ownWords o [] = []
 ownWords o (w ∷ ws) = elim (stranger o (traceOwner w)) [ true ↦ ownWords o ws | false ↦ w ∷ ownWords o ws ]
 
+-- What a stranger's call from s is to o: no state word of o or of the platform changes, no trace word of theirs is written.
+pub record Unseen (t : List ℕ) (o : ℕ) (s : List ℕ) (r : Result) : Type 0 where
+  pub state : SameView t o s (r .state)
+  pub words : ownWords o (r .words) ≡ []
+
 -- What o sees after a call: the answer, the state words and the trace words that are no stranger's.
 
 pub record Seen : Type 0 where

@@ -1,0 +1,204 @@
+-- States stay fit: each event keeps the fit, and the fresh state fits. Assumes nothing.
+use mathlib.Core.Path.{_≡_, refl, sym, _∙_, ap}
+use mathlib.Core.Bool.{Bool, true, false, cond, _&&_, _||_, not, and-false}
+use mathlib.Core.Logic.{⊎-elim}
+use mathlib.Core.List.{List}
+use Prim.Native.Nat.{ℕ, zero, suc, _+_, _-_, _≤_, _<_, min, max}
+use native.Mathlib.Omega.{arith}
+use lib.ListN.{length, set}
+use lib.Dec.{leb, ltb, eqb}
+use borrow.Author.Tests.{ltb-true, leb-true, leb-false, eqb-true, eqb-false, eq-eqb, ne-eqb}
+use Rattle.rulebook.specs.Words.{word, each}
+use Rattle.rulebook.specs.Table.{ports, networks, sources, rules, portKind, kindMode, kindEvent, kindTimer, deferred, hasInitial, initial, reload, networkPort, sourcePort, threshold, shortWait, longWait, eTicks, timeout, firstResult}
+use Rattle.rulebook.specs.Reasons.{mayShow}
+use Rattle.rulebook.specs.State.{sourceIndex, stateLength, Thing, aPort, aRule, aNetwork, aSource, thing, markedOf, valueOf, remainingOf, timerStarted, timerExpired, Network, networkOf, askedNone, askedSilent, askedFull, stateNone, stateSilent, stateCheck, stateFull, stateRecover, statusOf, statusNone, statusPending, statusValidated, statusExpired, packPort, packRule, portFits, thingFits, fits, freshPort, freshThing, freshAt, fresh}
+use Rattle.rulebook.specs.Lists.{Run, start, setPort, networkIn, setNetwork}
+use Rattle.rulebook.specs.Arbitration.{arbitrate}
+use Rattle.rulebook.specs.Events.{eventKind, eventIndex, eventValue, only, request, statusIn, setSource, moveSource, wake, validate, clear, shown, moved, moveNetwork, takes, wait, offBus, busOff, countedNetwork, tickedNetwork, tickNetwork, remainingIn, tickSource, tickTimer, tickThings, markedIn, arbitrateMarked, tick, happen}
+use Rattle.laws.specs.Facts.{Facts, Shows, Waits}
+use Rattle.laws.proofs.Tests.{split, clash, part-of, and-left, and-right, or-some}
+use Rattle.laws.proofs.Walks.{each-keeps}
+use Rattle.laws.proofs.Fields.{digit-small}
+use Rattle.laws.proofs.Fit.{PortOk, NetworkOk, SourceOk}
+use Rattle.laws.proofs.FitKept.{Fits, port-in, network-in, source-in, port-put, network-put, source-put, timer-deferred, plain-ok, timer-ok, arbitrate-fits}
+use Rattle.laws.proofs.Happen.{Taken, happen-cases, mode-index, mode-kind, request-index, request-kind, bus-off-index, source-index}
+
+-- The port of a network or a source.
+
+pub record MayShow (t : List ℕ) (p : ℕ) : Type 0 where
+  pub there : p < ports t
+  pub mode : portKind t p ≡ kindMode
+  pub late : deferred t p ≡ 1
+  pub bare : hasInitial t p ≡ 0
+
+pub may-show : (t : List ℕ) (p : ℕ) → mayShow t p ≡ true → MayShow t p
+unfolding mayShow
+may-show t p h =
+    record {
+      there = ltb-true _ _ (part-of _ (λ e. rw (mayShow, e) at h));
+      mode = eqb-true _ _ (part-of _ (λ e. rw (mayShow, e, and-false) at h));
+      late = eqb-true _ _ (part-of _ (λ e. rw (mayShow, e, and-false) at h));
+      bare = eqb-true _ _ (part-of _ (λ e. rw (mayShow, e, and-false) at h));
+    }
+
+show-fits : (t s : List ℕ) (p v : ℕ) → mayShow t p ≡ true → v < 256 → Fits t s → Fits t (setPort p 1 v 0 s)
+unfolding setPort
+show-fits t s p v m v₈ h =
+    let w = may-show t p m in
+    port-put t s h p 1 1 v 0 (w .there) (plain-ok t p 1 v (λ e. let k : portKind t p ≡ kindMode = w .mode in omega arith) (omega arith) (λ e. let d : deferred t p ≡ 1 = w .late in absurd (omega arith)) v₈ (λ e. let k : portKind t p ≡ kindMode = w .mode in absurd (omega arith)))
+
+module _ (t : List ℕ) (f : Facts t) where
+  -- Sources.
+
+  pub move-source-fits : (k status r : ℕ) (s : List ℕ) → k < sources t → SourceOk t k status r → Fits t s → Fits t (moveSource t k status r s)
+  unfolding moveSource setSource
+  move-source-fits k status r s b o h =
+      split (eqb status (statusIn t k s)) (λ e. rw e (source-put t s h k status r o))
+      (λ e. rw e (show-fits t _ (sourcePort t k) status (f .source k b .may) (let c : status < 4 = o .status₂ in omega arith) (source-put t s h k status r o)))
+
+  idle-ok : (k status : ℕ) → status < 4 → (status ≡ statusPending → ⊥) → SourceOk t k status 0
+  idle-ok k status b n = record { status₂ = b; remaining₁₆ = omega arith; pending = λ e. absurd (n e); rest = λ e. refl }
+
+  woken-ok : (k : ℕ) → SourceOk t k (cond (eqb (timeout t k) 0) statusValidated statusPending) (timeout t k)
+  woken-ok k =
+      let cap : timeout t k < 65536 = digit-small _ 65536 _ (omega arith) in
+      split (eqb (timeout t k) 0)
+      (λ e. let z : timeout t k ≡ 0 = eqb-true _ _ e in rw e (record { status₂ = omega arith; remaining₁₆ = cap; pending = λ a. absurd (omega arith); rest = λ a. z }))
+      (λ e. let z : (timeout t k ≡ 0 → ⊥) = eqb-false _ _ e in rw e (record { status₂ = omega arith; remaining₁₆ = cap; pending = λ a. (omega arith, omega arith); rest = λ a. absurd (a refl) }))
+
+  wake-fits : (k : ℕ) (s : List ℕ) → k < sources t → Fits t s → Fits t (wake t k s)
+  unfolding wake
+  wake-fits k s b h =
+      split (eqb (statusIn t k s) statusNone || eqb (statusIn t k s) statusExpired) (λ e. rw e (move-source-fits k _ _ s b (woken-ok k) h)) (λ e. rw e h)
+
+  validate-fits : (k : ℕ) (s : List ℕ) → k < sources t → Fits t s → Fits t (validate t k s)
+  unfolding validate
+  validate-fits k s b h =
+      split (eqb (statusIn t k s) statusPending) (λ e. rw e (move-source-fits k _ _ s b (idle-ok k statusValidated (omega arith) (λ z. omega arith)) h)) (λ e. rw e h)
+
+  clear-fits : (k : ℕ) (s : List ℕ) → k < sources t → Fits t s → Fits t (clear t k s)
+  unfolding clear
+  clear-fits k s b h = move-source-fits k _ _ s b (idle-ok k statusNone (omega arith) (λ z. omega arith)) h
+
+  tick-source-fits : (k : ℕ) (s : List ℕ) → k < sources t → Fits t s → Fits t (tickSource t k s)
+  unfolding tickSource
+  tick-source-fits k s b h =
+      let o = source-in t s h k b in
+      split (eqb (statusIn t k s) statusPending)
+      (λ e. let p = o .pending (eqb-true _ _ e) in let r₁₆ = o .remaining₁₆ in
+      split (leb (remainingIn s (sourceIndex t k)) 1)
+      (λ d. rw (e, d) (move-source-fits k _ _ s b (idle-ok k statusExpired (omega arith) (λ z. omega arith)) h))
+      (λ d. let m : 1 < remainingIn s (sourceIndex t k) = leb-false _ _ d in
+      rw (e, d) (move-source-fits k _ _ s b (record { status₂ = omega arith; remaining₁₆ = omega arith; pending = λ z. (omega arith, omega arith); rest = λ z. absurd (z refl) }) h)))
+      (λ e. rw e h)
+
+  -- Networks.
+
+  shown-small : (state : ℕ) → shown state < 256
+  unfolding shown
+  shown-small state =
+      split (eqb state stateNone) (λ a. rw a (omega arith))
+      (λ a. split (eqb state stateSilent) (λ b. rw (a, b) (omega arith))
+      (λ b. split (eqb state stateRecover) (λ c. rw (a, b, c) (omega arith)) (λ c. rw (a, b, c) (omega arith))))
+
+  pub move-network-fits : (n : ℕ) (c : Network) (s : List ℕ) → n < networks t → NetworkOk t n c → Fits t s → Fits t (moveNetwork t n c s)
+  unfolding moveNetwork
+  move-network-fits n c s b o h =
+      split (eqb (shown (c .state)) (shown (networkIn t n s .state))) (λ e. rw e (network-put t s h n c b o))
+      (λ e. rw e (show-fits t _ (networkPort t n) (shown (c .state)) (f .network n b .may) (shown-small (c .state)) (network-put t s h n c b o)))
+
+  -- at rest in none, silent or full
+  resting-ok : (n st : ℕ) (c : Network) → NetworkOk t n c → st ≤ stateRecover → (st ≡ stateCheck → ⊥) → (st ≡ stateRecover → ⊥) → NetworkOk t n (moved st 0 0 c)
+  resting-ok n st c o b x y =
+      record { counter₈ = omega arith; remaining₁₆ = omega arith; modes = o .modes; states = b; check = λ e. absurd (x e); recover = λ e. absurd (y e); rest = λ a d. (refl, refl); counted = λ e. absurd (y e) }
+
+  checking-ok : (n k r : ℕ) (c : Network) → NetworkOk t n c → k < 256 → 1 ≤ r → r ≤ eTicks t n → NetworkOk t n (moved stateCheck k r c)
+  checking-ok n k r c o b x y =
+      let cap : eTicks t n < 65536 = digit-small _ 65536 _ (omega arith) in
+      record { counter₈ = b; remaining₁₆ = omega arith; modes = o .modes; states = omega arith; check = λ e. (x, y); recover = λ e. absurd (omega arith); rest = λ a d. absurd (a refl); counted = λ e. absurd (omega arith) }
+
+  recovering-ok : (n k r : ℕ) (c : Network) → NetworkOk t n c → k < 256 → 1 ≤ k → 1 ≤ r → r ≤ max (shortWait t n) (longWait t n) → NetworkOk t n (moved stateRecover k r c)
+  recovering-ok n k r c o b z x y =
+      let short : shortWait t n < 256 = digit-small _ 256 _ (omega arith) in
+      let long : longWait t n < 256 = digit-small _ 256 _ (omega arith) in
+      record { counter₈ = b; remaining₁₆ = omega arith; modes = o .modes; states = omega arith; check = λ e. absurd (omega arith); recover = λ e. (x, y); rest = λ a d. absurd (d refl); counted = λ e. z }
+
+  off-bus-ok : (n k : ℕ) (c : Network) → n < networks t → NetworkOk t n c → k < 256 → 1 ≤ k → NetworkOk t n (offBus t n k c)
+  unfolding offBus wait
+  off-bus-ok n k c b o x y =
+      let w = f .waits n b in let s₁ = w .short in let l₁ = w .long in
+      split (leb k (threshold t n)) (λ e. rw e (recovering-ok n k (shortWait t n) c o x y (omega arith) (omega arith))) (λ e. rw e (recovering-ok n k (longWait t n) c o x y (omega arith) (omega arith)))
+
+  bus-off-fits : (n : ℕ) (s : List ℕ) → n < networks t → Fits t s → Fits t (busOff t n s)
+  unfolding busOff
+  bus-off-fits n s b h =
+      split (takes (networkIn t n s)) (λ e. rw e (move-network-fits n _ s b (off-bus-ok n _ _ b (network-in t s h n b) (omega arith) (omega arith)) h)) (λ e. rw e h)
+
+  counted-ok : (n : ℕ) (c : Network) → n < networks t → NetworkOk t n c → NetworkOk t n (countedNetwork t n c)
+  unfolding countedNetwork
+  counted-ok n c b o =
+      let e₁ = f .waits n b .eticks in let k₈ = o .counter₈ in
+      split (eqb (c .state) stateRecover)
+      (λ e. let p = o .recover (eqb-true _ _ e) in let k₁ = o .counted (eqb-true _ _ e) in
+      split (leb (c .remaining) 1) (λ d. rw (e, d) (checking-ok n (c .counter) (eTicks t n) c o (o .counter₈) (omega arith) (omega arith)))
+      (λ d. let m : 1 < c .remaining = leb-false _ _ d in rw (e, d) (recovering-ok n (c .counter) (c .remaining - 1) c o (o .counter₈) (omega arith) (omega arith) (omega arith))))
+      (λ e. split (eqb (c .state) stateCheck)
+      (λ g. let p = o .check (eqb-true _ _ g) in
+      split (leb (c .remaining) 1) (λ d. rw (e, g, d) (resting-ok n stateFull c o (omega arith) (λ z. omega arith) (λ z. omega arith)))
+      (λ d. let m : 1 < c .remaining = leb-false _ _ d in rw (e, g, d) (checking-ok n (c .counter) (c .remaining - 1) c o (o .counter₈) (omega arith) (omega arith))))
+      (λ g. rw (e, g) o))
+
+  ticked-ok : (n : ℕ) (c : Network) → n < networks t → NetworkOk t n c → NetworkOk t n (tickedNetwork t n c)
+  unfolding tickedNetwork
+  ticked-ok n c b o =
+      let e₁ = f .waits n b .eticks in
+      split (eqb (c .asked) askedNone) (λ x. rw x (resting-ok n stateNone c o (omega arith) (λ z. omega arith) (λ z. omega arith)))
+      (λ x. split (eqb (c .asked) askedSilent && not (eqb (c .state) stateNone)) (λ y. rw (x, y) (resting-ok n stateSilent c o (omega arith) (λ z. omega arith) (λ z. omega arith)))
+      (λ y. split (eqb (c .asked) askedFull && (eqb (c .state) stateNone || eqb (c .state) stateSilent)) (λ z. rw (x, y, z) (checking-ok n 0 (eTicks t n) c o (omega arith) (omega arith) (omega arith)))
+      (λ z. rw (x, y, z) (counted-ok n c b o))))
+
+  tick-network-fits : (n : ℕ) (s : List ℕ) → n < networks t → Fits t s → Fits t (tickNetwork t n s)
+  unfolding tickNetwork
+  tick-network-fits n s b h = move-network-fits n _ s b (ticked-ok n _ b (network-in t s h n b)) h
+
+  -- Timers, the tick, requests.
+
+  tick-timer-fits : (p : ℕ) (s : List ℕ) → p < ports t → Fits t s → Fits t (tickTimer t p s)
+  unfolding tickTimer setPort
+  tick-timer-fits p s b h =
+      let o = port-in t s h p b in
+      split (eqb (portKind t p) kindTimer && eqb (valueOf (word s p)) timerStarted)
+      (λ e. let k = eqb-true _ _ (and-left _ (eqb (valueOf (word s p)) timerStarted) e) in
+      let v = eqb-true _ _ (and-right (eqb (portKind t p) kindTimer) _ e) in
+      let r = o .started k v in let d₁ = timer-deferred t p (f .port p b) k in
+      split (leb (remainingIn s p) 1)
+      (λ d. rw (e, d) (port-put t s h p 1 1 timerExpired 0 b (timer-ok t p 1 timerExpired 0 k d₁ (omega arith) (omega arith) (omega arith) (λ z. absurd (omega arith)) (λ z. refl))))
+      (λ d. let m : 1 < remainingIn s p = leb-false _ _ d in
+      rw (e, d) (port-put t s h p 1 _ timerStarted _ b (timer-ok t p _ timerStarted _ k d₁ (o .marked₂) (omega arith) (omega arith) (λ z. omega arith) (λ z. absurd (z refl))))))
+      (λ e. rw e h)
+
+  pub things-fit : (s : List ℕ) → Fits t s → Fits t (tickThings t s)
+  unfolding tickThings
+  things-fit s h =
+      each-keeps (Fits t) (tickTimer t) 0 (ports t) _ (λ p x a b. tick-timer-fits p x (omega arith))
+      (each-keeps (Fits t) (tickSource t) 0 (sources t) _ (λ k x a b. tick-source-fits k x (omega arith))
+      (each-keeps (Fits t) (tickNetwork t) 0 (networks t) s (λ n x a b. tick-network-fits n x (omega arith)) h))
+
+  request-fits : (p v : ℕ) (s : List ℕ) → p < ports t → (portKind t p ≡ kindTimer → ⊥) → v < 256 → (portKind t p ≡ kindEvent → v ≤ 1) → Fits t s → Fits t (request t p v s .state)
+  unfolding request setPort
+  request-fits p v s b nt v₈ ev h =
+      split (eqb (deferred t p) 1)
+      (λ e. let d : deferred t p ≡ 1 = eqb-true _ _ e in rw e (port-put t s h p 1 1 v 0 b (plain-ok t p 1 v nt (omega arith) (λ z. absurd (omega arith)) v₈ ev)))
+      (λ e. rw e (arbitrate-fits t f (only p) _ (port-put t s h p 1 0 v 0 b (plain-ok t p 0 v nt (omega arith) (λ z. refl) v₈ ev))))
+
+  pub happen-fits : (e : ℕ) (s : List ℕ) → Taken t e → Fits t s → Fits t (happen t e s .state)
+  unfolding tick arbitrateMarked
+  happen-fits e s w h =
+      happen-cases (λ x. Fits t (x .state)) t e s
+      (λ k. arbitrate-fits t f _ _ (things-fit s h))
+      (λ k. let m = mode-kind t e w k in request-fits (eventIndex e) (eventValue e) s (mode-index t e w k) (λ z. omega arith) (digit-small _ 256 _ (omega arith)) (λ z. absurd (omega arith)) h)
+      (λ k. let m = request-kind t e w k in request-fits (eventIndex e) 1 s (request-index t e w k) (λ z. omega arith) (omega arith) (λ z. omega arith) h)
+      (λ k. wake-fits (eventIndex e) s (source-index t e w (λ z. omega arith) (λ z. omega arith) (λ z. omega arith) (λ z. omega arith)) h)
+      (λ k. validate-fits (eventIndex e) s (source-index t e w (λ z. omega arith) (λ z. omega arith) (λ z. omega arith) (λ z. omega arith)) h)
+      (λ k. bus-off-fits (eventIndex e) s (bus-off-index t e w k) h)
+      (λ k. clear-fits (eventIndex e) s (source-index t e w (λ z. k (omega arith)) (λ z. k (omega arith)) (λ z. k (omega arith)) (λ z. k (omega arith))) h)

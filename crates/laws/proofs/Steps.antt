@@ -1,0 +1,184 @@
+-- The step: what a refusal and a done call are, answer 7 never comes, the words are at most B, states stay fit. Assumes nothing.
+use mathlib.Core.Path.{_≡_, refl, sym, _∙_, ap}
+use mathlib.Core.Bool.{Bool, true, false, cond, _&&_, _||_, not, and-false}
+use mathlib.Core.Logic.{_⊎_, inl, inr}
+use mathlib.Core.List.{List, []}
+use Prim.Native.Nat.{ℕ, zero, suc, _+_, _-_, _≤_, _<_}
+use native.Mathlib.Omega.{arith}
+use native.Mathlib.Nat.{zero-add}
+use lib.ListN.{length}
+use lib.Dec.{leb, ltb, eqb}
+use borrow.Author.Tests.{ltb-true, ltb-false, leb-true, eqb-true, eqb-false, eq-eqb, ne-eqb, lt-ltb, not-true, not-false}
+use Rattle.rulebook.specs.Words.{word, implies, digit}
+use Rattle.rulebook.specs.Table.{ports, networks, sources, rules, portKind, kindMode, kindEvent, kindTimer, deferred, hasInitial, initial, firstResult}
+use Rattle.rulebook.specs.Reasons.{portFields, bound, accepted}
+use Rattle.rulebook.specs.State.{stateLength, Thing, aPort, aRule, aNetwork, aSource, thing, networkOf, packPort, packRule, portFits, ruleFits, networkFits, sourceFits, thingFits, fits, freshPort, freshThing, freshAt, fresh}
+use Rattle.rulebook.specs.Lists.{Run, start}
+use Rattle.rulebook.specs.Events.{request, tick, arbitrateMarked, happen}
+use Rattle.rulebook.specs.Step.{refusedState, refusedCall, wellFormed, known, sentByOwner, present, refusedEvent, Result, refusal, finish, handle, step}
+use Rattle.laws.specs.Facts.{Facts, RuleFacts}
+use Rattle.laws.proofs.Tests.{split, clash, part-of, implies-elim}
+use Rattle.laws.proofs.Walks.{listed-length, listed-at}
+use Rattle.laws.proofs.Facts.{facts}
+use Rattle.laws.proofs.Fields.{digit-small}
+use Rattle.laws.proofs.Deep.{arbitrate-shallow}
+use Rattle.laws.proofs.Cost.{written, arbitrate-paid}
+use Rattle.laws.proofs.Fit.{PortOk, port-packed, rule-packed, fits-from}
+use Rattle.laws.proofs.FitKept.{Fits, plain-ok, timer-ok, timer-deferred}
+use Rattle.laws.proofs.Happen.{Taken, taken-event, happen-cases}
+use Rattle.laws.proofs.FitEvents.{happen-fits}
+
+-- What the checks of table, state and room let through.
+
+pub record Callable (t s : List ℕ) (room : ℕ) : Type 0 where
+  pub table : accepted t ≡ true
+  pub state : Fits t s
+  pub enough : bound t ≤ room
+
+pub callable : (t s : List ℕ) (room : ℕ) → refusedCall t s room ≡ 0 → Callable t s room
+unfolding refusedCall refusedState
+callable t s room h =
+    split (accepted t)
+    (λ a. split (fits t s)
+    (λ b. split (ltb room (bound t)) (λ c. let z : 3 ≡ 0 = rw (a, b, c) at h in absurd (omega arith)) (λ c. record { table = a; state = b; enough = ltb-false _ _ c }))
+    (λ b. let z : 2 ≡ 0 = rw (a, b) at h in absurd (omega arith)))
+    (λ a. let z : 1 ≡ 0 = rw a at h in absurd (omega arith))
+
+pub call-small : (t s : List ℕ) (room : ℕ) → refusedCall t s room ≤ 3
+unfolding refusedCall refusedState
+call-small t s room =
+    split (accepted t)
+    (λ a. split (fits t s)
+    (λ b. split (ltb room (bound t)) (λ c. rw (a, b, c) (omega arith)) (λ c. rw (a, b, c) (omega arith)))
+    (λ b. rw (a, b) (omega arith)))
+    (λ a. rw a (omega arith))
+
+pub event-small : (t : List ℕ) (e : ℕ) → refusedEvent t e ≤ 6
+unfolding refusedEvent
+event-small t e =
+    split (wellFormed e)
+    (λ a. split (known t e)
+    (λ b. split (sentByOwner t e) (λ c. rw (a, b, c) (omega arith)) (λ c. rw (a, b, c) (omega arith)))
+    (λ b. rw (a, b) (omega arith)))
+    (λ a. rw a (omega arith))
+
+-- A run of one event: never deep, at most B words.
+
+module _ (t : List ℕ) (f : Facts t) where
+  request-shallow : (p v : ℕ) (s : List ℕ) → request t p v s .deep ≡ false
+  unfolding request
+  request-shallow p v s = split (eqb (deferred t p) 1) (λ e. rw e) (λ e. rw e (arbitrate-shallow t f _ _))
+
+  pub happen-shallow : (e : ℕ) (s : List ℕ) → happen t e s .deep ≡ false
+  unfolding tick arbitrateMarked
+  happen-shallow e s =
+      happen-cases (λ x. x .deep ≡ false) t e s (λ k. arbitrate-shallow t f _ _) (λ k. request-shallow _ _ s) (λ k. request-shallow _ _ s) (λ k. refl) (λ k. refl) (λ k. refl) (λ k. refl)
+
+  request-paid : (p v : ℕ) (s : List ℕ) → written (request t p v s) ≤ bound t
+  unfolding request
+  request-paid p v s = split (eqb (deferred t p) 1) (λ e. rw e (omega arith)) (λ e. rw e (arbitrate-paid t f _ _))
+
+  pub happen-paid : (e : ℕ) (s : List ℕ) → written (happen t e s) ≤ bound t
+  unfolding tick arbitrateMarked
+  happen-paid e s =
+      happen-cases (λ x. written x ≤ bound t) t e s (λ k. arbitrate-paid t f _ _) (λ k. request-paid _ _ s) (λ k. request-paid _ _ s) (λ k. omega arith) (λ k. omega arith) (λ k. omega arith) (λ k. omega arith)
+
+-- The two ways a step can go: refused, or done.
+
+pub data Stepped (t s : List ℕ) (room e : ℕ) (r : Result) : Type 0 where
+  refused : (k : ℕ) → 1 ≤ k → k ≤ 6 → r ≡ refusal k s → Stepped t s room e r
+  done : Callable t s room → Taken t e → r ≡ record { answer = 0; state = happen t e s .state; words = happen t e s .words } → Stepped t s room e r
+
+pub stepped : (t s : List ℕ) (room e : ℕ) → Stepped t s room e (step t s room e)
+unfolding step handle finish
+stepped t s room e =
+    split (eqb (refusedCall t s room) 0)
+    (λ a. let c = callable t s room (eqb-true _ _ a) in
+    split (eqb (refusedEvent t e) 0)
+    (λ b. rw (a, b, happen-shallow t (facts t (c .table)) e s) (done c (taken-event t e (eqb-true _ _ b)) refl))
+    (λ b. let n = eqb-false _ _ b in let m = event-small t e in rw (a, b) (refused (refusedEvent t e) (at-least-one _ n) m refl)))
+    (λ a. let n = eqb-false _ _ a in let m = call-small t s room in rw a (refused (refusedCall t s room) (at-least-one _ n) (omega arith) refl))
+  where
+    at-least-one : (k : ℕ) → (k ≡ 0 → ⊥) → 1 ≤ k
+    at-least-one k n = omega arith
+
+-- Answer 7 never comes; a refusal changes nothing and writes nothing; the words are at most B.
+
+pub never-seven : (t s : List ℕ) (room e : ℕ) → step t s room e .answer ≡ 7 → ⊥
+never-seven t s room e h = go (step t s room e) (stepped t s room e) h
+  where
+    go : (r : Result) → Stepped t s room e r → r .answer ≡ 7 → ⊥
+    go r (refused k a b eq) z = let y : r .answer ≡ k = ap (λ (q : Result). q .answer) eq in omega arith
+    go r (done c w eq) z = let y : r .answer ≡ 0 = ap (λ (q : Result). q .answer) eq in omega arith
+
+pub refusal-changes-nothing : (t s : List ℕ) (room e : ℕ) → (step t s room e .answer ≡ 0 → ⊥) → (step t s room e .state ≡ s) × (step t s room e .words ≡ [])
+refusal-changes-nothing t s room e n = go (step t s room e) (stepped t s room e) n
+  where
+    go : (r : Result) → Stepped t s room e r → (r .answer ≡ 0 → ⊥) → (r .state ≡ s) × (r .words ≡ [])
+    go r (refused k a b eq) z = (ap (λ (q : Result). q .state) eq, ap (λ (q : Result). q .words) eq)
+    go r (done c w eq) z = absurd (z (ap (λ (q : Result). q .answer) eq))
+
+pub words-within : (t s : List ℕ) (room e : ℕ) → accepted t ≡ true → length (step t s room e .words) ≤ bound t
+words-within t s room e h = go (step t s room e) (stepped t s room e)
+  where
+    go : (r : Result) → Stepped t s room e r → length (r .words) ≤ bound t
+    go r (refused k a b eq) = rw (ap (λ (q : Result). q .words) eq) (omega arith)
+    go r (done c w eq) = rw (ap (λ (q : Result). q .words) eq) (happen-paid t (facts t h) e s)
+
+-- States stay fit.
+
+pub step-fits : (t s : List ℕ) (room e : ℕ) → accepted t ≡ true → Fits t s → Fits t (step t s room e .state)
+step-fits t s room e h f = go (step t s room e) (stepped t s room e)
+  where
+    go : (r : Result) → Stepped t s room e r → Fits t (r .state)
+    go r (refused k a b eq) = rw (ap (λ (q : Result). q .state) eq) f
+    go r (done c w eq) = rw (ap (λ (q : Result). q .state) eq) (happen-fits t (facts t h) e s w f)
+
+-- every word of the state belongs to a thing that is there
+pub thing-present : (t : List ℕ) (i : ℕ) → i < stateLength t → present t (thing t i) ≡ true
+unfolding thing present
+thing-present t i h =
+    split (ltb i (ports t)) (λ a. rw (a, present) a)
+    (λ a. let x : ports t ≤ i = ltb-false _ _ a in
+    split (ltb i (ports t + rules t)) (λ b. let y : i < ports t + rules t = ltb-true _ _ b in rw (a, b) (lt-ltb (i - ports t) (rules t) (omega arith)))
+    (λ b. let y : ports t + rules t ≤ i = ltb-false _ _ b in
+    split (ltb i (ports t + rules t + networks t)) (λ c. let z : i < ports t + rules t + networks t = ltb-true _ _ c in rw (a, b, c) (lt-ltb (i - (ports t + rules t)) (networks t) (omega arith)))
+    (λ c. let z : ports t + rules t + networks t ≤ i = ltb-false _ _ c in rw (a, b, c) (lt-ltb (i - (ports t + rules t + networks t)) (sources t) (omega arith)))))
+
+initial-mode : (t : List ℕ) (p : ℕ) → portFields t p ≡ true → hasInitial t p ≡ 1 → portKind t p ≡ kindMode
+unfolding portFields
+initial-mode t p h k = eqb-true _ _ (implies-elim (eqb (hasInitial t p) 1) (eqb (portKind t p) kindMode) (part-of _ (λ e. rw (portFields, e, and-false) at h)) (eq-eqb _ _ k))
+
+fresh-port-fits : (t : List ℕ) (p : ℕ) → portFields t p ≡ true → portFits t p (freshPort t p) ≡ true
+unfolding freshPort
+fresh-port-fits t p h =
+    split (eqb (hasInitial t p) 1)
+    (λ a. let k = initial-mode t p h (eqb-true _ _ a) in
+    rw a (port-packed t p 1 0 (initial t p) 0 (plain-ok t p 0 (initial t p) (λ z. omega arith) (omega arith) (λ z. refl) (digit-small _ 256 _ (omega arith)) (λ z. absurd (omega arith)))))
+    (λ a. split (eqb (portKind t p) kindMode)
+    (λ b. let k = eqb-true _ _ b in
+    rw (a, b) (port-packed t p 0 0 0 0 (record { defined₂ = omega arith; marked₂ = omega arith; value₈ = omega arith; remaining₁₆ = omega arith; immediate = λ z. refl; undefined = λ z. (k, refl, refl); event = λ z. omega arith; timer = λ z. omega arith; started = λ z y. absurd (omega arith); rest = λ z. refl })))
+    (λ b. split (eqb (portKind t p) kindTimer)
+    (λ c. let k = eqb-true _ _ c in rw (a, b) (port-packed t p 1 0 0 0 (timer-ok t p 0 0 0 k (timer-deferred t p h k) (omega arith) (omega arith) (omega arith) (λ z. absurd (omega arith)) (λ z. refl))))
+    (λ c. rw (a, b) (port-packed t p 1 0 0 0 (plain-ok t p 0 0 (eqb-false _ _ c) (omega arith) (λ z. refl) (omega arith) (λ z. omega arith))))))
+
+zero-network : (t : List ℕ) (n : ℕ) → networkFits t n 0 ≡ true
+unfolding networkFits digit
+zero-network t n = refl
+
+zero-source : (t : List ℕ) (k : ℕ) → sourceFits t k 0 ≡ true
+unfolding sourceFits digit
+zero-source t k = refl
+
+fresh-thing-fits : (t : List ℕ) → Facts t → (x : Thing) → present t x ≡ true → thingFits t x (freshThing t x) ≡ true
+unfolding present thingFits freshThing
+fresh-thing-fits t f (aPort p) h = fresh-port-fits t p (f .port p (ltb-true _ _ h))
+fresh-thing-fits t f (aRule r) h = rule-packed (firstResult t r) (f .rule r (ltb-true _ _ h) .result)
+fresh-thing-fits t f (aNetwork n) h = zero-network t n
+fresh-thing-fits t f (aSource k) h = zero-source t k
+
+pub fresh-fits : (t : List ℕ) → accepted t ≡ true → Fits t (fresh t)
+unfolding fresh freshAt
+fresh-fits t h =
+    fits-from t (fresh t) (listed-length (freshAt t) 0 (stateLength t))
+    (λ i b. rw (listed-at (freshAt t) 0 (stateLength t) i b, zero-add i) (fresh-thing-fits t (facts t h) (thing t i) (thing-present t i b)))
