@@ -18,7 +18,8 @@ use Rattle.laws.specs.Facts.{Facts}
 use Rattle.laws.proofs.Tests.{split, clash, and-one-false}
 use Rattle.laws.proofs.Walks.{any-some, each-keeps, each-alike}
 use Rattle.laws.proofs.Cases.{if-chosen, if-not}
-use Rattle.laws.proofs.Order.{Each, order-there}
+use Rattle.laws.specs.Sequence.{Each}
+use Rattle.laws.proofs.Order.{order-there}
 use Rattle.stranger.specs.View.{SameView}
 use Rattle.stranger.proofs.More.{pick, pick-both, any-same}
 use Rattle.stranger.proofs.View.{same-view-refl, view-around, write-hidden, write-alike, port-word, rule-word}

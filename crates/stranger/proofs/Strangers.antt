@@ -91,3 +91,28 @@ module _ (t : List ℕ) (h : accepted t ≡ true) (o : ℕ) where
       (λ e. rw (e, seen, struckOut) (seen-beside _ s₂ cs next₁ f₂ (same-view-trans t o (same-view-sym t o (strangers-call-unseen s₁ c e .state)) v)))
       (λ e. let one = kept-call-same s₁ s₂ c e f₁ f₂ v in
       rw (e, seen, struckOut) (rw (e, seen) (ap₂ _∷_ (same-seen one) (seen-beside _ _ cs next₁ next₂ (one .state)))))
+
+  after-beside : (s₁ s₂ : List ℕ) (cs : List Call) → Fits t s₁ → Fits t s₂ → SameView t o s₁ s₂ → SameView t o (after t s₁ cs) (after t s₂ (struckOut o cs))
+  unfolding after struckOut
+  after-beside s₁ s₂ [] f₁ f₂ v = v
+  after-beside s₁ s₂ (c ∷ cs) f₁ f₂ v =
+      let next₁ : Fits t (called t s₁ c .state) = step-fits t s₁ (c .room) (c .event) h f₁ in
+      let next₂ : Fits t (called t s₂ c .state) = step-fits t s₂ (c .room) (c .event) h f₂ in
+      split (strangersCall o c)
+      (λ e. rw (e, struckOut) (after-beside _ s₂ cs next₁ f₂ (same-view-trans t o (same-view-sym t o (strangers-call-unseen s₁ c e .state)) v)))
+      (λ e. rw (e, struckOut) (after-beside _ _ cs next₁ next₂ (kept-call-same s₁ s₂ c e f₁ f₂ v .state)))
+
+  -- The run with the strangers struck out shows o the same.
+  pub strangers-struck-out : (cs : List Call) → seen t o (fresh t) cs ≡ seen t o (fresh t) (struckOut o cs)
+  strangers-struck-out cs = seen-beside (fresh t) (fresh t) cs (fresh-fits t h) (fresh-fits t h) (same-view-refl t o (fresh t))
+
+  -- So do any two runs whose calls agree once the strangers' are struck out; their last states too are the same to o.
+
+  pub strangers : (cs₁ cs₂ : List Call) → struckOut o cs₁ ≡ struckOut o cs₂ → seen t o (fresh t) cs₁ ≡ seen t o (fresh t) cs₂
+  strangers cs₁ cs₂ e = strangers-struck-out cs₁ ∙ ap (seen t o (fresh t)) e ∙ sym (strangers-struck-out cs₂)
+
+  pub strangers-after : (cs₁ cs₂ : List Call) → struckOut o cs₁ ≡ struckOut o cs₂ → SameView t o (after t (fresh t) cs₁) (after t (fresh t) cs₂)
+  strangers-after cs₁ cs₂ e =
+      let beside : (cs : List Call) → SameView t o (after t (fresh t) cs) (after t (fresh t) (struckOut o cs)) =
+      λ cs. after-beside (fresh t) (fresh t) cs (fresh-fits t h) (fresh-fits t h) (same-view-refl t o (fresh t)) in
+      same-view-trans t o (rw e at (beside cs₁)) (same-view-sym t o (beside cs₂))
