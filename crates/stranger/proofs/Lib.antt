@@ -11,3 +11,4 @@ pub mod Lists
 pub mod Arbitration
 pub mod Events
 pub mod Strangers
+pub mod AsksOwn

@@ -1,35 +1,25 @@
 -- THE STRANGERS' THEOREM. For every o (the owners are 0 to 15): a stranger's call is unseen by o; runs from fresh whose calls agree
--- once the strangers' are struck out show o the same after each kept call; a trace word that asks a network for a mode has the
--- network's owner or the platform's. Assumes nothing.
+-- once the strangers' are struck out show o the same after each kept call. Assumes nothing.
 use mathlib.Core.Path.{_≡_, refl, sym, _∙_, ap, ap₂}
-use mathlib.Core.Bool.{Bool, true, false, cond}
-use mathlib.Core.Logic.{_⊎_, inl, inr}
-use mathlib.Core.List.{List, [], _∷_, _++_}
-use Prim.Native.Nat.{ℕ, zero, suc, _+_, _%_, _≤_, _<_}
-use native.Mathlib.Nat.{mod-eq-of-lt}
-use native.Mathlib.Omega.{arith}
-use lib.ListN.{length}
+use mathlib.Core.Bool.{true, false}
+use mathlib.Core.List.{List, [], _∷_}
+use Prim.Native.Nat.{ℕ}
 use lib.Dec.{eqb}
 use borrow.Author.Tests.{eqb-true}
-use Rattle.rulebook.specs.Words.{word}
-use Rattle.rulebook.specs.Table.{networks, networkOwner, listOwner, itemKind, itemA, itemB, kindAsk, kindRule, platform, stranger}
+use Rattle.rulebook.specs.Table.{stranger}
 use Rattle.rulebook.specs.Reasons.{accepted}
 use Rattle.rulebook.specs.State.{fresh}
-use Rattle.rulebook.specs.Lists.{Run, start, traceWord, kindListStart, act, judge}
-use Rattle.rulebook.specs.Arbitration.{arbitrate}
-use Rattle.rulebook.specs.Events.{eventOwner, request, tick, arbitrateMarked, happen}
+use Rattle.rulebook.specs.Events.{eventOwner, happen}
 use Rattle.rulebook.specs.Step.{refusedState, refusedCall, refusedEvent, Result, refusal, finish, handle, step}
-use Rattle.laws.specs.Facts.{Facts}
-use Rattle.laws.proofs.Tests.{split, clash}
+use Rattle.laws.proofs.Tests.{split}
 use Rattle.laws.proofs.Facts.{facts}
 use Rattle.laws.proofs.FitKept.{Fits}
-use Rattle.laws.proofs.Happen.{Taken, taken-event, happen-cases}
+use Rattle.laws.proofs.Happen.{Taken, taken-event}
 use Rattle.laws.proofs.Steps.{Stepped, refused, done, stepped, happen-shallow, step-fits, fresh-fits}
 use Rattle.stranger.specs.Calls.{Call, called, after, strangersCall, struckOut}
-use Rattle.stranger.specs.View.{SameView, traceKind, traceOwner, traceA, ownWords, Unseen, Seen, seenOf, seen}
-use Rattle.stranger.proofs.More.{pick, pick-both}
+use Rattle.stranger.specs.View.{SameView, ownWords, Unseen, Seen, seenOf, seen}
+use Rattle.stranger.proofs.More.{pick-both}
 use Rattle.stranger.proofs.View.{same-view-refl, same-view-sym, same-view-trans, same-visible}
-use Rattle.stranger.proofs.Alike.{Alike}
 use Rattle.stranger.proofs.Events.{happen-confined}
 
 -- what o sees of two calls is the same

@@ -2,11 +2,12 @@
 -- sees of a run of calls.
 use mathlib.Core.Path.{_≡_}
 use mathlib.Core.Bool.{Bool, true, false}
+use mathlib.Core.Logic.{_⊎_}
 use mathlib.Core.List.{List, [], _∷_}
 use Prim.Native.Nat.{ℕ, zero, suc}
 use lib.ListN.{length}
 use Rattle.rulebook.specs.Words.{word, field}
-use Rattle.rulebook.specs.Table.{stranger}
+use Rattle.rulebook.specs.Table.{networkOwner, kindAsk, platform, stranger}
 use Rattle.rulebook.specs.State.{stateLength, thing, ownerOf}
 use Rattle.rulebook.specs.Step.{Result}
 use Rattle.stranger.specs.Calls.{Call, called, strangersCall}
@@ -45,6 +46,10 @@ traceA w = field 8 8 w
 unfoldable pub ownWords : ℕ → List ℕ → List ℕ
 ownWords o [] = []
 ownWords o (w ∷ ws) = elim (stranger o (traceOwner w)) [ true ↦ ownWords o ws | false ↦ w ∷ ownWords o ws ]
+
+-- a word by which a network is asked for a mode has the network's owner or the platform's
+abbrev pub AsksOwn : List ℕ → ℕ → Type 0
+AsksOwn t w = traceKind w ≡ kindAsk → (traceOwner w ≡ networkOwner t (traceA w)) ⊎ (traceOwner w ≡ platform)
 
 -- What a stranger's call from s is to o: no state word of o or of the platform changes, no trace word of theirs is written.
 pub record Unseen (t : List ℕ) (o : ℕ) (s : List ℕ) (r : Result) : Type 0 where

@@ -1,0 +1,83 @@
+-- A trace word of kind 4 for network n has n's owner or the platform's: who asks a network for a mode is no stranger to it. Assumes
+-- nothing.
+use mathlib.Core.Path.{_≡_, refl, sym, _∙_, ap}
+use mathlib.Core.Bool.{Bool, true, false}
+use mathlib.Core.Logic.{_⊎_, inl, inr}
+use mathlib.Core.List.{List, [], _∷_, _++_}
+use Prim.Native.Nat.{ℕ, _+_, _%_, _≤_, _<_}
+use native.Mathlib.Nat.{mod-eq-of-lt}
+use native.Mathlib.Omega.{arith}
+use lib.Dec.{eqb}
+use borrow.Author.Tests.{eqb-true}
+use Rattle.rulebook.specs.Table.{networks, networkOwner, deferred, listOwner, itemKind, itemA, itemB, kindAsk, kindRule, platform}
+use Rattle.rulebook.specs.Reasons.{accepted}
+use Rattle.rulebook.specs.Lists.{Run, start, emit, traceWord, kindListStart, act, judge}
+use Rattle.rulebook.specs.Arbitration.{arbitrate}
+use Rattle.rulebook.specs.Events.{request, tick, arbitrateMarked, happen}
+use Rattle.rulebook.specs.Step.{Result, step}
+use Rattle.laws.specs.Facts.{Facts}
+use Rattle.laws.specs.Sequence.{Each}
+use Rattle.laws.proofs.Tests.{split}
+use Rattle.laws.proofs.Facts.{facts}
+use Rattle.laws.proofs.Fields.{digit-small, trace-kind, trace-a}
+use Rattle.laws.proofs.Items.{ask-there}
+use Rattle.laws.proofs.Order.{each-both}
+use Rattle.laws.proofs.Runs.{Within, item-there, KeptByActs, decide-keeps}
+use Rattle.laws.proofs.Happen.{happen-cases}
+use Rattle.laws.proofs.Steps.{Stepped, refused, done, stepped}
+use Rattle.stranger.specs.View.{traceKind, traceOwner, traceA, AsksOwn}
+use Rattle.stranger.proofs.More.{pick}
+use Rattle.stranger.proofs.Alike.{word-owner}
+use Rattle.stranger.proofs.Owners.{network-owned}
+
+module _ (t : List ℕ) (f : Facts t) where
+  abbrev AllAskOwn : Run → Type 0
+  AllAskOwn x = Each (AsksOwn t) (x .words)
+
+  emit-asks : (w : ℕ) (x : Run) → AsksOwn t w → AllAskOwn x → AllAskOwn (emit w x)
+  emit-asks w x h a = each-both (AsksOwn t) (x .words) (w ∷ []) a (h, tt)
+
+  -- a word of another kind
+  other-kind : (kind o a b : ℕ) → (kind % 16 ≡ kindAsk → ⊥) → AsksOwn t (traceWord kind o a b)
+  other-kind kind o a b n k = absurd (n (sym (trace-kind kind o a b) ∙ k))
+
+  item-asks : (l i : ℕ) → Within t l i → AsksOwn t (traceWord (itemKind t i) (listOwner t l) (itemA t i) (itemB t i))
+  item-asks l i w k =
+      let kind : itemKind t i ≡ kindAsk = sym (mod-eq-of-lt (digit-small _ 16 _ (omega arith))) ∙ sym (trace-kind (itemKind t i) (listOwner t l) (itemA t i) (itemB t i)) ∙ k in
+      let there : itemA t i < networks t = ask-there t i (f .item i (item-there t f l i w) .1) kind in
+      let few : networks t ≤ 8 = f .counts .networks in
+      let number : traceA (traceWord (itemKind t i) (listOwner t l) (itemA t i) (itemB t i)) ≡ itemA t i = trace-a (itemKind t i) (listOwner t l) (itemA t i) (itemB t i) ∙ mod-eq-of-lt (omega arith) in
+      let own = word-owner t l (itemKind t i) (itemA t i) (itemB t i) in
+      split (eqb (listOwner t l) platform) (λ e. inr (own ∙ eqb-true _ _ e))
+      (λ e. inl (own ∙ rw number (sym (network-owned t (listOwner t l) i (f .list l (w .list) .owned i (w .from) (w .below)) e kind))))
+
+  acts-ask-own : KeptByActs t AllAskOwn
+  unfolding act judge
+  acts-ask-own =
+      record {
+        begin = λ l x h a. emit-asks _ x (other-kind kindListStart (listOwner t l) l 0 (λ z. omega arith)) a;
+        act = λ l i x w g h a. emit-asks _ x (item-asks l i w) a;
+        undefined = λ l i x w e a. emit-asks _ x (other-kind kindRule (listOwner t l) (itemA t i) _ (λ z. omega arith)) a;
+        judge = λ l i x w e u a. emit-asks _ x (other-kind kindRule (listOwner t l) (itemA t i) _ (λ z. omega arith)) a;
+        deep = λ x a. a;
+      }
+
+  arbitrate-asks-own : (q : ℕ → Bool) (s : List ℕ) → AllAskOwn (arbitrate t q s)
+  unfolding arbitrate
+  arbitrate-asks-own q s = decide-keeps t f AllAskOwn acts-ask-own q _ tt
+
+  request-asks-own : (p v : ℕ) (s : List ℕ) → AllAskOwn (request t p v s)
+  unfolding request
+  request-asks-own p v s = pick AllAskOwn (eqb (deferred t p) 1) (λ e. tt) (λ e. arbitrate-asks-own _ _)
+
+  happen-asks-own : (e : ℕ) (s : List ℕ) → AllAskOwn (happen t e s)
+  unfolding tick arbitrateMarked
+  happen-asks-own e s =
+      happen-cases AllAskOwn t e s (λ k. arbitrate-asks-own _ _) (λ k. request-asks-own _ _ s) (λ k. request-asks-own _ _ s) (λ k. tt) (λ k. tt) (λ k. tt) (λ k. tt)
+
+pub asks-own : (t s : List ℕ) (room e : ℕ) → accepted t ≡ true → Each (AsksOwn t) (step t s room e .words)
+asks-own t s room e h = go (step t s room e) (stepped t s room e)
+  where
+    go : (r : Result) → Stepped t s room e r → Each (AsksOwn t) (r .words)
+    go r (refused k a b eq) = rw eq tt
+    go r (done c w eq) = rw eq (happen-asks-own t (facts t h) e s)
