@@ -1,18 +1,17 @@
 -- Arbitrations from states that o cannot tell apart, of ports that agree except on strangers', are alike to o; so an arbitration of
 -- a stranger's port, held against an arbitration of no port, is unseen. Assumes nothing.
 use mathlib.Core.Path.{_≡_, refl, sym, _∙_, ap}
-use mathlib.Core.Bool.{Bool, true, false, cond, _&&_, _||_, not, and-false}
+use mathlib.Core.Bool.{Bool, true, false, and-false}
 use mathlib.Core.List.{List, [], _∷_}
-use Prim.Native.Nat.{ℕ, zero, suc, _+_, _≤_, _<_}
+use Prim.Native.Nat.{ℕ, zero, suc, _≤_, _<_}
 use native.Mathlib.Omega.{arith}
-use lib.ListN.{set}
 use lib.Dec.{eqb}
 use borrow.Author.Tests.{eqb-true, ne-eqb}
-use Rattle.rulebook.specs.Words.{word, any, each}
+use Rattle.rulebook.specs.Words.{any}
 use Rattle.rulebook.specs.Table.{ports, rules, lists, portOwner, ruleOwner, ruleExpression, noList, listOwner, left, right, stranger}
-use Rattle.rulebook.specs.Expressions.{deepest, operator, isNot, expressionMentions, mentions}
+use Rattle.rulebook.specs.Expressions.{deepest, operator, expressionMentions, mentions}
 use Rattle.rulebook.specs.State.{ruleIndex}
-use Rattle.rulebook.specs.Lists.{Run, start, choiceIn, setResult, resultIn, runList}
+use Rattle.rulebook.specs.Lists.{Run, start, choiceIn, setResult}
 use Rattle.rulebook.specs.Arbitration.{unmarkPort, unmarkPorts, evaluated, storeResult, storeResults, chooses, chosen, order, runIf, runChosen, decide, arbitrate}
 use Rattle.laws.specs.Facts.{Facts}
 use Rattle.laws.proofs.Tests.{split, clash, and-one-false}

@@ -1,17 +1,17 @@
 -- A trace word of kind 4 for network n has n's owner or the platform's: who asks a network for a mode is no stranger to it. Assumes
 -- nothing.
-use mathlib.Core.Path.{_≡_, refl, sym, _∙_, ap}
-use mathlib.Core.Bool.{Bool, true, false}
-use mathlib.Core.Logic.{_⊎_, inl, inr}
-use mathlib.Core.List.{List, [], _∷_, _++_}
-use Prim.Native.Nat.{ℕ, _+_, _%_, _≤_, _<_}
+use mathlib.Core.Path.{_≡_, sym, _∙_}
+use mathlib.Core.Bool.{Bool, true}
+use mathlib.Core.Logic.{inl, inr}
+use mathlib.Core.List.{List, [], _∷_}
+use Prim.Native.Nat.{ℕ, _%_, _≤_, _<_}
 use native.Mathlib.Nat.{mod-eq-of-lt}
 use native.Mathlib.Omega.{arith}
 use lib.Dec.{eqb}
 use borrow.Author.Tests.{eqb-true}
-use Rattle.rulebook.specs.Table.{networks, networkOwner, deferred, listOwner, itemKind, itemA, itemB, kindAsk, kindRule, platform}
+use Rattle.rulebook.specs.Table.{networks, deferred, listOwner, itemKind, itemA, itemB, kindAsk, kindRule, platform}
 use Rattle.rulebook.specs.Reasons.{accepted}
-use Rattle.rulebook.specs.Lists.{Run, start, emit, traceWord, kindListStart, act, judge}
+use Rattle.rulebook.specs.Lists.{Run, emit, traceWord, kindListStart, act, judge}
 use Rattle.rulebook.specs.Arbitration.{arbitrate}
 use Rattle.rulebook.specs.Events.{request, tick, arbitrateMarked, happen}
 use Rattle.rulebook.specs.Step.{Result, step}
@@ -25,7 +25,7 @@ use Rattle.laws.proofs.Order.{each-both}
 use Rattle.laws.proofs.Runs.{Within, item-there, KeptByActs, decide-keeps}
 use Rattle.laws.proofs.Happen.{happen-cases}
 use Rattle.laws.proofs.Steps.{Stepped, refused, done, stepped}
-use Rattle.stranger.specs.View.{traceKind, traceOwner, traceA, AsksOwn}
+use Rattle.stranger.specs.View.{traceA, AsksOwn}
 use Rattle.stranger.proofs.More.{pick}
 use Rattle.stranger.proofs.Alike.{word-owner}
 use Rattle.stranger.proofs.Owners.{network-owned}

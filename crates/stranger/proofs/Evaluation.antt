@@ -1,13 +1,13 @@
 -- What a rule does depends only on the ports that it mentions; a rule of o or of the platform mentions no stranger's port. So in
 -- states that o cannot tell apart such a rule is evaluated alike, gives the same result and starts the same list. Assumes nothing.
-use mathlib.Core.Path.{_≡_, refl, sym, _∙_, ap, ap₂}
-use mathlib.Core.Bool.{Bool, true, false, cond, _&&_, _||_, not, and-false}
+use mathlib.Core.Path.{_≡_, refl, _∙_, ap}
+use mathlib.Core.Bool.{Bool, true, false, _&&_, not, and-false}
 use mathlib.Core.List.{List}
 use Prim.Native.Nat.{ℕ, zero, suc, _<_}
-use lib.Dec.{ltb, eqb}
+use lib.Dec.{eqb}
 use borrow.Author.Tests.{ltb-true, eqb-true, not-true}
-use Rattle.rulebook.specs.Words.{word, implies}
-use Rattle.rulebook.specs.Table.{ports, expressions, rules, portOwner, expressionKind, conditionPort, left, right, ruleOwner, ruleExpression, nestedOnly, platform, stranger}
+use Rattle.rulebook.specs.Words.{word}
+use Rattle.rulebook.specs.Table.{ports, expressions, rules, portOwner, expressionKind, conditionPort, left, right, ruleOwner, ruleExpression, platform, stranger}
 use Rattle.rulebook.specs.Expressions.{deepest, operator, isNot, expressionMentions, mentions, condition, joined, expressionHolds, holds}
 use Rattle.rulebook.specs.State.{ruleIndex}
 use Rattle.rulebook.specs.Reasons.{expressionNames, strangersPort, ruleOwned}

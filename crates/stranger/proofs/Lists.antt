@@ -1,24 +1,24 @@
 -- A stranger's list changes nothing that o sees and writes no trace word of o or of the platform; any other list, run from two
 -- runs that are alike to o, leaves them alike. Assumes nothing.
-use mathlib.Core.Path.{_≡_, refl, sym, _∙_, ap}
-use mathlib.Core.Bool.{Bool, true, false, cond}
-use mathlib.Core.List.{List, []}
-use Prim.Native.Nat.{ℕ, zero, suc, _+_, _≤_, _<_}
+use mathlib.Core.Path.{_≡_, refl, sym, _∙_}
+use mathlib.Core.Bool.{true, false}
+use mathlib.Core.List.{List}
+use Prim.Native.Nat.{ℕ, zero, suc, _<_}
 use lib.ListN.{set}
-use lib.Dec.{leb, eqb}
-use borrow.Author.Tests.{eqb-true, eq-eqb}
-use Rattle.rulebook.specs.Words.{word, between, each}
-use Rattle.rulebook.specs.Table.{ports, networks, rules, lists, items, kindEvent, kindTimer, portOwner, networkOwner, ruleOwner, noList, listOwner, firstItem, itemCount, itemKind, itemA, kindClear, kindStart, kindStop, kindAsk, kindList, kindRule, stranger}
+use lib.Dec.{eqb}
+use borrow.Author.Tests.{eqb-true}
+use Rattle.rulebook.specs.Words.{between}
+use Rattle.rulebook.specs.Table.{rules, lists, kindEvent, kindTimer, ruleOwner, noList, listOwner, firstItem, itemCount, itemKind, itemA, kindClear, kindStart, kindStop, kindAsk, kindRule, stranger}
 use Rattle.rulebook.specs.State.{ruleIndex, networkIndex, undefinedResult}
 use Rattle.rulebook.specs.Reasons.{portOfKind, itemOwned}
-use Rattle.rulebook.specs.Lists.{Run, become, emit, tooDeep, traceWord, kindListStart, setPort, setNetwork, effect, act, unready, choiceIn, setResult, judge, runChoice, runRule, runItem, runItems, runList}
+use Rattle.rulebook.specs.Lists.{Run, emit, traceWord, kindListStart, setPort, setNetwork, effect, act, unready, choiceIn, setResult, judge, runChoice, runRule, runItem, runItems, runList}
 use Rattle.laws.specs.Facts.{Facts}
 use Rattle.laws.proofs.Tests.{split}
 use Rattle.laws.proofs.Walks.{each-keeps, each-alike}
 use Rattle.laws.proofs.Items.{clear-there, start-there, stop-there, ask-there, list-there, rule-there, port-there, choice-there}
 use Rattle.laws.proofs.Cases.{item-list, item-rule, item-act, item-cases, rule-unready, rule-ready, choice-none, choice-some}
 use Rattle.laws.proofs.Runs.{Within, item-there}
-use Rattle.stranger.specs.View.{SameView, traceOwner, ownWords}
+use Rattle.stranger.specs.View.{SameView}
 use Rattle.stranger.proofs.More.{pick, pick-both}
 use Rattle.stranger.proofs.View.{same-view-refl, write-hidden, write-alike, port-word, rule-word, network-word}
 use Rattle.stranger.proofs.Alike.{Alike, word-owner, alike-refl, alike-trans, become-alike, emit-alike, emit-hidden}

@@ -1,15 +1,15 @@
 -- What "owners do not clash" says of the things that an item names and of the list that a rule starts. Assumes nothing.
-use mathlib.Core.Path.{_≡_, refl, sym, _∙_, ap}
-use mathlib.Core.Bool.{Bool, true, false, _&&_, _||_, not, and-false}
+use mathlib.Core.Path.{_≡_}
+use mathlib.Core.Bool.{true, false, not, and-false}
 use mathlib.Core.List.{List}
 use Prim.Native.Nat.{ℕ}
-use lib.Dec.{leb, eqb}
-use borrow.Author.Tests.{eqb-true, eq-eqb, ne-eqb, not-true}
+use lib.Dec.{eqb}
+use borrow.Author.Tests.{eqb-true, eq-eqb, not-true}
 use Rattle.rulebook.specs.Words.{implies, between}
 use Rattle.rulebook.specs.Table.{portOwner, networkOwner, ruleOwner, listOwner, trueList, falseList, noList, itemKind, itemA, kindClear, kindStop, kindAsk, kindList, kindRule, platform, stranger}
 use Rattle.rulebook.specs.Reasons.{ruleOwned, itemOwned}
 use Rattle.rulebook.specs.Lists.{choiceIn}
-use Rattle.laws.proofs.Tests.{split, clash, part-of, and-right, implies-elim, or-elim}
+use Rattle.laws.proofs.Tests.{clash, part-of, and-right, implies-elim, or-elim}
 use Rattle.laws.proofs.Items.{choice-cases}
 
 -- a stranger is not the platform

@@ -17,7 +17,7 @@ use Rattle.laws.proofs.FitKept.{Fits}
 use Rattle.laws.proofs.Happen.{Taken, taken-event}
 use Rattle.laws.proofs.Steps.{Stepped, refused, done, stepped, happen-shallow, step-fits, fresh-fits}
 use Rattle.stranger.specs.Calls.{Call, called, after, strangersCall, struckOut}
-use Rattle.stranger.specs.View.{SameView, ownWords, Unseen, Seen, seenOf, seen}
+use Rattle.stranger.specs.View.{SameView, ownWords, Unseen, seenOf, seen}
 use Rattle.stranger.proofs.More.{pick-both}
 use Rattle.stranger.proofs.View.{same-view-refl, same-view-sym, same-view-trans, same-visible}
 use Rattle.stranger.proofs.Events.{happen-confined}

@@ -1,7 +1,7 @@
 -- The view relation is reflexive, symmetric and transitive; what one write does to it; runs that are alike to o. Assumes nothing.
-use mathlib.Core.Path.{_≡_, refl, sym, _∙_, ap, ap₂}
-use mathlib.Core.Bool.{Bool, true, false, cond}
-use mathlib.Core.List.{List, [], _∷_, _++_}
+use mathlib.Core.Path.{_≡_, refl, sym, _∙_, ap₂}
+use mathlib.Core.Bool.{true, false}
+use mathlib.Core.List.{List, _∷_}
 use Prim.Native.Nat.{ℕ, zero, suc, _+_, _≤_, _<_}
 use native.Mathlib.Omega.{arith}
 use lib.ListN.{length, set, length-set, List·getD-eq-default}
@@ -11,11 +11,10 @@ use borrow.Author.Tests.{ltb-true, ltb-false, eqb-true, eqb-false}
 use Rattle.rulebook.specs.Words.{word}
 use Rattle.rulebook.specs.Table.{ports, networks, rules, portOwner, networkOwner, sourceOwner, ruleOwner, stranger}
 use Rattle.rulebook.specs.State.{ruleIndex, networkIndex, sourceIndex, stateLength, ownerOf}
-use Rattle.rulebook.specs.Lists.{Run, emit}
 use Rattle.laws.proofs.Tests.{split, clash}
 use Rattle.laws.proofs.Walks.{here-or-later}
 use Rattle.laws.proofs.Parts.{thing-port, thing-rule, thing-network, thing-source}
-use Rattle.stranger.specs.View.{strangersWord, SameView, visibleFrom, visibleWords, traceOwner, ownWords}
+use Rattle.stranger.specs.View.{strangersWord, SameView, visibleFrom, visibleWords}
 
 module _ (t : List ℕ) (o : ℕ) where
   pub same-view-refl : (s : List ℕ) → SameView t o s s
