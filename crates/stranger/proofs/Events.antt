@@ -183,7 +183,7 @@ module _ (t : List ℕ) (f : Facts t) (o : ℕ) where
 -- An event that is not refused is its thing's owner's; a tick is the platform's.
 
 module _ (t : List ℕ) (e : ℕ) (w : Taken t e) where
-  tick-owner : eqb (eventKind e) tickKind ≡ true → eventOwner e ≡ platform
+  pub tick-owner : eqb (eventKind e) tickKind ≡ true → eventOwner e ≡ platform
   unfolding wellFormed
   tick-owner k =
       eqb-true _ _ (and-left _ (eqb (eventIndex e) 0)

@@ -3,24 +3,28 @@
 use mathlib.Core.Path.{_≡_, refl, sym, _∙_, ap, ap₂}
 use mathlib.Core.Bool.{true, false}
 use mathlib.Core.List.{List, [], _∷_}
-use Prim.Native.Nat.{ℕ}
+use Prim.Native.Nat.{ℕ, _≤_}
+use native.Mathlib.Nat.{zero-add}
+use native.Mathlib.Omega.{arith}
 use lib.Dec.{eqb}
 use borrow.Author.Tests.{eqb-true}
-use Rattle.rulebook.specs.Table.{stranger}
+use Rattle.rulebook.specs.Table.{platform, stranger}
 use Rattle.rulebook.specs.Reasons.{accepted}
 use Rattle.rulebook.specs.State.{fresh}
-use Rattle.rulebook.specs.Events.{eventOwner, happen}
+use Rattle.rulebook.specs.Events.{eventKind, eventOwner, tickKind, happen}
 use Rattle.rulebook.specs.Step.{refusedState, refusedCall, refusedEvent, Result, refusal, finish, handle, step}
-use Rattle.laws.proofs.Tests.{split}
+use Rattle.laws.proofs.Tests.{split, clash, and-one-false}
 use Rattle.laws.proofs.Facts.{facts}
 use Rattle.laws.proofs.FitKept.{Fits}
 use Rattle.laws.proofs.Happen.{Taken, taken-event}
 use Rattle.laws.proofs.Steps.{Stepped, refused, done, stepped, happen-shallow, step-fits, fresh-fits}
 use Rattle.stranger.specs.Calls.{Call, called, after, strangersCall, struckOut}
+use Rattle.stranger.specs.Demand.{ticks, tickCount}
 use Rattle.stranger.specs.View.{SameView, ownWords, Unseen, seenOf, seen}
 use Rattle.stranger.proofs.More.{pick-both}
 use Rattle.stranger.proofs.View.{same-view-refl, same-view-sym, same-view-trans, same-visible}
-use Rattle.stranger.proofs.Events.{happen-confined}
+use Rattle.stranger.proofs.Owners.{no-platform}
+use Rattle.stranger.proofs.Events.{tick-owner, happen-confined}
 
 -- what o sees of two calls is the same
 pub record SameSeen (t : List ℕ) (o : ℕ) (r₁ r₂ : Result) : Type 0 where
@@ -39,6 +43,15 @@ module _ (t : List ℕ) (h : accepted t ≡ true) (o : ℕ) where
       go r (refused n a b eq) = rw eq (record { state = same-view-refl t o s; words = refl })
       go r (done a w eq) =
           let alike = happen-confined t (facts t h) o (c .event) w .hidden k s in rw eq (record { state = alike .view; words = sym (alike .own) })
+
+  -- it is no tick that is taken
+  strangers-tick : (s : List ℕ) (c : Call) → strangersCall o c ≡ true → ticks t s c ≡ false
+  unfolding strangersCall ticks
+  strangers-tick s c k = and-one-false _ _ (go (called t s c) (stepped t s (c .room) (c .event)))
+    where
+      go : (r : Result) → Stepped t s (c .room) (c .event) r → eqb (r .answer) 0 ≡ true → eqb (eventKind (c .event)) tickKind ≡ true → ⊥
+      go r (refused n a b eq) z e = let y : r .answer ≡ n = ap (λ (q : Result). q .answer) eq in let x : r .answer ≡ 0 = eqb-true _ _ z in omega arith
+      go r (done a w eq) z e = clash refl (no-platform o platform (rw (tick-owner t (c .event) w e) at k))
 
   refusal-same : (n : ℕ) {s₁ s₂ : List ℕ} → SameView t o s₁ s₂ → SameSeen t o (refusal n s₁) (refusal n s₂)
   refusal-same n v = record { answer = refl; state = v; words = refl }
@@ -71,38 +84,52 @@ module _ (t : List ℕ) (h : accepted t ≡ true) (o : ℕ) where
   unfolding seenOf
   same-seen e i = record { answer = e .answer i; state = same-visible t o (e .state) i; words = e .words i }
 
-  seen-beside : (s₁ s₂ : List ℕ) (cs : List Call) → Fits t s₁ → Fits t s₂ → SameView t o s₁ s₂ → seen t o s₁ cs ≡ seen t o s₂ (struckOut o cs)
+  -- What holds of no calls, and goes on past a stranger's call on one side and past a kept call on both, holds of every run.
+  beside : (P : List ℕ → List ℕ → List Call → Type 0)
+      → ((s₁ s₂ : List ℕ) → SameView t o s₁ s₂ → P s₁ s₂ [])
+      → ((s₁ s₂ : List ℕ) (c : Call) (cs : List Call) → strangersCall o c ≡ true → P (called t s₁ c .state) s₂ cs → P s₁ s₂ (c ∷ cs))
+      → ((s₁ s₂ : List ℕ) (c : Call) (cs : List Call) → strangersCall o c ≡ false → SameSeen t o (called t s₁ c) (called t s₂ c) → P (called t s₁ c .state) (called t s₂ c .state) cs → P s₁ s₂ (c ∷ cs))
+      → (s₁ s₂ : List ℕ) (cs : List Call) → Fits t s₁ → Fits t s₂ → SameView t o s₁ s₂ → P s₁ s₂ cs
+  beside P none one both s₁ s₂ [] f₁ f₂ v = none s₁ s₂ v
+  beside P none one both s₁ s₂ (c ∷ cs) f₁ f₂ v =
+      let next₁ : Fits t (called t s₁ c .state) = step-fits t s₁ (c .room) (c .event) h f₁ in
+      split (strangersCall o c)
+      (λ e. one s₁ s₂ c cs e (beside P none one both _ s₂ cs next₁ f₂ (same-view-trans t o (same-view-sym t o (strangers-call-unseen s₁ c e .state)) v)))
+      (λ e. let same = kept-call-same s₁ s₂ c e f₁ f₂ v in
+      both s₁ s₂ c cs e same (beside P none one both _ _ cs next₁ (step-fits t s₂ (c .room) (c .event) h f₂) (same .state)))
+
+  -- The run with the strangers struck out shows o the same after each kept call, and in the end.
+
+  pub struck-out-seen : (cs : List Call) → seen t o (fresh t) cs ≡ seen t o (fresh t) (struckOut o cs)
   unfolding seen struckOut
-  seen-beside s₁ s₂ [] f₁ f₂ v = refl
-  seen-beside s₁ s₂ (c ∷ cs) f₁ f₂ v =
-      let next₁ : Fits t (called t s₁ c .state) = step-fits t s₁ (c .room) (c .event) h f₁ in
-      let next₂ : Fits t (called t s₂ c .state) = step-fits t s₂ (c .room) (c .event) h f₂ in
-      split (strangersCall o c)
-      (λ e. rw (e, seen, struckOut) (seen-beside _ s₂ cs next₁ f₂ (same-view-trans t o (same-view-sym t o (strangers-call-unseen s₁ c e .state)) v)))
-      (λ e. let one = kept-call-same s₁ s₂ c e f₁ f₂ v in
-      rw (e, seen, struckOut) (rw (e, seen) (ap₂ _∷_ (same-seen one) (seen-beside _ _ cs next₁ next₂ (one .state)))))
+  struck-out-seen cs =
+      beside (λ s₁ s₂ cs. seen t o s₁ cs ≡ seen t o s₂ (struckOut o cs)) (λ s₁ s₂ v. refl) (λ s₁ s₂ c cs e ih. rw (e, seen, struckOut) ih)
+      (λ s₁ s₂ c cs e same ih. rw (e, seen, struckOut) (rw (e, seen) (ap₂ _∷_ (same-seen same) ih)))
+      (fresh t) (fresh t) cs (fresh-fits t h) (fresh-fits t h) (same-view-refl t o (fresh t))
 
-  after-beside : (s₁ s₂ : List ℕ) (cs : List Call) → Fits t s₁ → Fits t s₂ → SameView t o s₁ s₂ → SameView t o (after t s₁ cs) (after t s₂ (struckOut o cs))
+  pub struck-out-after : (cs : List Call) → SameView t o (after t (fresh t) cs) (after t (fresh t) (struckOut o cs))
   unfolding after struckOut
-  after-beside s₁ s₂ [] f₁ f₂ v = v
-  after-beside s₁ s₂ (c ∷ cs) f₁ f₂ v =
-      let next₁ : Fits t (called t s₁ c .state) = step-fits t s₁ (c .room) (c .event) h f₁ in
-      let next₂ : Fits t (called t s₂ c .state) = step-fits t s₂ (c .room) (c .event) h f₂ in
-      split (strangersCall o c)
-      (λ e. rw (e, struckOut) (after-beside _ s₂ cs next₁ f₂ (same-view-trans t o (same-view-sym t o (strangers-call-unseen s₁ c e .state)) v)))
-      (λ e. rw (e, struckOut) (after-beside _ _ cs next₁ next₂ (kept-call-same s₁ s₂ c e f₁ f₂ v .state)))
+  struck-out-after cs =
+      beside (λ s₁ s₂ cs. SameView t o (after t s₁ cs) (after t s₂ (struckOut o cs))) (λ s₁ s₂ v. v) (λ s₁ s₂ c cs e ih. rw (e, struckOut) ih)
+      (λ s₁ s₂ c cs e same ih. rw (e, struckOut) ih)
+      (fresh t) (fresh t) cs (fresh-fits t h) (fresh-fits t h) (same-view-refl t o (fresh t))
 
-  -- The run with the strangers struck out shows o the same.
-  pub strangers-struck-out : (cs : List Call) → seen t o (fresh t) cs ≡ seen t o (fresh t) (struckOut o cs)
-  strangers-struck-out cs = seen-beside (fresh t) (fresh t) cs (fresh-fits t h) (fresh-fits t h) (same-view-refl t o (fresh t))
+  -- no tick that is taken is struck out
+  pub struck-out-ticks : (cs : List Call) → tickCount t (fresh t) cs ≡ tickCount t (fresh t) (struckOut o cs)
+  unfolding tickCount struckOut ticks
+  struck-out-ticks cs =
+      beside (λ s₁ s₂ cs. tickCount t s₁ cs ≡ tickCount t s₂ (struckOut o cs)) (λ s₁ s₂ v. refl)
+      (λ s₁ s₂ c cs e ih. rw (e, struckOut, strangers-tick s₁ c e) (zero-add _ ∙ ih)) (λ s₁ s₂ c cs e same ih. rw (e, struckOut, same .answer, ih))
+      (fresh t) (fresh t) cs (fresh-fits t h) (fresh-fits t h) (same-view-refl t o (fresh t))
 
-  -- So do any two runs whose calls agree once the strangers' are struck out; their last states too are the same to o.
+  -- So do any two runs whose calls agree once the strangers' are struck out.
 
-  pub strangers : (cs₁ cs₂ : List Call) → struckOut o cs₁ ≡ struckOut o cs₂ → seen t o (fresh t) cs₁ ≡ seen t o (fresh t) cs₂
-  strangers cs₁ cs₂ e = strangers-struck-out cs₁ ∙ ap (seen t o (fresh t)) e ∙ sym (strangers-struck-out cs₂)
+  module _ (cs₁ cs₂ : List Call) (e : struckOut o cs₁ ≡ struckOut o cs₂) where
+    pub strangers-seen : seen t o (fresh t) cs₁ ≡ seen t o (fresh t) cs₂
+    strangers-seen = struck-out-seen cs₁ ∙ ap (seen t o (fresh t)) e ∙ sym (struck-out-seen cs₂)
 
-  pub strangers-after : (cs₁ cs₂ : List Call) → struckOut o cs₁ ≡ struckOut o cs₂ → SameView t o (after t (fresh t) cs₁) (after t (fresh t) cs₂)
-  strangers-after cs₁ cs₂ e =
-      let beside : (cs : List Call) → SameView t o (after t (fresh t) cs) (after t (fresh t) (struckOut o cs)) =
-      λ cs. after-beside (fresh t) (fresh t) cs (fresh-fits t h) (fresh-fits t h) (same-view-refl t o (fresh t)) in
-      same-view-trans t o (rw e at (beside cs₁)) (same-view-sym t o (beside cs₂))
+    pub strangers-after : SameView t o (after t (fresh t) cs₁) (after t (fresh t) cs₂)
+    strangers-after = same-view-trans t o (rw e at (struck-out-after cs₁)) (same-view-sym t o (struck-out-after cs₂))
+
+    pub strangers-ticks : tickCount t (fresh t) cs₁ ≡ tickCount t (fresh t) cs₂
+    strangers-ticks = struck-out-ticks cs₁ ∙ ap (tickCount t (fresh t)) e ∙ sym (struck-out-ticks cs₂)
