@@ -1,15 +1,15 @@
 -- A trace word of kind 4 for network n has n's owner or the platform's: who asks a network for a mode is no stranger to it. Assumes
 -- nothing.
-use mathlib.Core.Path.{_≡_, sym, _∙_}
-use mathlib.Core.Bool.{Bool, true}
-use mathlib.Core.Logic.{inl, inr}
+use mathlib.Core.Path.{_≡_, refl, sym, _∙_, ap}
+use mathlib.Core.Bool.{Bool, true, false, _||_, and-false}
+use mathlib.Core.Logic.{inl, inr, ⊎-elim}
 use mathlib.Core.List.{List, [], _∷_}
 use Prim.Native.Nat.{ℕ, _%_, _≤_, _<_}
 use native.Mathlib.Nat.{mod-eq-of-lt}
 use native.Mathlib.Omega.{arith}
 use lib.Dec.{eqb}
 use borrow.Author.Tests.{eqb-true}
-use Rattle.rulebook.specs.Table.{networks, deferred, listOwner, itemKind, itemA, itemB, kindAsk, kindRule, platform}
+use Rattle.rulebook.specs.Table.{networks, networkOwner, deferred, listOwner, itemKind, itemA, itemB, kindAsk, kindRule, platform, stranger}
 use Rattle.rulebook.specs.Reasons.{accepted}
 use Rattle.rulebook.specs.Lists.{Run, emit, traceWord, kindListStart, act, judge}
 use Rattle.rulebook.specs.Arbitration.{arbitrate}
@@ -17,7 +17,7 @@ use Rattle.rulebook.specs.Events.{request, tick, arbitrateMarked, happen}
 use Rattle.rulebook.specs.Step.{Result, step}
 use Rattle.laws.specs.Facts.{Facts}
 use Rattle.laws.specs.Sequence.{Each}
-use Rattle.laws.proofs.Tests.{split}
+use Rattle.laws.proofs.Tests.{split, clash, part-of}
 use Rattle.laws.proofs.Facts.{facts}
 use Rattle.laws.proofs.Fields.{digit-small, trace-kind, trace-a}
 use Rattle.laws.proofs.Items.{ask-there}
@@ -25,10 +25,11 @@ use Rattle.laws.proofs.Order.{each-both}
 use Rattle.laws.proofs.Runs.{Within, item-there, KeptByActs, decide-keeps}
 use Rattle.laws.proofs.Happen.{happen-cases}
 use Rattle.laws.proofs.Steps.{Stepped, refused, done, stepped}
-use Rattle.stranger.specs.View.{traceA, AsksOwn}
+use Rattle.stranger.specs.Demand.{asksOther, anyWord}
+use Rattle.stranger.specs.View.{traceKind, traceOwner, traceA, AsksOwn, ownWords}
 use Rattle.stranger.proofs.More.{pick}
 use Rattle.stranger.proofs.Alike.{word-owner}
-use Rattle.stranger.proofs.Owners.{network-owned}
+use Rattle.stranger.proofs.Owners.{self-known, platform-known, network-owned}
 
 module _ (t : List ℕ) (f : Facts t) where
   abbrev AllAskOwn : Run → Type 0
@@ -81,3 +82,22 @@ asks-own t s room e h = go (step t s room e) (stepped t s room e)
     go : (r : Result) → Stepped t s room e r → Each (AsksOwn t) (r .words)
     go r (refused k a b eq) = rw eq tt
     go r (done c w eq) = rw eq (happen-asks-own t (facts t h) e s)
+
+-- So the words of its owner and of the platform tell whether a network is asked for another mode.
+
+asks-no-stranger : (t : List ℕ) (n w : ℕ) → AsksOwn t w → asksOther n w ≡ true → stranger (networkOwner t n) (traceOwner w) ≡ false
+unfolding asksOther
+asks-no-stranger t n w h a =
+    let kind : traceKind w ≡ kindAsk = eqb-true _ _ (part-of _ (λ e. rw (asksOther, e) at a)) in
+    let number : traceA w ≡ n = eqb-true _ _ (part-of _ (λ e. rw (asksOther, e, and-false) at a)) in
+    ⊎-elim (λ e. let own : traceOwner w ≡ networkOwner t n = e ∙ ap (networkOwner t) number in rw own (self-known (networkOwner t n)))
+    (λ e. rw e (platform-known (networkOwner t n))) (h kind)
+
+pub asks-in-own-words : (t : List ℕ) (n : ℕ) (ws : List ℕ) → Each (AsksOwn t) ws → anyWord (asksOther n) ws ≡ anyWord (asksOther n) (ownWords (networkOwner t n) ws)
+unfolding anyWord ownWords
+asks-in-own-words t n [] a = refl
+asks-in-own-words t n (w ∷ ws) a =
+    split (stranger (networkOwner t n) (traceOwner w))
+    (λ e. let silent : asksOther n w ≡ false = split (asksOther n w) (λ d. clash e (asks-no-stranger t n w (a .0) d)) (λ d. d) in
+    rw (e, ownWords, silent) (asks-in-own-words t n ws (a .1)))
+    (λ e. rw (e, ownWords) (ap (λ (b : Bool). asksOther n w || b) (asks-in-own-words t n ws (a .1))))

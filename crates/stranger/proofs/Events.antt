@@ -2,6 +2,7 @@
 -- ends alike to o. Assumes nothing.
 use mathlib.Core.Path.{_≡_, refl, _∙_}
 use mathlib.Core.Bool.{Bool, true, false, cond, _&&_, _||_, and-false}
+use mathlib.Core.Logic.{⊎-elim}
 use mathlib.Core.List.{List}
 use Prim.Native.Nat.{ℕ, _+_, _-_, _<_, min}
 use native.Mathlib.Omega.{arith}
@@ -13,17 +14,17 @@ use Rattle.rulebook.specs.Table.{ports, networks, sources, portKind, kindTimer,
 use Rattle.rulebook.specs.State.{networkIndex, sourceIndex, markedOf, valueOf, remainingOf, timerStarted, timerExpired, Network, networkOf, statusOf, statusNone, statusPending, statusValidated, statusExpired, Thing, aPort, aNetwork, aSource, ownerOf}
 use Rattle.rulebook.specs.Reasons.{mayShow}
 use Rattle.rulebook.specs.Lists.{Run, start, setPort, setNetwork}
-use Rattle.rulebook.specs.Events.{eventKind, eventOwner, eventIndex, eventValue, tickKind, modeKind, requestKind, wakeupKind, validKind, busOffKind, only, request, setSource, moveSource, wake, validate, clear, shown, moveNetwork, takes, offBus, busOff, tickedNetwork, tickNetwork, tickSource, tickTimer, tickThings, markedIn, arbitrateMarked, tick, happen}
+use Rattle.rulebook.specs.Events.{eventKind, eventOwner, eventIndex, eventValue, tickKind, modeKind, requestKind, wakeupKind, validKind, busOffKind, clearKind, only, request, setSource, moveSource, wake, validate, clear, shown, moveNetwork, takes, offBus, busOff, tickedNetwork, tickNetwork, tickSource, tickTimer, tickThings, markedIn, arbitrateMarked, tick, happen}
 use Rattle.rulebook.specs.Step.{wellFormed, named}
 use Rattle.laws.specs.Facts.{Facts, Shows}
-use Rattle.laws.proofs.Tests.{split, clash, part-of, and-left, implies-elim}
+use Rattle.laws.proofs.Tests.{split, clash, part-of, and-left, implies-elim, or-some}
 use Rattle.laws.proofs.Walks.{each-alike}
 use Rattle.laws.proofs.Happen.{Taken, owner-is, mode-index, request-index, bus-off-index, source-index}
 use Rattle.stranger.specs.View.{strangersWord, SameView}
 use Rattle.stranger.proofs.More.{pick, pick-both}
 use Rattle.stranger.proofs.View.{same-view-refl, same-view-trans, view-around, write-hidden, write-alike, port-word, network-word, source-word}
 use Rattle.stranger.proofs.Alike.{Alike, alike-trans, start-alike}
-use Rattle.stranger.proofs.Owners.{no-platform}
+use Rattle.stranger.proofs.Owners.{platform-known}
 use Rattle.stranger.proofs.Arbitration.{arbitrate-alike, arbitrate-hidden}
 
 -- What g does to a state stays with owner w: unseen by o if w is a stranger to o, else alike from states that o cannot tell apart.
@@ -178,7 +179,7 @@ module _ (t : List ℕ) (f : Facts t) (o : ℕ) where
 
   tick-confined : ConfinedRun t o platform (λ s. tick t s)
   unfolding tick
-  tick-confined = record { hidden = λ h s. clash refl (no-platform o platform h); alike = λ h s₁ s₂ v. marked-alike _ _ (things-alike s₁ s₂ v) }
+  tick-confined = record { hidden = λ h s. clash h (platform-known o); alike = λ h s₁ s₂ v. marked-alike _ _ (things-alike s₁ s₂ v) }
 
 -- An event that is not refused is its thing's owner's; a tick is the platform's.
 
@@ -191,6 +192,17 @@ module _ (t : List ℕ) (e : ℕ) (w : Taken t e) where
 
   thing-owner : (x : Thing) → eqb (eventKind e) tickKind ≡ false → named e ≡ x → eventOwner e ≡ ownerOf t x
   thing-owner x k d = rw (← d) (owner-is t e w (eqb-false _ _ k))
+
+  pub bus-off-owner : eventKind e ≡ busOffKind → eventOwner e ≡ networkOwner t (eventIndex e)
+  unfolding named ownerOf
+  bus-off-owner k = thing-owner (aNetwork (eventIndex e)) (rw k) (rw k)
+
+  -- of a source's event that ends its waiting
+  pub ending-owner : (eqb (eventKind e) validKind || eqb (eventKind e) clearKind) ≡ true → eventOwner e ≡ sourceOwner t (eventIndex e)
+  unfolding named ownerOf
+  ending-owner h =
+      ⊎-elim (λ d. let k : eventKind e ≡ validKind = eqb-true _ _ d in thing-owner (aSource (eventIndex e)) (rw k) (rw k))
+      (λ d. let k : eventKind e ≡ clearKind = eqb-true _ _ d in thing-owner (aSource (eventIndex e)) (rw k) (rw k)) (or-some (eqb (eventKind e) validKind) (eqb (eventKind e) clearKind) h)
 
 pub happen-confined : (t : List ℕ) (f : Facts t) (o e : ℕ) → Taken t e → ConfinedRun t o (eventOwner e) (λ s. happen t e s)
 unfolding happen named ownerOf

@@ -12,3 +12,4 @@ pub mod Arbitration
 pub mod Events
 pub mod Strangers
 pub mod AsksOwn
+pub mod Exceptions

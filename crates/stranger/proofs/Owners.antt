@@ -1,5 +1,5 @@
 -- What "owners do not clash" says of the things that an item names and of the list that a rule starts. Assumes nothing.
-use mathlib.Core.Path.{_≡_}
+use mathlib.Core.Path.{_≡_, refl}
 use mathlib.Core.Bool.{true, false, not, and-false}
 use mathlib.Core.List.{List}
 use Prim.Native.Nat.{ℕ}
@@ -12,7 +12,16 @@ use Rattle.rulebook.specs.Lists.{choiceIn}
 use Rattle.laws.proofs.Tests.{clash, part-of, and-right, implies-elim, or-elim}
 use Rattle.laws.proofs.Items.{choice-cases}
 
--- a stranger is not the platform
+-- Nobody is a stranger to himself, the platform to nobody.
+
+pub self-known : (o : ℕ) → stranger o o ≡ false
+unfolding stranger
+self-known o = rw (eq-eqb o o refl)
+
+pub platform-known : (o : ℕ) → stranger o platform ≡ false
+unfolding stranger
+platform-known o = and-false (not (eqb platform o))
+
 pub no-platform : (o w : ℕ) → stranger o w ≡ true → eqb w platform ≡ false
 unfolding stranger
 no-platform o w h = not-true _ (and-right (not (eqb w o)) _ h)

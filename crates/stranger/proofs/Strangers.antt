@@ -3,15 +3,15 @@
 use mathlib.Core.Path.{_≡_, refl, sym, _∙_, ap, ap₂}
 use mathlib.Core.Bool.{true, false}
 use mathlib.Core.List.{List, [], _∷_}
-use Prim.Native.Nat.{ℕ, _≤_}
+use Prim.Native.Nat.{ℕ}
 use native.Mathlib.Nat.{zero-add}
 use native.Mathlib.Omega.{arith}
 use lib.Dec.{eqb}
 use borrow.Author.Tests.{eqb-true}
-use Rattle.rulebook.specs.Table.{platform, stranger}
+use Rattle.rulebook.specs.Table.{stranger}
 use Rattle.rulebook.specs.Reasons.{accepted}
 use Rattle.rulebook.specs.State.{fresh}
-use Rattle.rulebook.specs.Events.{eventKind, eventOwner, tickKind, happen}
+use Rattle.rulebook.specs.Events.{eventOwner, happen}
 use Rattle.rulebook.specs.Step.{refusedState, refusedCall, refusedEvent, Result, refusal, finish, handle, step}
 use Rattle.laws.proofs.Tests.{split, clash, and-one-false}
 use Rattle.laws.proofs.Facts.{facts}
@@ -19,11 +19,11 @@ use Rattle.laws.proofs.FitKept.{Fits}
 use Rattle.laws.proofs.Happen.{Taken, taken-event}
 use Rattle.laws.proofs.Steps.{Stepped, refused, done, stepped, happen-shallow, step-fits, fresh-fits}
 use Rattle.stranger.specs.Calls.{Call, called, after, strangersCall, struckOut}
-use Rattle.stranger.specs.Demand.{ticks, tickCount}
+use Rattle.stranger.specs.Demand.{answered, ticks, tickCount}
 use Rattle.stranger.specs.View.{SameView, ownWords, Unseen, seenOf, seen}
 use Rattle.stranger.proofs.More.{pick-both}
 use Rattle.stranger.proofs.View.{same-view-refl, same-view-sym, same-view-trans, same-visible}
-use Rattle.stranger.proofs.Owners.{no-platform}
+use Rattle.stranger.proofs.Owners.{platform-known}
 use Rattle.stranger.proofs.Events.{tick-owner, happen-confined}
 
 -- what o sees of two calls is the same
@@ -31,6 +31,22 @@ pub record SameSeen (t : List ℕ) (o : ℕ) (r₁ r₂ : Result) : Type 0 where
   pub answer : r₁ .answer ≡ r₂ .answer
   pub state : SameView t o (r₁ .state) (r₂ .state)
   pub words : ownWords o (r₁ .words) ≡ ownWords o (r₂ .words)
+
+-- a run with the strangers struck out is one of those that agree with it so
+pub struck-out-twice : (o : ℕ) (cs : List Call) → struckOut o (struckOut o cs) ≡ struckOut o cs
+unfolding struckOut
+struck-out-twice o [] = refl
+struck-out-twice o (c ∷ cs) =
+    split (strangersCall o c) (λ e. rw (e, struckOut) (struck-out-twice o cs))
+    (λ e. rw (e, struckOut) (rw (e, struckOut) (ap (λ (l : List Call). c ∷ l) (struck-out-twice o cs))))
+
+-- a call answered 0 has an event that is not refused
+pub answered-taken : (t s : List ℕ) (c : Call) → answered t s c ≡ true → Taken t (c .event)
+answered-taken t s c z = go (called t s c) (stepped t s (c .room) (c .event)) (eqb-true _ _ z)
+  where
+    go : (r : Result) → Stepped t s (c .room) (c .event) r → r .answer ≡ 0 → Taken t (c .event)
+    go r (refused n a b eq) e = let y : r .answer ≡ n = ap (λ (q : Result). q .answer) eq in absurd (omega arith)
+    go r (done a w eq) e = w
 
 module _ (t : List ℕ) (h : accepted t ≡ true) (o : ℕ) where
   -- One call: a stranger's, and any other from two states that o cannot tell apart.
@@ -47,11 +63,7 @@ module _ (t : List ℕ) (h : accepted t ≡ true) (o : ℕ) where
   -- it is no tick that is taken
   strangers-tick : (s : List ℕ) (c : Call) → strangersCall o c ≡ true → ticks t s c ≡ false
   unfolding strangersCall ticks
-  strangers-tick s c k = and-one-false _ _ (go (called t s c) (stepped t s (c .room) (c .event)))
-    where
-      go : (r : Result) → Stepped t s (c .room) (c .event) r → eqb (r .answer) 0 ≡ true → eqb (eventKind (c .event)) tickKind ≡ true → ⊥
-      go r (refused n a b eq) z e = let y : r .answer ≡ n = ap (λ (q : Result). q .answer) eq in let x : r .answer ≡ 0 = eqb-true _ _ z in omega arith
-      go r (done a w eq) z e = clash refl (no-platform o platform (rw (tick-owner t (c .event) w e) at k))
+  strangers-tick s c k = and-one-false _ _ (λ a e. clash (rw (tick-owner t (c .event) (answered-taken t s c a) e) at k) (platform-known o))
 
   refusal-same : (n : ℕ) {s₁ s₂ : List ℕ} → SameView t o s₁ s₂ → SameSeen t o (refusal n s₁) (refusal n s₂)
   refusal-same n v = record { answer = refl; state = v; words = refl }
@@ -85,10 +97,10 @@ module _ (t : List ℕ) (h : accepted t ≡ true) (o : ℕ) where
   same-seen e i = record { answer = e .answer i; state = same-visible t o (e .state) i; words = e .words i }
 
   -- What holds of no calls, and goes on past a stranger's call on one side and past a kept call on both, holds of every run.
-  beside : (P : List ℕ → List ℕ → List Call → Type 0)
+  pub beside : (P : List ℕ → List ℕ → List Call → Type 0)
       → ((s₁ s₂ : List ℕ) → SameView t o s₁ s₂ → P s₁ s₂ [])
       → ((s₁ s₂ : List ℕ) (c : Call) (cs : List Call) → strangersCall o c ≡ true → P (called t s₁ c .state) s₂ cs → P s₁ s₂ (c ∷ cs))
-      → ((s₁ s₂ : List ℕ) (c : Call) (cs : List Call) → strangersCall o c ≡ false → SameSeen t o (called t s₁ c) (called t s₂ c) → P (called t s₁ c .state) (called t s₂ c .state) cs → P s₁ s₂ (c ∷ cs))
+      → ((s₁ s₂ : List ℕ) (c : Call) (cs : List Call) → strangersCall o c ≡ false → SameView t o s₁ s₂ → SameSeen t o (called t s₁ c) (called t s₂ c) → P (called t s₁ c .state) (called t s₂ c .state) cs → P s₁ s₂ (c ∷ cs))
       → (s₁ s₂ : List ℕ) (cs : List Call) → Fits t s₁ → Fits t s₂ → SameView t o s₁ s₂ → P s₁ s₂ cs
   beside P none one both s₁ s₂ [] f₁ f₂ v = none s₁ s₂ v
   beside P none one both s₁ s₂ (c ∷ cs) f₁ f₂ v =
@@ -96,7 +108,7 @@ module _ (t : List ℕ) (h : accepted t ≡ true) (o : ℕ) where
       split (strangersCall o c)
       (λ e. one s₁ s₂ c cs e (beside P none one both _ s₂ cs next₁ f₂ (same-view-trans t o (same-view-sym t o (strangers-call-unseen s₁ c e .state)) v)))
       (λ e. let same = kept-call-same s₁ s₂ c e f₁ f₂ v in
-      both s₁ s₂ c cs e same (beside P none one both _ _ cs next₁ (step-fits t s₂ (c .room) (c .event) h f₂) (same .state)))
+      both s₁ s₂ c cs e v same (beside P none one both _ _ cs next₁ (step-fits t s₂ (c .room) (c .event) h f₂) (same .state)))
 
   -- The run with the strangers struck out shows o the same after each kept call, and in the end.
 
@@ -104,14 +116,14 @@ module _ (t : List ℕ) (h : accepted t ≡ true) (o : ℕ) where
   unfolding seen struckOut
   struck-out-seen cs =
       beside (λ s₁ s₂ cs. seen t o s₁ cs ≡ seen t o s₂ (struckOut o cs)) (λ s₁ s₂ v. refl) (λ s₁ s₂ c cs e ih. rw (e, seen, struckOut) ih)
-      (λ s₁ s₂ c cs e same ih. rw (e, seen, struckOut) (rw (e, seen) (ap₂ _∷_ (same-seen same) ih)))
+      (λ s₁ s₂ c cs e v same ih. rw (e, seen, struckOut) (rw (e, seen) (ap₂ _∷_ (same-seen same) ih)))
       (fresh t) (fresh t) cs (fresh-fits t h) (fresh-fits t h) (same-view-refl t o (fresh t))
 
   pub struck-out-after : (cs : List Call) → SameView t o (after t (fresh t) cs) (after t (fresh t) (struckOut o cs))
   unfolding after struckOut
   struck-out-after cs =
       beside (λ s₁ s₂ cs. SameView t o (after t s₁ cs) (after t s₂ (struckOut o cs))) (λ s₁ s₂ v. v) (λ s₁ s₂ c cs e ih. rw (e, struckOut) ih)
-      (λ s₁ s₂ c cs e same ih. rw (e, struckOut) ih)
+      (λ s₁ s₂ c cs e v same ih. rw (e, struckOut) ih)
       (fresh t) (fresh t) cs (fresh-fits t h) (fresh-fits t h) (same-view-refl t o (fresh t))
 
   -- no tick that is taken is struck out
@@ -119,7 +131,7 @@ module _ (t : List ℕ) (h : accepted t ≡ true) (o : ℕ) where
   unfolding tickCount struckOut ticks
   struck-out-ticks cs =
       beside (λ s₁ s₂ cs. tickCount t s₁ cs ≡ tickCount t s₂ (struckOut o cs)) (λ s₁ s₂ v. refl)
-      (λ s₁ s₂ c cs e ih. rw (e, struckOut, strangers-tick s₁ c e) (zero-add _ ∙ ih)) (λ s₁ s₂ c cs e same ih. rw (e, struckOut, same .answer, ih))
+      (λ s₁ s₂ c cs e ih. rw (e, struckOut, strangers-tick s₁ c e) (zero-add _ ∙ ih)) (λ s₁ s₂ c cs e v same ih. rw (e, struckOut, same .answer, ih))
       (fresh t) (fresh t) cs (fresh-fits t h) (fresh-fits t h) (same-view-refl t o (fresh t))
 
   -- So do any two runs whose calls agree once the strangers' are struck out.
