@@ -2,3 +2,4 @@
 pub mod Holders
 pub mod Arbitrated
 pub mod Asked
+pub mod Moves
