@@ -56,10 +56,10 @@ module _ (t : List ℕ) (f : Facts t) where
       split (eqb status (statusIn t k s)) (λ e. rw e (source-put t s h k status r o))
       (λ e. rw e (show-fits t _ (sourcePort t k) status (f .source k b .may) (let c : status < 4 = o .status₂ in omega arith) (source-put t s h k status r o)))
 
-  idle-ok : (k status : ℕ) → status < 4 → (status ≡ statusPending → ⊥) → SourceOk t k status 0
+  pub idle-ok : (k status : ℕ) → status < 4 → (status ≡ statusPending → ⊥) → SourceOk t k status 0
   idle-ok k status b n = record { status₂ = b; remaining₁₆ = omega arith; pending = λ e. absurd (n e); rest = λ e. refl }
 
-  woken-ok : (k : ℕ) → SourceOk t k (cond (eqb (timeout t k) 0) statusValidated statusPending) (timeout t k)
+  pub woken-ok : (k : ℕ) → SourceOk t k (cond (eqb (timeout t k) 0) statusValidated statusPending) (timeout t k)
   woken-ok k =
       let cap : timeout t k < 65536 = digit-small _ 65536 _ (omega arith) in
       split (eqb (timeout t k) 0)

@@ -25,8 +25,8 @@ use Rattle.laws.proofs.Walks.{each-keeps, each-at}
 use Rattle.laws.proofs.Fields.{digit-small, port-defined, port-value, source-status, source-remaining}
 use Rattle.laws.proofs.Fit.{NetworkOk, NetworkSmall, network-again, network-small, SourceOk, fits-length}
 use Rattle.laws.proofs.FitKept.{Fits, network-in, source-in}
-use Rattle.laws.proofs.FitEvents.{MayShow, may-show, things-fit, ticked-ok, off-bus-ok, shown-small, tick-network-fits, tick-source-fits, request-cases}
-use Rattle.laws.proofs.Happen.{Taken, happen-cases, mode-index, mode-kind, mode-unheld, request-index, request-kind, bus-off-index, source-index}
+use Rattle.laws.proofs.FitEvents.{MayShow, may-show, things-fit, ticked-ok, off-bus-ok, shown-small, woken-ok, tick-network-fits, tick-source-fits, request-cases}
+use Rattle.laws.proofs.Happen.{Taken, kind-small, happen-cases, mode-index, mode-kind, mode-unheld, request-index, request-kind, bus-off-index, source-index}
 use Rattle.stranger.proofs.Holders.{Holder, network-holder, source-holder, Cells, cells-refl, cells-write, other-network, other-source, other-tick-network, other-tick-source, timers-keep}
 use Rattle.stranger.proofs.Arbitrated.{ShowsAs, port-still, source-still, Core, network-still}
 
@@ -223,3 +223,124 @@ module _ (t : List ℕ) (f : Facts t) (n : ℕ) (b : n < networks t) where
       (λ k. quiet e s _ (λ z. omega arith) (λ z. omega arith) (network-by-valid (eventIndex e) s (source-index t e w (λ z. omega arith) (λ z. omega arith) (λ z. omega arith) (λ z. omega arith))))
       (λ k. network-by-bus-off e s k (bus-off-index t e w k) fit)
       (λ k. quiet e s _ (λ z. k (omega arith)) (λ z. k (omega arith)) (network-by-source (eventIndex e) _ _ s (source-index t e w (λ z. k (omega arith)) (λ z. k (omega arith)) (λ z. k (omega arith)) (λ z. k (omega arith)))))
+
+-- Source k. Arbitration leaves its word alone.
+
+abbrev pub wordOf : ℕ → ℕ
+wordOf w = w
+
+pub source-held : (t : List ℕ) → Facts t → (k : ℕ) → k < sources t → Held t (sourceIndex t k) (sourcePort t k) wordOf
+source-held t f k b = record { holder = source-holder t f k b; still = λ q s fit. source-still t f k (word s (sourceIndex t k)) b q s fit refl }
+
+module _ (t : List ℕ) (f : Facts t) (k : ℕ) (b : k < sources t) where
+  abbrev SourceMoves : ℕ → List ℕ → List ℕ → Type 0
+  SourceMoves w s s′ = Moves (sourceIndex t k) (sourcePort t k) wordOf (λ x. statusOf x) w s s′
+
+  held-source : Held t (sourceIndex t k) (sourcePort t k) wordOf
+  held-source = source-held t f k b
+
+  source-by-nothing : (s : List ℕ) → SourceMoves (word s (sourceIndex t k)) s s
+  source-by-nothing s = by-nothing t f _ _ wordOf _ held-source s
+
+  -- k itself is moved
+  source-moved : (status r : ℕ) (s s₁ : List ℕ) → Fits t s₁ → status < 4 → Cells (sourceIndex t k) (sourcePort t k) s s₁ → SourceMoves (packSource status r) s (moveSource t k status r s₁)
+  unfolding moveSource setSource
+  source-moved status r s s₁ fit small cells =
+      let len = fits-length t s₁ fit in let there : sourcePort t k < ports t = held-source .holder .may .there in
+      let same : statusIn t k s₁ ≡ statusIn t k s = ap (λ (w : ℕ). statusOf w) (cells .own) in
+      let is : statusOf (packSource status r) ≡ status = source-status status r ∙ mod-eq-of-lt small in
+      record {
+        own = kept-own (sourceIndex t k) (sourcePort t k) (packSource status r) status s₁ (eqb status (statusIn t k s₁)) (omega arith) (λ z. omega arith);
+        port = rw (is, same) (port-written t s (set s₁ (sourceIndex t k) (packSource status r)) (sourcePort t k) _ status (lt-length-set s₁ _ _ (omega arith)) (omega arith) (getD-set-other s₁ (sourceIndex t k) (sourcePort t k) _ 0 (λ z. omega arith) ∙ cells .port)) }
+
+  -- what a tick makes of its word
+  unfoldable pub tickedSource : ℕ → ℕ
+  tickedSource w = cond (eqb (statusOf w) statusPending) (cond (leb (remainingOf w) 1) (packSource statusExpired 0) (packSource statusPending (remainingOf w - 1))) w
+
+  ticked-source-here : (s s₁ : List ℕ) → Fits t s₁ → Cells (sourceIndex t k) (sourcePort t k) s s₁ → SourceMoves (tickedSource (word s (sourceIndex t k))) s (tickSource t k s₁)
+  unfolding tickSource tickedSource
+  ticked-source-here s s₁ fit cells =
+      rw (← (cells .own))
+      (split (eqb (statusIn t k s₁) statusPending)
+      (λ e. split (leb (remainingIn s₁ (sourceIndex t k)) 1) (λ d. rw (e, d) (source-moved statusExpired 0 s s₁ fit (omega arith) cells)) (λ d. rw (e, d) (source-moved statusPending _ s s₁ fit (omega arith) cells)))
+      (λ e. rw e (rw (cells .own) (stays t f _ _ wordOf _ held-source s s₁ cells))))
+
+  source-things-move : (s : List ℕ) → Fits t s → SourceMoves (tickedSource (word s (sourceIndex t k))) s (tickThings t s)
+  unfolding tickThings
+  source-things-move s fit =
+      let m = sources t - suc k in
+      let whole : sources t ≡ k + suc m = omega arith in
+      let s₁ = each 0 (networks t) (tickNetwork t) s in
+      let fit₁ : Fits t s₁ = each-keeps (Fits t) (tickNetwork t) 0 (networks t) s (λ a x u v. tick-network-fits t f a x (omega arith)) fit in
+      let cells₁ = past-networks t f _ _ wordOf (λ x. statusOf x) held-source s s 0 (networks t) (omega arith) (λ a u v z. omega arith) (cells-refl _ _ s) in
+      let s₂ = each 0 k (tickSource t) s₁ in
+      let fit₂ : Fits t s₂ = each-keeps (Fits t) (tickSource t) 0 k s₁ (λ a x u v. tick-source-fits t f a x (omega arith)) fit₁ in
+      let cells₂ = past-sources t f _ _ wordOf (λ x. statusOf x) held-source s s₁ 0 k (omega arith) (λ a u v z. omega arith) cells₁ in
+      let s₃ = tickSource t k s₂ in
+      carried t f _ _ wordOf _ held-source _ s s₃ _ (ticked-source-here s s₂ fit₂ cells₂)
+      (timers-keep t f _ _ (held-source .holder) s₃ _
+      (rw (whole, each-at (tickSource t) k m s₁) (past-sources t f _ _ wordOf (λ x. statusOf x) held-source s₃ s₃ (suc k) m (omega arith) (λ a u v z. omega arith) (cells-refl _ _ s₃))))
+
+  -- what an event of the source's own makes of its word
+  unfoldable pub wokenSource : ℕ → ℕ
+  wokenSource w = cond (eqb (statusOf w) statusNone || eqb (statusOf w) statusExpired) (packSource (cond (eqb (timeout t k) 0) statusValidated statusPending) (timeout t k)) w
+
+  unfoldable pub validSource : ℕ → ℕ
+  validSource w = cond (eqb (statusOf w) statusPending) (packSource statusValidated 0) w
+
+  unfoldable pub nextSource : ℕ → List ℕ → ℕ
+  nextSource e s =
+      cond (eqb (eventKind e) tickKind) (tickedSource (word s (sourceIndex t k)))
+      (cond (eqb (eventKind e) wakeupKind && eqb (eventIndex e) k) (wokenSource (word s (sourceIndex t k)))
+      (cond (eqb (eventKind e) validKind && eqb (eventIndex e) k) (validSource (word s (sourceIndex t k)))
+      (cond (eqb (eventKind e) clearKind && eqb (eventIndex e) k) (packSource statusNone 0)
+      (word s (sourceIndex t k)))))
+
+  -- another source's event
+  other-index : (m : ℕ) → (m ≡ k → ⊥) → sourceIndex t m ≡ sourceIndex t k → ⊥
+  other-index m d z = d (omega arith)
+
+  source-by-wake : (m : ℕ) (s : List ℕ) → m < sources t → Fits t s → SourceMoves (cond (eqb m k) (wokenSource (word s (sourceIndex t k))) (word s (sourceIndex t k))) s (wake t m s)
+  unfolding wake wokenSource
+  source-by-wake m s c fit =
+      split (eqb m k)
+      (λ a. let same : m ≡ k = eqb-true _ _ a in rw (a, same)
+        (split (eqb (statusIn t k s) statusNone || eqb (statusIn t k s) statusExpired)
+        (λ e. rw e (source-moved _ _ s s fit (woken-ok t f k .status₂) (cells-refl _ _ s))) (λ e. rw e (source-by-nothing s))))
+      (λ a. rw a (split (eqb (statusIn t m s) statusNone || eqb (statusIn t m s) statusExpired)
+        (λ e. rw e (by-source t f _ _ wordOf _ held-source m _ _ s c (other-index m (eqb-false _ _ a)))) (λ e. rw e (source-by-nothing s))))
+
+  source-by-valid : (m : ℕ) (s : List ℕ) → m < sources t → Fits t s → SourceMoves (cond (eqb m k) (validSource (word s (sourceIndex t k))) (word s (sourceIndex t k))) s (validate t m s)
+  unfolding validate validSource
+  source-by-valid m s c fit =
+      split (eqb m k)
+      (λ a. let same : m ≡ k = eqb-true _ _ a in rw (a, same)
+        (split (eqb (statusIn t k s) statusPending) (λ e. rw e (source-moved statusValidated 0 s s fit (omega arith) (cells-refl _ _ s))) (λ e. rw e (source-by-nothing s))))
+      (λ a. rw a (split (eqb (statusIn t m s) statusPending)
+        (λ e. rw e (by-source t f _ _ wordOf _ held-source m _ _ s c (other-index m (eqb-false _ _ a)))) (λ e. rw e (source-by-nothing s))))
+
+  source-by-clear : (m : ℕ) (s : List ℕ) → m < sources t → Fits t s → SourceMoves (cond (eqb m k) (packSource statusNone 0) (word s (sourceIndex t k))) s (clear t m s)
+  unfolding clear
+  source-by-clear m s c fit =
+      split (eqb m k)
+      (λ a. let same : m ≡ k = eqb-true _ _ a in rw (a, same) (source-moved statusNone 0 s s fit (omega arith) (cells-refl _ _ s)))
+      (λ a. rw a (by-source t f _ _ wordOf _ held-source m _ _ s c (other-index m (eqb-false _ _ a))))
+
+  source-by-bus-off : (n : ℕ) (s : List ℕ) → n < networks t → SourceMoves (word s (sourceIndex t k)) s (busOff t n s)
+  unfolding busOff
+  source-by-bus-off n s c = split (takes (networkIn t n s)) (λ d. rw d (by-network t f _ _ wordOf _ held-source n _ s c (λ z. omega arith))) (λ d. rw d (source-by-nothing s))
+
+  pub source-moves : (e : ℕ) (s : List ℕ) → Taken t e → Fits t s → SourceMoves (nextSource e s) s (happen t e s .state)
+  unfolding nextSource tick arbitrateMarked
+  source-moves e s w fit =
+      happen-cases (λ x. SourceMoves (nextSource e s) s (x .state)) t e s
+      (λ z. rw z (then-still t f _ _ wordOf _ held-source _ _ s _ (things-fit t f s fit) (source-things-move s fit)))
+      (λ z. rw z (by-mode-request t f _ _ wordOf _ held-source e s w z fit))
+      (λ z. rw z (by-event-request t f _ _ wordOf _ held-source e s w z fit))
+      (λ z. rw z (source-by-wake (eventIndex e) s (source-index t e w (λ y. omega arith) (λ y. omega arith) (λ y. omega arith) (λ y. omega arith)) fit))
+      (λ z. rw z (source-by-valid (eventIndex e) s (source-index t e w (λ y. omega arith) (λ y. omega arith) (λ y. omega arith) (λ y. omega arith)) fit))
+      (λ z. rw z (source-by-bus-off (eventIndex e) s (bus-off-index t e w z)))
+      (λ z. let small = kind-small t e w in let six : eventKind e ≡ 6 = above-five (eventKind e) z small in rw six (source-by-clear (eventIndex e) s (source-index t e w (λ y. omega arith) (λ y. omega arith) (λ y. omega arith) (λ y. omega arith)) fit))
+    where
+      above-five : (x : ℕ) → (x ≤ 5 → ⊥) → x ≤ 6 → x ≡ 6
+      above-five x n m = omega arith
