@@ -3,3 +3,4 @@ pub mod Holders
 pub mod Arbitrated
 pub mod Asked
 pub mod Moves
+pub mod Shows
