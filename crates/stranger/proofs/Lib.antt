@@ -4,3 +4,4 @@ pub mod Arbitrated
 pub mod Asked
 pub mod Moves
 pub mod Shows
+pub mod AskedAfter
