@@ -56,10 +56,10 @@ module _ (t : List ℕ) (f : Facts t) where
       split (eqb status (statusIn t k s)) (λ e. rw e (source-put t s h k status r o))
       (λ e. rw e (show-fits t _ (sourcePort t k) status (f .source k b .may) (let c : status < 4 = o .status₂ in omega arith) (source-put t s h k status r o)))
 
-  idle-ok : (k status : ℕ) → status < 4 → (status ≡ statusPending → ⊥) → SourceOk t k status 0
+  pub idle-ok : (k status : ℕ) → status < 4 → (status ≡ statusPending → ⊥) → SourceOk t k status 0
   idle-ok k status b n = record { status₂ = b; remaining₁₆ = omega arith; pending = λ e. absurd (n e); rest = λ e. refl }
 
-  woken-ok : (k : ℕ) → SourceOk t k (cond (eqb (timeout t k) 0) statusValidated statusPending) (timeout t k)
+  pub woken-ok : (k : ℕ) → SourceOk t k (cond (eqb (timeout t k) 0) statusValidated statusPending) (timeout t k)
   woken-ok k =
       let cap : timeout t k < 65536 = digit-small _ 65536 _ (omega arith) in
       split (eqb (timeout t k) 0)
@@ -80,7 +80,7 @@ module _ (t : List ℕ) (f : Facts t) where
   unfolding clear
   clear-fits k s b h = move-source-fits k _ _ s b (idle-ok k statusNone (omega arith) (λ z. omega arith)) h
 
-  tick-source-fits : (k : ℕ) (s : List ℕ) → k < sources t → Fits t s → Fits t (tickSource t k s)
+  pub tick-source-fits : (k : ℕ) (s : List ℕ) → k < sources t → Fits t s → Fits t (tickSource t k s)
   unfolding tickSource
   tick-source-fits k s b h =
       let o = source-in t s h k b in
@@ -94,7 +94,7 @@ module _ (t : List ℕ) (f : Facts t) where
 
   -- Networks.
 
-  shown-small : (state : ℕ) → shown state < 256
+  pub shown-small : (state : ℕ) → shown state < 256
   unfolding shown
   shown-small state =
       split (eqb state stateNone) (λ a. rw a (omega arith))
@@ -123,7 +123,7 @@ module _ (t : List ℕ) (f : Facts t) where
       let long : longWait t n < 256 = digit-small _ 256 _ (omega arith) in
       record { counter₈ = b; remaining₁₆ = omega arith; modes = o .modes; states = omega arith; check = λ e. absurd (omega arith); recover = λ e. (x, y); rest = λ a d. absurd (d refl); counted = λ e. z }
 
-  off-bus-ok : (n k : ℕ) (c : Network) → n < networks t → NetworkOk t n c → k < 256 → 1 ≤ k → NetworkOk t n (offBus t n k c)
+  pub off-bus-ok : (n k : ℕ) (c : Network) → n < networks t → NetworkOk t n c → k < 256 → 1 ≤ k → NetworkOk t n (offBus t n k c)
   unfolding offBus wait
   off-bus-ok n k c b o x y =
       let w = f .waits n b in let s₁ = w .short in let l₁ = w .long in
@@ -148,7 +148,7 @@ module _ (t : List ℕ) (f : Facts t) where
       (λ d. let m : 1 < c .remaining = leb-false _ _ d in rw (e, g, d) (checking-ok n (c .counter) (c .remaining - 1) c o (o .counter₈) (omega arith) (omega arith))))
       (λ g. rw (e, g) o))
 
-  ticked-ok : (n : ℕ) (c : Network) → n < networks t → NetworkOk t n c → NetworkOk t n (tickedNetwork t n c)
+  pub ticked-ok : (n : ℕ) (c : Network) → n < networks t → NetworkOk t n c → NetworkOk t n (tickedNetwork t n c)
   unfolding tickedNetwork
   ticked-ok n c b o =
       let e₁ = f .waits n b .eticks in
@@ -157,7 +157,7 @@ module _ (t : List ℕ) (f : Facts t) where
       (λ y. split (eqb (c .asked) askedFull && (eqb (c .state) stateNone || eqb (c .state) stateSilent)) (λ z. rw (x, y, z) (checking-ok n 0 (eTicks t n) c o (omega arith) (omega arith) (omega arith)))
       (λ z. rw (x, y, z) (counted-ok n c b o))))
 
-  tick-network-fits : (n : ℕ) (s : List ℕ) → n < networks t → Fits t s → Fits t (tickNetwork t n s)
+  pub tick-network-fits : (n : ℕ) (s : List ℕ) → n < networks t → Fits t s → Fits t (tickNetwork t n s)
   unfolding tickNetwork
   tick-network-fits n s b h = move-network-fits n _ s b (ticked-ok n _ b (network-in t s h n b)) h
 
@@ -184,12 +184,22 @@ module _ (t : List ℕ) (f : Facts t) where
       (each-keeps (Fits t) (tickSource t) 0 (sources t) _ (λ k x a b. tick-source-fits k x (omega arith))
       (each-keeps (Fits t) (tickNetwork t) 0 (networks t) s (λ n x a b. tick-network-fits n x (omega arith)) h))
 
-  request-fits : (p v : ℕ) (s : List ℕ) → p < ports t → (portKind t p ≡ kindTimer → ⊥) → v < 256 → (portKind t p ≡ kindEvent → v ≤ 1) → Fits t s → Fits t (request t p v s .state)
-  unfolding request setPort
-  request-fits p v s b nt v₈ ev h =
+  -- the port of a request, written
+  pub requested-fits : (p m v : ℕ) (s : List ℕ) → p < ports t → (portKind t p ≡ kindTimer → ⊥) → v < 256 → (portKind t p ≡ kindEvent → v ≤ 1) → m < 2 → (deferred t p ≡ 0 → m ≡ 0) → Fits t s → Fits t (setPort p m v 0 s)
+  unfolding setPort
+  requested-fits p m v s b nt v₈ ev m₂ imm h = port-put t s h p 1 m v 0 b (plain-ok t p m v nt m₂ imm v₈ ev)
+
+  -- a request, deferred or immediate
+  pub request-cases : (P : Run → Type 0) (p v : ℕ) (s : List ℕ) → p < ports t → (portKind t p ≡ kindTimer → ⊥) → v < 256 → (portKind t p ≡ kindEvent → v ≤ 1) → Fits t s
+    → (Fits t (setPort p 1 v 0 s) → P (start (setPort p 1 v 0 s))) → (Fits t (setPort p 0 v 0 s) → P (arbitrate t (only p) (setPort p 0 v 0 s))) → P (request t p v s)
+  unfolding request
+  request-cases P p v s b nt v₈ ev h late now =
       split (eqb (deferred t p) 1)
-      (λ e. let d : deferred t p ≡ 1 = eqb-true _ _ e in rw e (port-put t s h p 1 1 v 0 b (plain-ok t p 1 v nt (omega arith) (λ z. absurd (omega arith)) v₈ ev)))
-      (λ e. rw e (arbitrate-fits t f (only p) _ (port-put t s h p 1 0 v 0 b (plain-ok t p 0 v nt (omega arith) (λ z. refl) v₈ ev))))
+      (λ e. let d : deferred t p ≡ 1 = eqb-true _ _ e in rw e (late (requested-fits p 1 v s b nt v₈ ev (omega arith) (λ z. absurd (omega arith)) h)))
+      (λ e. rw e (now (requested-fits p 0 v s b nt v₈ ev (omega arith) (λ z. refl) h)))
+
+  request-fits : (p v : ℕ) (s : List ℕ) → p < ports t → (portKind t p ≡ kindTimer → ⊥) → v < 256 → (portKind t p ≡ kindEvent → v ≤ 1) → Fits t s → Fits t (request t p v s .state)
+  request-fits p v s b nt v₈ ev h = request-cases (λ x. Fits t (x .state)) p v s b nt v₈ ev h (λ fit. fit) (λ fit. arbitrate-fits t f (only p) _ fit)
 
   pub happen-fits : (e : ℕ) (s : List ℕ) → Taken t e → Fits t s → Fits t (happen t e s .state)
   unfolding tick arbitrateMarked

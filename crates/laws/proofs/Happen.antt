@@ -101,6 +101,10 @@ module _ (t : List ℕ) (e : ℕ) (w : Taken t e) where
   unfolding suited
   mode-kind k = eqb-true _ _ (implies-elim (eqb (eventKind e) modeKind) _ (part-of _ (λ x. rw (suited, x) at (fit-for (λ z. omega arith)))) (eq-eqb _ _ k))
 
+  pub mode-unheld : eventKind e ≡ modeKind → held t (eventIndex e) (networks t) (sources t) ≡ false
+  unfolding suited
+  mode-unheld k = not-true _ (implies-elim (eqb (eventKind e) modeKind) (not (held t (eventIndex e) (networks t) (sources t))) (part-of _ (λ x. rw (suited, x, and-false) at (fit-for (λ z. omega arith)))) (eq-eqb _ _ k))
+
   pub request-index : eventKind e ≡ requestKind → eventIndex e < ports t
   unfolding present
   request-index k = ltb-true _ _ (rw (named-event k) at (there (λ z. omega arith)))

@@ -110,6 +110,11 @@ unfolding each
 each-part f i zero m a = simp (zero-add, add-zero)
 each-part f i (suc n) m a = rw (suc-add n m, each-part f (suc i) n m (f i a), suc-add i n, add-suc i n)
 
+-- a walk by its turn n
+pub each-at : {A : Type 0} (f : ℕ → A → A) (n m : ℕ) (a : A) → each 0 (n + suc m) f a ≡ each (suc n) m f (f n (each 0 n f a))
+unfolding each
+each-at f n m a = each-part f 0 n (suc m) a ∙ rw (zero-add n)
+
 pub sum-most : (f g : ℕ → ℕ) (i n : ℕ) → ((j : ℕ) → i ≤ j → j < i + n → f j ≤ g j) → sum i n f ≤ sum i n g
 unfolding sum
 sum-most f g i zero h = omega arith

@@ -2,6 +2,9 @@
 pub mod Holders
 pub mod Arbitrated
 pub mod Asked
+pub mod Moves
+pub mod Shows
+pub mod AskedAfter
 pub mod More
 pub mod View
 pub mod Alike

@@ -6,10 +6,10 @@ use Prim.Native.Nat.{ℕ, zero, suc, _+_, _-_, _≤_, _<_, min}
 use lib.Dec.{leb, eqb}
 use Rattle.rulebook.specs.Words.{word, field}
 use Rattle.rulebook.specs.Table.{networkPort, eTicks, sourcePort, timeout, kindAsk}
-use Rattle.rulebook.specs.State.{sourceIndex, valueOf, remainingOf, askedFull, stateCheck, stateFull, stateRecover, statusNone, statusPending, statusExpired}
+use Rattle.rulebook.specs.State.{sourceIndex, definedOf, valueOf, remainingOf, fresh, askedFull, stateCheck, stateFull, stateRecover, statusNone, statusPending, statusExpired}
 use Rattle.rulebook.specs.Lists.{networkIn}
-use Rattle.rulebook.specs.Events.{eventKind, eventIndex, tickKind, wakeupKind, validKind, busOffKind, clearKind, statusIn, takes, wait}
-use Rattle.stranger.specs.Calls.{Call, called}
+use Rattle.rulebook.specs.Events.{eventKind, eventIndex, tickKind, wakeupKind, validKind, busOffKind, clearKind, statusIn, shown, takes, wait}
+use Rattle.stranger.specs.Calls.{Call, called, after}
 
 abbrev pub answered : List ℕ → List ℕ → Call → Bool
 answered t s c = eqb (called t s c .answer) 0
@@ -90,3 +90,20 @@ notEnded t k s (c ∷ cs) = not (ended t k s c) && notEnded t k (called t s c .s
 pub record Waiting (t : List ℕ) (k j : ℕ) (s : List ℕ) : Type 0 where
   pub pending : j < timeout t k → (statusIn t k s ≡ statusPending) × (remainingOf (word s (sourceIndex t k)) ≡ timeout t k - j) × (showsStatus t k s ≡ statusPending)
   pub expired : j ≡ timeout t k → (statusIn t k s ≡ statusExpired) × (showsStatus t k s ≡ statusExpired)
+
+-- Ports show. What network n and source k have to show in a state, and whether some call of a run changed it.
+
+unfoldable pub modeToShow : List ℕ → ℕ → List ℕ → ℕ
+modeToShow t n s = shown (networkIn t n s .state)
+
+unfoldable pub statusToShow : List ℕ → ℕ → List ℕ → ℕ
+statusToShow t k s = statusIn t k s
+
+unfoldable pub changes : (List ℕ → ℕ) → List ℕ → List ℕ → List Call → Bool
+changes look t s [] = false
+changes look t s (c ∷ cs) = not (eqb (look (called t s c .state)) (look s)) || changes look t (called t s c .state) cs
+
+-- port p shows `look` of the state after a run, and is defined exactly if some call of the run changed it
+pub record PortShows (p : ℕ) (look : List ℕ → ℕ) (t : List ℕ) (cs : List Call) : Type 0 where
+  pub value : valueOf (word (after t (fresh t) cs) p) ≡ look (after t (fresh t) cs)
+  pub defined : definedOf (word (after t (fresh t) cs) p) ≡ cond (changes look t (fresh t) cs) 1 0

@@ -1,0 +1,346 @@
+-- What one event does to a network or a source and to its port: each moves only by the tick and by events of its own. Said first
+-- of any thing that holds an index i and a port p, of whose word `core` is what arbitration leaves alone, and which shows `show` of
+-- it. Assumes nothing.
+use mathlib.Core.Path.{_≡_, refl, sym, _∙_, ap}
+use mathlib.Core.Bool.{Bool, true, false, cond, _&&_, _||_, not}
+use mathlib.Core.List.{List, [], _∷_, _++_}
+use Prim.Native.Nat.{ℕ, zero, suc, _+_, _-_, _%_, _≤_, _<_, min}
+use native.Mathlib.Omega.{arith}
+use native.Mathlib.Nat.{mod-eq-of-lt, zero-add}
+use lib.ListN.{length, set}
+use lib.Seq.{getD-set-same, getD-set-other, lt-length-set}
+use lib.Dec.{leb, ltb, eqb}
+use borrow.Author.Tests.{ltb-true, leb-true, leb-false, eqb-true, eqb-false, eq-eqb, ne-eqb, not-true}
+use Rattle.rulebook.specs.Words.{word, each}
+use Rattle.rulebook.specs.Table.{ports, networks, sources, rules, portKind, kindMode, kindEvent, kindTimer, deferred, networkPort, sourcePort, timeout}
+use Rattle.rulebook.specs.Reasons.{held}
+use Rattle.rulebook.specs.State.{networkIndex, sourceIndex, definedOf, valueOf, remainingOf, Network, networkOf, askedFull, statusOf, statusNone, statusPending, statusValidated, statusExpired, packPort, packNetwork, packSource}
+use Rattle.rulebook.specs.Lists.{Run, start, setPort, networkIn, asking, setNetwork}
+use Rattle.rulebook.specs.Arbitration.{arbitrate}
+use Rattle.rulebook.specs.Events.{eventKind, eventIndex, eventValue, tickKind, modeKind, requestKind, wakeupKind, validKind, busOffKind, clearKind, only, request, statusIn, setSource, moveSource, wake, validate, clear, shown, moved, moveNetwork, takes, offBus, busOff, tickedNetwork, tickNetwork, remainingIn, tickSource, tickTimer, tickThings, markedIn, arbitrateMarked, tick, happen}
+use Rattle.rulebook.specs.Step.{wellFormed}
+use Rattle.laws.specs.Facts.{Facts}
+use Rattle.laws.proofs.Tests.{split, clash, and-left, and-right}
+use Rattle.laws.proofs.Walks.{each-keeps, each-at}
+use Rattle.laws.proofs.Fields.{digit-small, port-defined, port-value, source-status, source-remaining}
+use Rattle.laws.proofs.Fit.{NetworkOk, NetworkSmall, network-again, network-small, SourceOk, fits-length}
+use Rattle.laws.proofs.FitKept.{Fits, network-in, source-in}
+use Rattle.laws.proofs.FitEvents.{MayShow, may-show, things-fit, ticked-ok, off-bus-ok, shown-small, woken-ok, tick-network-fits, tick-source-fits, request-cases}
+use Rattle.laws.proofs.Happen.{Taken, kind-small, happen-cases, mode-index, mode-kind, mode-unheld, request-index, request-kind, bus-off-index, source-index}
+use Rattle.stranger.proofs.Holders.{Holder, network-holder, source-holder, Cells, cells-refl, cells-write, other-network, other-source, other-tick-network, other-tick-source, timers-keep}
+use Rattle.stranger.proofs.Arbitrated.{ShowsAs, port-still, source-still, Core, network-still}
+
+-- A port that shows `old` comes to show `new`: written, and defined, exactly if the two differ.
+pub record PortMoves (p old new : ℕ) (s s′ : List ℕ) : Type 0 where
+  pub value : valueOf (word s p) ≡ old → valueOf (word s′ p) ≡ new
+  pub defined : definedOf (word s′ p) ≡ cond (eqb new old) (definedOf (word s p)) 1
+
+pub port-stays : (p v : ℕ) (s s′ : List ℕ) → word s′ p ≡ word s p → PortMoves p v v s s′
+port-stays p v s s′ e = record { value = λ h. ap (λ (x : ℕ). valueOf x) e ∙ h; defined = rw (eq-eqb v v refl) (ap (λ (x : ℕ). definedOf x) e) }
+
+-- the port is written, or not, by the test that moves it
+port-written : (t s s₁ : List ℕ) (p old new : ℕ) → p < length s₁ → new < 256 → word s₁ p ≡ word s p → PortMoves p old new s (cond (eqb new old) s₁ (setPort p 1 new 0 s₁))
+unfolding setPort
+port-written t s s₁ p old new b small e =
+    split (eqb new old)
+    (λ h. rw h (record { value = λ v. ap (λ (x : ℕ). valueOf x) e ∙ v ∙ sym (eqb-true _ _ h); defined = rw h (ap (λ (x : ℕ). definedOf x) e) }))
+    (λ h. let is : word (set s₁ p (packPort 1 1 new 0)) p ≡ packPort 1 1 new 0 = getD-set-same s₁ p _ 0 b in
+      rw h (record { value = λ v. ap (λ (x : ℕ). valueOf x) is ∙ port-value 1 1 new 0 ∙ mod-eq-of-lt small; defined = rw h (ap (λ (x : ℕ). definedOf x) is ∙ port-defined 1 1 new 0) }))
+
+-- arbitration leaves it so
+pub port-then-still : (t : List ℕ) → Facts t → (p old new : ℕ) → MayShow t p → (q : ℕ → Bool) (s s₁ : List ℕ) → Fits t s₁ → PortMoves p old new s s₁ → PortMoves p old new s (arbitrate t q s₁ .state)
+port-then-still t f p old new m q s s₁ fit h =
+    let k = port-still t f p _ _ m q s₁ fit (record { value = refl; defined = refl }) in
+    record { value = λ v. k .value ∙ h .value v; defined = k .defined ∙ h .defined }
+
+-- A thing.
+
+pub record Moves {X : Type 0} (i p : ℕ) (core : ℕ → X) (show : X → ℕ) (x : X) (s s′ : List ℕ) : Type 0 where
+  pub own : core (word s′ i) ≡ x
+  pub port : PortMoves p (show (core (word s i))) (show x) s s′
+
+-- The thing at index i with port p: what it holds, and that arbitration leaves its core alone.
+pub record Held (t : List ℕ) {X : Type 0} (i p : ℕ) (core : ℕ → X) : Type 0 where
+  pub holder : Holder t i p
+  pub still : (q : ℕ → Bool) (s : List ℕ) → Fits t s → core (word (arbitrate t q s .state) i) ≡ core (word s i)
+
+module _ (t : List ℕ) (f : Facts t) {X : Type 0} (i p : ℕ) (core : ℕ → X) (show : X → ℕ) (h : Held t i p core) where
+  abbrev now : List ℕ → X
+  now s = core (word s i)
+
+  pub stays : (s s′ : List ℕ) → Cells i p s s′ → Moves i p core show (now s) s s′
+  stays s s′ c = record { own = ap core (c .own); port = port-stays p _ s s′ (c .port) }
+
+  pub then-still : (x : X) (q : ℕ → Bool) (s s₁ : List ℕ) → Fits t s₁ → Moves i p core show x s s₁ → Moves i p core show x s (arbitrate t q s₁ .state)
+  then-still x q s s₁ fit m = record { own = h .still q s₁ fit ∙ m .own; port = port-then-still t f p _ _ (h .holder .may) q s s₁ fit (m .port) }
+
+  pub carried : (x : X) (s s₁ s₂ : List ℕ) → Moves i p core show x s s₁ → Cells i p s₁ s₂ → Moves i p core show x s s₂
+  carried x s s₁ s₂ m k =
+      record {
+        own = ap core (k .own) ∙ m .own;
+        port = record { value = λ v. ap (λ (w : ℕ). valueOf w) (k .port) ∙ m .port .value v; defined = ap (λ (w : ℕ). definedOf w) (k .port) ∙ m .port .defined } }
+
+  -- events of others, and requests, leave it alone
+
+  pub by-network : (m : ℕ) (c : Network) (s : List ℕ) → m < networks t → (networkIndex t m ≡ i → ⊥) → Moves i p core show (now s) s (moveNetwork t m c s)
+  by-network m c s b d = stays s _ (other-network t f i p (h .holder) s m c s b d (cells-refl i p s))
+
+  pub by-source : (m status r : ℕ) (s : List ℕ) → m < sources t → (sourceIndex t m ≡ i → ⊥) → Moves i p core show (now s) s (moveSource t m status r s)
+  by-source m status r s b d = stays s _ (other-source t f i p (h .holder) s m status r s b d (cells-refl i p s))
+
+  by-port : (q v : ℕ) (s : List ℕ) → q < ports t → (q ≡ p → ⊥) → (portKind t q ≡ kindTimer → ⊥) → v < 256 → (portKind t q ≡ kindEvent → v ≤ 1) → Fits t s → Moves i p core show (now s) s (request t q v s .state)
+  unfolding setPort
+  by-port q v s c apart nt v₈ ev fit =
+      let above : ports t ≤ i = h .holder .above in
+      let cells : (w : ℕ) → Cells i p s (set s q w) = λ w. cells-write i p q w s s (λ z. omega arith) (λ z. apart (sym z)) (cells-refl i p s) in
+      request-cases t f (λ x. Moves i p core show (now s) s (x .state)) q v s c nt v₈ ev fit
+      (λ fit₁. stays s _ (cells _)) (λ fit₁. then-still _ (only q) s _ fit₁ (stays s _ (cells _)))
+
+  pub by-mode-request : (e : ℕ) (s : List ℕ) → Taken t e → eventKind e ≡ modeKind → Fits t s → Moves i p core show (now s) s (request t (eventIndex e) (eventValue e) s .state)
+  by-mode-request e s w k fit =
+      let m = mode-kind t e w k in
+      by-port (eventIndex e) (eventValue e) s (mode-index t e w k) (h .holder .requests (eventIndex e) (mode-unheld t e w k)) (λ z. omega arith) (digit-small _ 256 _ (omega arith)) (λ z. absurd (omega arith)) fit
+
+  pub by-event-request : (e : ℕ) (s : List ℕ) → Taken t e → eventKind e ≡ requestKind → Fits t s → Moves i p core show (now s) s (request t (eventIndex e) 1 s .state)
+  by-event-request e s w k fit =
+      let m = request-kind t e w k in let mode : portKind t p ≡ kindMode = h .holder .may .mode in
+      by-port (eventIndex e) 1 s (request-index t e w k) (λ z. let same : portKind t (eventIndex e) ≡ portKind t p = ap (λ (u : ℕ). portKind t u) z in omega arith) (λ z. omega arith) (omega arith) (λ z. omega arith) fit
+
+  pub by-nothing : (s : List ℕ) → Moves i p core show (now s) s s
+  by-nothing s = stays s s (cells-refl i p s)
+
+  -- the walks of a tick over other things
+
+  pub past-networks : (s₀ s : List ℕ) (j m : ℕ) → j + m ≤ networks t → ((a : ℕ) → j ≤ a → a < j + m → networkIndex t a ≡ i → ⊥) → Cells i p s₀ s → Cells i p s₀ (each j m (tickNetwork t) s)
+  past-networks s₀ s j m b d c = each-keeps (Cells i p s₀) (tickNetwork t) j m s (λ a x u v. other-tick-network t f i p (h .holder) s₀ a x (omega arith) (d a u v)) c
+
+  pub past-sources : (s₀ s : List ℕ) (j m : ℕ) → j + m ≤ sources t → ((a : ℕ) → j ≤ a → a < j + m → sourceIndex t a ≡ i → ⊥) → Cells i p s₀ s → Cells i p s₀ (each j m (tickSource t) s)
+  past-sources s₀ s j m b d c = each-keeps (Cells i p s₀) (tickSource t) j m s (λ a x u v. other-tick-source t f i p (h .holder) s₀ a x (omega arith) (d a u v)) c
+
+-- Network n. Its core is all but what it is asked.
+
+abbrev pub coreOf : ℕ → Network
+coreOf w = asking 0 (networkOf w)
+
+abbrev pub shownBy : Network → ℕ
+shownBy c = shown (c .state)
+
+core-path : (a b : Network) → Core a b → asking 0 a ≡ asking 0 b
+core-path a b k j = record { asked = 0; state = k .state j; counter = k .counter j; remaining = k .remaining j }
+
+pub network-held : (t : List ℕ) → Facts t → (n : ℕ) → n < networks t → Held t (networkIndex t n) (networkPort t n) coreOf
+network-held t f n b =
+    record { holder = network-holder t f n b; still = λ q s fit. core-path _ _ (network-still t f n (networkIn t n s) b q s fit (record { state = refl; counter = refl; remaining = refl })) }
+
+-- the network's word, whether or not its port is written after it
+kept-own : (i p w v : ℕ) (s : List ℕ) (x : Bool) → i < length s → (i ≡ p → ⊥) → word (cond x (set s i w) (setPort p 1 v 0 (set s i w))) i ≡ w
+unfolding setPort
+kept-own i p w v s true b d = getD-set-same s i w 0 b
+kept-own i p w v s false b d = getD-set-other (set s i w) p i _ 0 d ∙ getD-set-same s i w 0 b
+
+module _ (t : List ℕ) (f : Facts t) (n : ℕ) (b : n < networks t) where
+  abbrev NetworkMoves : Network → List ℕ → List ℕ → Type 0
+  NetworkMoves c s s′ = Moves (networkIndex t n) (networkPort t n) coreOf shownBy (asking 0 c) s s′
+
+  held-network : Held t (networkIndex t n) (networkPort t n) coreOf
+  held-network = network-held t f n b
+
+  -- n itself is moved
+  network-moved : (c : Network) (s s₁ : List ℕ) → Fits t s₁ → NetworkOk t n c → Cells (networkIndex t n) (networkPort t n) s s₁ → NetworkMoves c s (moveNetwork t n c s₁)
+  unfolding moveNetwork setNetwork
+  network-moved c s s₁ fit ok cells =
+      let len = fits-length t s₁ fit in let there : networkPort t n < ports t = held-network .holder .may .there in
+      let same : shown (networkIn t n s₁ .state) ≡ shown (networkIn t n s .state) = ap (λ (w : ℕ). shown (networkOf w .state)) (cells .own) in
+      record {
+        own = ap coreOf (kept-own (networkIndex t n) (networkPort t n) (packNetwork c) _ s₁ (eqb (shown (c .state)) (shown (networkIn t n s₁ .state))) (omega arith) (λ z. omega arith)) ∙ ap (asking 0) (network-again c (network-small t n c ok));
+        port = rw same (port-written t s (set s₁ (networkIndex t n) (packNetwork c)) (networkPort t n) _ (shown (c .state)) (lt-length-set s₁ _ _ (omega arith)) (shown-small t f (c .state)) (getD-set-other s₁ (networkIndex t n) (networkPort t n) _ 0 (λ z. omega arith) ∙ cells .port)) }
+
+  ticked-here : (s : List ℕ) → Fits t s → NetworkMoves (tickedNetwork t n (networkIn t n s)) s (tickNetwork t n (each 0 n (tickNetwork t) s))
+  unfolding tickNetwork
+  ticked-here s fit =
+      let s₁ = each 0 n (tickNetwork t) s in
+      let fit₁ : Fits t s₁ = each-keeps (Fits t) (tickNetwork t) 0 n s (λ m x a c. tick-network-fits t f m x (omega arith)) fit in
+      let cells = past-networks t f (networkIndex t n) (networkPort t n) coreOf shownBy held-network s s 0 n (omega arith) (λ a u v z. omega arith) (cells-refl _ _ s) in
+      rw (ap networkOf (cells .own)) (network-moved (tickedNetwork t n (networkIn t n s)) s s₁ fit₁ (ticked-ok t f n _ b (network-in t s fit n b)) cells)
+
+  things-move : (s : List ℕ) → Fits t s → NetworkMoves (tickedNetwork t n (networkIn t n s)) s (tickThings t s)
+  unfolding tickThings
+  things-move s fit =
+      let m = networks t - suc n in
+      let whole : networks t ≡ n + suc m = omega arith in
+      let s₂ = tickNetwork t n (each 0 n (tickNetwork t) s) in
+      carried t f (networkIndex t n) (networkPort t n) coreOf shownBy held-network _ s s₂ _ (ticked-here s fit)
+      (timers-keep t f _ _ (held-network .holder) s₂ _
+      (past-sources t f _ _ coreOf shownBy held-network s₂ _ 0 (sources t) (omega arith) (λ a u v z. omega arith)
+      (rw (whole, each-at (tickNetwork t) n m s) (past-networks t f _ _ coreOf shownBy held-network s₂ s₂ (suc n) m (omega arith) (λ a u v z. omega arith) (cells-refl _ _ s₂)))))
+
+  -- what the event makes of n
+  unfoldable pub nextNetwork : ℕ → List ℕ → Network
+  nextNetwork e s =
+      cond (eqb (eventKind e) tickKind) (tickedNetwork t n (networkIn t n s))
+      (cond (eqb (eventKind e) busOffKind && eqb (eventIndex e) n && takes (networkIn t n s)) (offBus t n (min 255 (networkIn t n s .counter + 1)) (networkIn t n s))
+      (networkIn t n s))
+
+  quiet : (e : ℕ) (s s′ : List ℕ) → (eventKind e ≡ tickKind → ⊥) → (eventKind e ≡ busOffKind → ⊥) → NetworkMoves (networkIn t n s) s s′ → NetworkMoves (nextNetwork e s) s s′
+  unfolding nextNetwork
+  quiet e s s′ a c m = rw (ne-eqb _ _ a, ne-eqb _ _ c) m
+
+  network-by-source : (k status r : ℕ) (s : List ℕ) → k < sources t → NetworkMoves (networkIn t n s) s (moveSource t k status r s)
+  network-by-source k status r s c = by-source t f _ _ coreOf shownBy held-network k status r s c (λ z. omega arith)
+
+  network-by-nothing : (s : List ℕ) → NetworkMoves (networkIn t n s) s s
+  network-by-nothing s = by-nothing t f _ _ coreOf shownBy held-network s
+
+  network-by-wake : (k : ℕ) (s : List ℕ) → k < sources t → NetworkMoves (networkIn t n s) s (wake t k s)
+  unfolding wake
+  network-by-wake k s c = split (eqb (statusIn t k s) statusNone || eqb (statusIn t k s) statusExpired) (λ e. rw e (network-by-source k _ _ s c)) (λ e. rw e (network-by-nothing s))
+
+  network-by-valid : (k : ℕ) (s : List ℕ) → k < sources t → NetworkMoves (networkIn t n s) s (validate t k s)
+  unfolding validate
+  network-by-valid k s c = split (eqb (statusIn t k s) statusPending) (λ e. rw e (network-by-source k _ _ s c)) (λ e. rw e (network-by-nothing s))
+
+  network-by-bus-off : (e : ℕ) (s : List ℕ) → eventKind e ≡ busOffKind → eventIndex e < networks t → Fits t s → NetworkMoves (nextNetwork e s) s (busOff t (eventIndex e) s)
+  unfolding nextNetwork busOff
+  network-by-bus-off e s k c fit =
+      split (eqb (eventIndex e) n)
+      (λ a. let same : eventIndex e ≡ n = eqb-true _ _ a in
+        split (takes (networkIn t n s))
+        (λ d. rw (k, same, eq-eqb n n refl, d) (network-moved _ s s fit (off-bus-ok t f n _ _ b (network-in t s fit n b) (omega arith) (omega arith)) (cells-refl _ _ s)))
+        (λ d. rw (k, same, eq-eqb n n refl, d) (network-by-nothing s)))
+      (λ a. let differ : (eventIndex e ≡ n → ⊥) = eqb-false _ _ a in
+        rw (k, a) (split (takes (networkIn t (eventIndex e) s))
+          (λ d. rw d (by-network t f _ _ coreOf shownBy held-network (eventIndex e) _ s c (λ z. differ (omega arith))))
+          (λ d. rw d (network-by-nothing s))))
+
+  pub network-moves : (e : ℕ) (s : List ℕ) → Taken t e → Fits t s → NetworkMoves (nextNetwork e s) s (happen t e s .state)
+  unfolding nextNetwork tick arbitrateMarked clear
+  network-moves e s w fit =
+      happen-cases (λ x. NetworkMoves (nextNetwork e s) s (x .state)) t e s
+      (λ k. rw k (then-still t f _ _ coreOf shownBy held-network _ _ s _ (things-fit t f s fit) (things-move s fit)))
+      (λ k. quiet e s _ (λ z. omega arith) (λ z. omega arith) (by-mode-request t f _ _ coreOf shownBy held-network e s w k fit))
+      (λ k. quiet e s _ (λ z. omega arith) (λ z. omega arith) (by-event-request t f _ _ coreOf shownBy held-network e s w k fit))
+      (λ k. quiet e s _ (λ z. omega arith) (λ z. omega arith) (network-by-wake (eventIndex e) s (source-index t e w (λ z. omega arith) (λ z. omega arith) (λ z. omega arith) (λ z. omega arith))))
+      (λ k. quiet e s _ (λ z. omega arith) (λ z. omega arith) (network-by-valid (eventIndex e) s (source-index t e w (λ z. omega arith) (λ z. omega arith) (λ z. omega arith) (λ z. omega arith))))
+      (λ k. network-by-bus-off e s k (bus-off-index t e w k) fit)
+      (λ k. quiet e s _ (λ z. k (omega arith)) (λ z. k (omega arith)) (network-by-source (eventIndex e) _ _ s (source-index t e w (λ z. k (omega arith)) (λ z. k (omega arith)) (λ z. k (omega arith)) (λ z. k (omega arith)))))
+
+-- Source k. Arbitration leaves its word alone.
+
+abbrev pub wordOf : ℕ → ℕ
+wordOf w = w
+
+pub source-held : (t : List ℕ) → Facts t → (k : ℕ) → k < sources t → Held t (sourceIndex t k) (sourcePort t k) wordOf
+source-held t f k b = record { holder = source-holder t f k b; still = λ q s fit. source-still t f k (word s (sourceIndex t k)) b q s fit refl }
+
+module _ (t : List ℕ) (f : Facts t) (k : ℕ) (b : k < sources t) where
+  abbrev SourceMoves : ℕ → List ℕ → List ℕ → Type 0
+  SourceMoves w s s′ = Moves (sourceIndex t k) (sourcePort t k) wordOf (λ x. statusOf x) w s s′
+
+  held-source : Held t (sourceIndex t k) (sourcePort t k) wordOf
+  held-source = source-held t f k b
+
+  source-by-nothing : (s : List ℕ) → SourceMoves (word s (sourceIndex t k)) s s
+  source-by-nothing s = by-nothing t f _ _ wordOf _ held-source s
+
+  -- k itself is moved
+  source-moved : (status r : ℕ) (s s₁ : List ℕ) → Fits t s₁ → status < 4 → Cells (sourceIndex t k) (sourcePort t k) s s₁ → SourceMoves (packSource status r) s (moveSource t k status r s₁)
+  unfolding moveSource setSource
+  source-moved status r s s₁ fit small cells =
+      let len = fits-length t s₁ fit in let there : sourcePort t k < ports t = held-source .holder .may .there in
+      let same : statusIn t k s₁ ≡ statusIn t k s = ap (λ (w : ℕ). statusOf w) (cells .own) in
+      let is : statusOf (packSource status r) ≡ status = source-status status r ∙ mod-eq-of-lt small in
+      record {
+        own = kept-own (sourceIndex t k) (sourcePort t k) (packSource status r) status s₁ (eqb status (statusIn t k s₁)) (omega arith) (λ z. omega arith);
+        port = rw (is, same) (port-written t s (set s₁ (sourceIndex t k) (packSource status r)) (sourcePort t k) _ status (lt-length-set s₁ _ _ (omega arith)) (omega arith) (getD-set-other s₁ (sourceIndex t k) (sourcePort t k) _ 0 (λ z. omega arith) ∙ cells .port)) }
+
+  -- what a tick makes of its word
+  unfoldable pub tickedSource : ℕ → ℕ
+  tickedSource w = cond (eqb (statusOf w) statusPending) (cond (leb (remainingOf w) 1) (packSource statusExpired 0) (packSource statusPending (remainingOf w - 1))) w
+
+  ticked-source-here : (s s₁ : List ℕ) → Fits t s₁ → Cells (sourceIndex t k) (sourcePort t k) s s₁ → SourceMoves (tickedSource (word s (sourceIndex t k))) s (tickSource t k s₁)
+  unfolding tickSource tickedSource
+  ticked-source-here s s₁ fit cells =
+      rw (← (cells .own))
+      (split (eqb (statusIn t k s₁) statusPending)
+      (λ e. split (leb (remainingIn s₁ (sourceIndex t k)) 1) (λ d. rw (e, d) (source-moved statusExpired 0 s s₁ fit (omega arith) cells)) (λ d. rw (e, d) (source-moved statusPending _ s s₁ fit (omega arith) cells)))
+      (λ e. rw e (rw (cells .own) (stays t f _ _ wordOf _ held-source s s₁ cells))))
+
+  source-things-move : (s : List ℕ) → Fits t s → SourceMoves (tickedSource (word s (sourceIndex t k))) s (tickThings t s)
+  unfolding tickThings
+  source-things-move s fit =
+      let m = sources t - suc k in
+      let whole : sources t ≡ k + suc m = omega arith in
+      let s₁ = each 0 (networks t) (tickNetwork t) s in
+      let fit₁ : Fits t s₁ = each-keeps (Fits t) (tickNetwork t) 0 (networks t) s (λ a x u v. tick-network-fits t f a x (omega arith)) fit in
+      let cells₁ = past-networks t f _ _ wordOf (λ x. statusOf x) held-source s s 0 (networks t) (omega arith) (λ a u v z. omega arith) (cells-refl _ _ s) in
+      let s₂ = each 0 k (tickSource t) s₁ in
+      let fit₂ : Fits t s₂ = each-keeps (Fits t) (tickSource t) 0 k s₁ (λ a x u v. tick-source-fits t f a x (omega arith)) fit₁ in
+      let cells₂ = past-sources t f _ _ wordOf (λ x. statusOf x) held-source s s₁ 0 k (omega arith) (λ a u v z. omega arith) cells₁ in
+      let s₃ = tickSource t k s₂ in
+      carried t f _ _ wordOf _ held-source _ s s₃ _ (ticked-source-here s s₂ fit₂ cells₂)
+      (timers-keep t f _ _ (held-source .holder) s₃ _
+      (rw (whole, each-at (tickSource t) k m s₁) (past-sources t f _ _ wordOf (λ x. statusOf x) held-source s₃ s₃ (suc k) m (omega arith) (λ a u v z. omega arith) (cells-refl _ _ s₃))))
+
+  -- what an event of the source's own makes of its word
+  unfoldable pub wokenSource : ℕ → ℕ
+  wokenSource w = cond (eqb (statusOf w) statusNone || eqb (statusOf w) statusExpired) (packSource (cond (eqb (timeout t k) 0) statusValidated statusPending) (timeout t k)) w
+
+  unfoldable pub validSource : ℕ → ℕ
+  validSource w = cond (eqb (statusOf w) statusPending) (packSource statusValidated 0) w
+
+  unfoldable pub nextSource : ℕ → List ℕ → ℕ
+  nextSource e s =
+      cond (eqb (eventKind e) tickKind) (tickedSource (word s (sourceIndex t k)))
+      (cond (eqb (eventKind e) wakeupKind && eqb (eventIndex e) k) (wokenSource (word s (sourceIndex t k)))
+      (cond (eqb (eventKind e) validKind && eqb (eventIndex e) k) (validSource (word s (sourceIndex t k)))
+      (cond (eqb (eventKind e) clearKind && eqb (eventIndex e) k) (packSource statusNone 0)
+      (word s (sourceIndex t k)))))
+
+  -- another source's event
+  other-index : (m : ℕ) → (m ≡ k → ⊥) → sourceIndex t m ≡ sourceIndex t k → ⊥
+  other-index m d z = d (omega arith)
+
+  source-by-wake : (m : ℕ) (s : List ℕ) → m < sources t → Fits t s → SourceMoves (cond (eqb m k) (wokenSource (word s (sourceIndex t k))) (word s (sourceIndex t k))) s (wake t m s)
+  unfolding wake wokenSource
+  source-by-wake m s c fit =
+      split (eqb m k)
+      (λ a. let same : m ≡ k = eqb-true _ _ a in rw (a, same)
+        (split (eqb (statusIn t k s) statusNone || eqb (statusIn t k s) statusExpired)
+        (λ e. rw e (source-moved _ _ s s fit (woken-ok t f k .status₂) (cells-refl _ _ s))) (λ e. rw e (source-by-nothing s))))
+      (λ a. rw a (split (eqb (statusIn t m s) statusNone || eqb (statusIn t m s) statusExpired)
+        (λ e. rw e (by-source t f _ _ wordOf _ held-source m _ _ s c (other-index m (eqb-false _ _ a)))) (λ e. rw e (source-by-nothing s))))
+
+  source-by-valid : (m : ℕ) (s : List ℕ) → m < sources t → Fits t s → SourceMoves (cond (eqb m k) (validSource (word s (sourceIndex t k))) (word s (sourceIndex t k))) s (validate t m s)
+  unfolding validate validSource
+  source-by-valid m s c fit =
+      split (eqb m k)
+      (λ a. let same : m ≡ k = eqb-true _ _ a in rw (a, same)
+        (split (eqb (statusIn t k s) statusPending) (λ e. rw e (source-moved statusValidated 0 s s fit (omega arith) (cells-refl _ _ s))) (λ e. rw e (source-by-nothing s))))
+      (λ a. rw a (split (eqb (statusIn t m s) statusPending)
+        (λ e. rw e (by-source t f _ _ wordOf _ held-source m _ _ s c (other-index m (eqb-false _ _ a)))) (λ e. rw e (source-by-nothing s))))
+
+  source-by-clear : (m : ℕ) (s : List ℕ) → m < sources t → Fits t s → SourceMoves (cond (eqb m k) (packSource statusNone 0) (word s (sourceIndex t k))) s (clear t m s)
+  unfolding clear
+  source-by-clear m s c fit =
+      split (eqb m k)
+      (λ a. let same : m ≡ k = eqb-true _ _ a in rw (a, same) (source-moved statusNone 0 s s fit (omega arith) (cells-refl _ _ s)))
+      (λ a. rw a (by-source t f _ _ wordOf _ held-source m _ _ s c (other-index m (eqb-false _ _ a))))
+
+  source-by-bus-off : (n : ℕ) (s : List ℕ) → n < networks t → SourceMoves (word s (sourceIndex t k)) s (busOff t n s)
+  unfolding busOff
+  source-by-bus-off n s c = split (takes (networkIn t n s)) (λ d. rw d (by-network t f _ _ wordOf _ held-source n _ s c (λ z. omega arith))) (λ d. rw d (source-by-nothing s))
+
+  pub source-moves : (e : ℕ) (s : List ℕ) → Taken t e → Fits t s → SourceMoves (nextSource e s) s (happen t e s .state)
+  unfolding nextSource tick arbitrateMarked
+  source-moves e s w fit =
+      happen-cases (λ x. SourceMoves (nextSource e s) s (x .state)) t e s
+      (λ z. rw z (then-still t f _ _ wordOf _ held-source _ _ s _ (things-fit t f s fit) (source-things-move s fit)))
+      (λ z. rw z (by-mode-request t f _ _ wordOf _ held-source e s w z fit))
+      (λ z. rw z (by-event-request t f _ _ wordOf _ held-source e s w z fit))
+      (λ z. rw z (source-by-wake (eventIndex e) s (source-index t e w (λ y. omega arith) (λ y. omega arith) (λ y. omega arith) (λ y. omega arith)) fit))
+      (λ z. rw z (source-by-valid (eventIndex e) s (source-index t e w (λ y. omega arith) (λ y. omega arith) (λ y. omega arith) (λ y. omega arith)) fit))
+      (λ z. rw z (source-by-bus-off (eventIndex e) s (bus-off-index t e w z)))
+      (λ z. let small = kind-small t e w in let six : eventKind e ≡ 6 = above-five (eventKind e) z small in rw six (source-by-clear (eventIndex e) s (source-index t e w (λ y. omega arith) (λ y. omega arith) (λ y. omega arith) (λ y. omega arith)) fit))
+    where
+      above-five : (x : ℕ) → (x ≤ 5 → ⊥) → x ≤ 6 → x ≡ 6
+      above-five x n m = omega arith
