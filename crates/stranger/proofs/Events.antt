@@ -32,7 +32,7 @@ pub record Confined (t : List ℕ) (o w : ℕ) (g : List ℕ → List ℕ) : Typ
   pub hidden : stranger o w ≡ true → (s : List ℕ) → SameView t o s (g s)
   pub alike : stranger o w ≡ false → (s₁ s₂ : List ℕ) → SameView t o s₁ s₂ → SameView t o (g s₁) (g s₂)
 
--- the same of what also writes trace words
+-- the same of what may write trace words too
 pub record ConfinedRun (t : List ℕ) (o w : ℕ) (g : List ℕ → Run) : Type 0 where
   pub hidden : stranger o w ≡ true → (s : List ℕ) → Alike t o (start s) (g s)
   pub alike : stranger o w ≡ false → (s₁ s₂ : List ℕ) → SameView t o s₁ s₂ → Alike t o (g s₁) (g s₂)
@@ -49,8 +49,8 @@ module _ {t : List ℕ} {o w : ℕ} where
   unfolding setPort
   put-port p marked value remaining e = put p _ e
 
-  after : {g g′ : List ℕ → List ℕ} → Confined t o w g → Confined t o w g′ → Confined t o w (λ s. g′ (g s))
-  after c c′ =
+  followed : {g g′ : List ℕ → List ℕ} → Confined t o w g → Confined t o w g′ → Confined t o w (λ s. g′ (g s))
+  followed c c′ =
       record {
         hidden = λ h s. same-view-trans t o (c .hidden h s) (c′ .hidden h _);
         alike = λ h s₁ s₂ v. c′ .alike h _ _ (c .alike h s₁ s₂ v);
@@ -93,7 +93,7 @@ module _ (t : List ℕ) (f : Facts t) (o : ℕ) where
     move-source status remaining =
         by-word (sourceIndex t k) (source-word t o k)
         (λ u. choose (eqb status (statusOf u)) (put-source status remaining)
-        (after (put-source status remaining) (put-port (sourcePort t k) 1 status 0 (shows-word (f .source k b)))))
+        (followed (put-source status remaining) (put-port (sourcePort t k) 1 status 0 (shows-word (f .source k b)))))
 
     wake-confined : Confined t o (sourceOwner t k) (λ s. wake t k s)
     unfolding wake
@@ -127,7 +127,7 @@ module _ (t : List ℕ) (f : Facts t) (o : ℕ) where
     move-network c =
         by-word (networkIndex t n) (network-word t o n b)
         (λ u. choose (eqb (shown (c .state)) (shown (networkOf u .state))) (put-network c)
-        (after (put-network c) (put-port (networkPort t n) 1 (shown (c .state)) 0 (shows-word (f .network n b)))))
+        (followed (put-network c) (put-port (networkPort t n) 1 (shown (c .state)) 0 (shows-word (f .network n b)))))
 
     bus-off : Confined t o (networkOwner t n) (λ s. busOff t n s)
     unfolding busOff

@@ -6,7 +6,6 @@ use mathlib.Core.List.{List}
 use Prim.Native.Nat.{ℕ, zero, suc, _<_}
 use lib.ListN.{set}
 use lib.Dec.{eqb}
-use borrow.Author.Tests.{eqb-true}
 use Rattle.rulebook.specs.Words.{between}
 use Rattle.rulebook.specs.Table.{rules, lists, kindEvent, kindTimer, ruleOwner, noList, listOwner, firstItem, itemCount, itemKind, itemA, kindClear, kindStart, kindStop, kindAsk, kindRule, stranger}
 use Rattle.rulebook.specs.State.{ruleIndex, networkIndex, undefinedResult}
@@ -16,10 +15,10 @@ use Rattle.laws.specs.Facts.{Facts}
 use Rattle.laws.proofs.Tests.{split}
 use Rattle.laws.proofs.Walks.{each-keeps, each-alike}
 use Rattle.laws.proofs.Items.{clear-there, start-there, stop-there, ask-there, list-there, rule-there, port-there, choice-there}
-use Rattle.laws.proofs.Cases.{item-list, item-rule, item-act, item-cases, rule-unready, rule-ready, choice-none, choice-some}
+use Rattle.laws.proofs.Cases.{item-list, item-rule, item-act, item-cases, rule-unready, rule-ready, choice-none, choice-some, effect-cases}
 use Rattle.laws.proofs.Runs.{Within, item-there}
 use Rattle.stranger.specs.View.{SameView}
-use Rattle.stranger.proofs.More.{pick, pick-both}
+use Rattle.stranger.proofs.More.{pick-both}
 use Rattle.stranger.proofs.View.{same-view-refl, write-hidden, write-alike, port-word, rule-word, network-word}
 use Rattle.stranger.proofs.Alike.{Alike, word-owner, alike-refl, alike-trans, become-alike, emit-alike, emit-hidden}
 use Rattle.stranger.proofs.Evaluation.{unready-alike, result-alike, choice-alike}
@@ -39,20 +38,16 @@ module _ (t : List ℕ) (f : Facts t) (o : ℕ) where
       (port-word t o (itemA t i) (port-there t kind (itemA t i) there) ∙ rw (port-owned t (listOwner t l) i (owned l i w) (no-platform o _ h) k) h)
 
   effect-hidden : (l i : ℕ) (s : List ℕ) → Within t l i → stranger o (listOwner t l) ≡ true → SameView t o s (effect t i s)
-  unfolding effect setPort setNetwork
+  unfolding setPort setNetwork
   effect-hidden l i s w h =
       let there = f .item i (item-there t f l i w) .1 in
-      pick (SameView t o s) (eqb (itemKind t i) kindClear)
-      (λ e. let k : itemKind t i ≡ kindClear = eqb-true _ _ e in port-hidden l i kindEvent _ s w h (rw k) (clear-there t i there k))
-      (λ e. pick (SameView t o s) (eqb (itemKind t i) kindStart)
-      (λ e. let k : itemKind t i ≡ kindStart = eqb-true _ _ e in port-hidden l i kindTimer _ s w h (rw k) (start-there t i there k))
-      (λ e. pick (SameView t o s) (eqb (itemKind t i) kindStop)
-      (λ e. let k : itemKind t i ≡ kindStop = eqb-true _ _ e in port-hidden l i kindTimer _ s w h (rw k) (stop-there t i there k))
-      (λ e. pick (SameView t o s) (eqb (itemKind t i) kindAsk)
-      (λ e. let k : itemKind t i ≡ kindAsk = eqb-true _ _ e in
-      write-hidden t o s (networkIndex t (itemA t i)) _
+      effect-cases (SameView t o s) t i s
+      (λ k. port-hidden l i kindEvent _ s w h (rw k) (clear-there t i there k))
+      (λ k. port-hidden l i kindTimer _ s w h (rw k) (start-there t i there k))
+      (λ k. port-hidden l i kindTimer _ s w h (rw k) (stop-there t i there k))
+      (λ k. write-hidden t o s (networkIndex t (itemA t i)) _
       (network-word t o (itemA t i) (ask-there t i there k) ∙ rw (network-owned t (listOwner t l) i (owned l i w) (no-platform o _ h) k) h))
-      (λ e. same-view-refl t o s))))
+      (λ k. same-view-refl t o s)
 
   word-hidden : (l kind a b : ℕ) (x : Run) → stranger o (listOwner t l) ≡ true → Alike t o x (emit (traceWord kind (listOwner t l) a b) x)
   word-hidden l kind a b x h = emit-hidden t o x _ (rw (word-owner t l kind a b) h)

@@ -1,5 +1,6 @@
 -- THE STRANGERS' THEOREM. For every o (the owners are 0 to 15): a stranger's call is unseen by o; runs from fresh whose calls agree
--- once the strangers' are struck out show o the same after each kept call. Assumes nothing.
+-- once the strangers' are struck out show o the same after each kept call: the answer, every state word and every trace word of o
+-- and of the platform. Assumes nothing.
 use mathlib.Core.Path.{_≡_, refl, sym, _∙_, ap, ap₂}
 use mathlib.Core.Bool.{true, false}
 use mathlib.Core.List.{List, [], _∷_}

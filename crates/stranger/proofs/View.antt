@@ -1,4 +1,5 @@
--- The view relation is reflexive, symmetric and transitive; what one write does to it; runs that are alike to o. Assumes nothing.
+-- The view relation is reflexive, symmetric and transitive; one write of a stranger's word, or of any word on both sides, keeps it;
+-- the list of visible words says the same. Assumes nothing.
 use mathlib.Core.Path.{_≡_, refl, sym, _∙_, ap₂}
 use mathlib.Core.Bool.{true, false}
 use mathlib.Core.List.{List, _∷_}
