@@ -5,3 +5,4 @@ pub mod Asked
 pub mod Moves
 pub mod Shows
 pub mod AskedAfter
+pub mod Countdown
