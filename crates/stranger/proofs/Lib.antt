@@ -1,10 +1,4 @@
 -- The theorems of demand 3.
-pub mod Holders
-pub mod Arbitrated
-pub mod Asked
-pub mod Moves
-pub mod Shows
-pub mod AskedAfter
 pub mod More
 pub mod View
 pub mod Alike
@@ -16,3 +10,10 @@ pub mod Events
 pub mod Strangers
 pub mod AsksOwn
 pub mod Exceptions
+pub mod Holders
+pub mod Arbitrated
+pub mod Asked
+pub mod Moves
+pub mod Shows
+pub mod AskedAfter
+pub mod Countdown
