@@ -33,14 +33,6 @@ pub record SameSeen (t : List ℕ) (o : ℕ) (r₁ r₂ : Result) : Type 0 where
   pub state : SameView t o (r₁ .state) (r₂ .state)
   pub words : ownWords o (r₁ .words) ≡ ownWords o (r₂ .words)
 
--- a run with the strangers struck out is one of those that agree with it so
-pub struck-out-twice : (o : ℕ) (cs : List Call) → struckOut o (struckOut o cs) ≡ struckOut o cs
-unfolding struckOut
-struck-out-twice o [] = refl
-struck-out-twice o (c ∷ cs) =
-    split (strangersCall o c) (λ e. rw (e, struckOut) (struck-out-twice o cs))
-    (λ e. rw (e, struckOut) (rw (e, struckOut) (ap (λ (l : List Call). c ∷ l) (struck-out-twice o cs))))
-
 -- a call answered 0 has an event that is not refused
 pub answered-taken : (t s : List ℕ) (c : Call) → answered t s c ≡ true → Taken t (c .event)
 answered-taken t s c z = go (called t s c) (stepped t s (c .room) (c .event)) (eqb-true _ _ z)
@@ -146,3 +138,11 @@ module _ (t : List ℕ) (h : accepted t ≡ true) (o : ℕ) where
 
     pub strangers-ticks : tickCount t (fresh t) cs₁ ≡ tickCount t (fresh t) cs₂
     strangers-ticks = struck-out-ticks cs₁ ∙ ap (tickCount t (fresh t)) e ∙ sym (struck-out-ticks cs₂)
+
+-- a run with the strangers struck out is one of those that agree with it so
+pub struck-out-twice : (o : ℕ) (cs : List Call) → struckOut o (struckOut o cs) ≡ struckOut o cs
+unfolding struckOut
+struck-out-twice o [] = refl
+struck-out-twice o (c ∷ cs) =
+    split (strangersCall o c) (λ e. rw (e, struckOut) (struck-out-twice o cs))
+    (λ e. rw (e, struckOut) (rw (e, struckOut) (ap (λ (l : List Call). c ∷ l) (struck-out-twice o cs))))
