@@ -6,3 +6,4 @@ pub mod Moves
 pub mod Shows
 pub mod AskedAfter
 pub mod Countdown
+pub mod Wakeup
