@@ -7,3 +7,4 @@ pub mod Shows
 pub mod AskedAfter
 pub mod Countdown
 pub mod Wakeup
+pub mod NotEmpty

@@ -68,9 +68,9 @@ module _ (t : List ℕ) (h : accepted t ≡ true) (k : ℕ) (b : k < sources t) 
   next-same e s j nt ne p =
       split (eqb (eventIndex e) k)
       (λ i. let neither : (eqb (eventKind e) validKind || eqb (eventKind e) clearKind) ≡ false = rw-and (eqb (eventKind e) validKind || eqb (eventKind e) clearKind) (rw i at ne) in
-        split (eqb (eventKind e) validKind) (λ v. clash (rw v) neither)
-        (λ v. let c : eqb (eventKind e) clearKind ≡ false = rw v at neither in
-          split (eqb (eventKind e) wakeupKind) (λ w. rw (nt, w, i, p .status)) (λ w. rw (nt, w, v, c))))
+      split (eqb (eventKind e) validKind) (λ v. clash (rw v) neither)
+      (λ v. let c : eqb (eventKind e) clearKind ≡ false = rw v at neither in
+      split (eqb (eventKind e) wakeupKind) (λ w. rw (nt, w, i, p .status)) (λ w. rw (nt, w, v, c))))
       (λ i. simp (nt, i, and-false))
     where
       rw-and : (x : Bool) → (x && true) ≡ false → x ≡ false
@@ -106,8 +106,8 @@ module _ (t : List ℕ) (h : accepted t ≡ true) (k : ℕ) (b : k < sources t) 
           let st : called t s c .state ≡ happen t (c .event) s .state = ap (λ (q : Result). q .state) (sym is ∙ e) in
           split (eqb (eventKind (c .event)) tickKind)
           (λ d. let one : 1 + j ≡ suc j = omega arith in
-            let below : 1 + j < T = rw (ans, d) at lt in
-            rw (ans, d, st, one, next-own (c .event) s w fit, next-tick (c .event) s (eqb-true _ _ d)) (ticked-on j (Own s) (omega arith) p))
+          let below : 1 + j < T = rw (ans, d) at lt in
+          rw (ans, d, st, one, next-own (c .event) s w fit, next-tick (c .event) s (eqb-true _ _ d)) (ticked-on j (Own s) (omega arith) p))
           (λ d. rw (ans, d, st, zero-add j, next-own (c .event) s w fit, next-same (c .event) s j d (not-ends s c ans n) p) p)
 
   run-pending : (cs : List Call) (j : ℕ) (s : List ℕ) → Fits t s → notEnded t k s cs ≡ true → tickCount t s cs + j < T → PendingAt T j (Own s) → PendingAt T (tickCount t s cs + j) (Own (after t s cs))
@@ -137,7 +137,8 @@ starts-pending t k s c x =
       kind = eqb-true _ _ (part-of _ (λ e. rw (e, and-false) at x));
       index = eqb-true _ _ (part-of _ (λ e. rw (e, and-false) at x));
       idle = part-of _ (λ e. rw (e, and-false) at x);
-      some = leb-true _ _ (part-of _ (λ e. rw (e, and-false) at x)) }
+      some = leb-true _ _ (part-of _ (λ e. rw (e, and-false) at x));
+    }
 
 pub source-there : (t : List ℕ) (k : ℕ) (s : List ℕ) (c : Call) → becomesPending t k s c ≡ true → k < sources t
 source-there t k s c x =
@@ -156,8 +157,8 @@ start-pending t h k s fit c x =
 -- The theorem: from fresh, whatever went before, a wakeup makes k pending, and calls follow that do not end it.
 
 module _ (t : List ℕ) (h : accepted t ≡ true) (k : ℕ) (before : List Call) (c : Call) (woken : becomesPending t k (after t (fresh t) before) c ≡ true)
-  (cs : List Call) (open-still : notEnded t k (called t (after t (fresh t) before) c .state) cs ≡ true)
-  (early : tickCount t (called t (after t (fresh t) before) c .state) cs < timeout t k) where
+    (cs : List Call) (open-still : notEnded t k (called t (after t (fresh t) before) c .state) cs ≡ true)
+    (early : tickCount t (called t (after t (fresh t) before) c .state) cs < timeout t k) where
   abbrev s₀ : List ℕ
   s₀ = after t (fresh t) before
 
@@ -193,11 +194,12 @@ module _ (t : List ℕ) (h : accepted t ≡ true) (k : ℕ) (before : List Call)
       let fit₂ = after-fits t s₁ cs h (step-fits t s₀ (c .room) (c .event) h fit₀) in
       let v = rw (after-more t (fresh t) before (c ∷ (cs ++ (d ∷ []))), after-more t s₁ cs (d ∷ [])) at (source-shows t h k k-there (before ++ c ∷ (cs ++ (d ∷ []))) .value) in
       let own : word (called t s₂ d .state) (sourceIndex t k) ≡ tickedSource t (facts t h) k k-there (word s₂ (sourceIndex t k)) =
-        ap (λ (x : List ℕ). word x (sourceIndex t k)) (e .1) ∙ next-own t h k k-there (d .event) s₂ (e .0) fit₂ ∙ next-tick t h k k-there (d .event) s₂ z in
+      ap (λ (x : List ℕ). word x (sourceIndex t k)) (e .1) ∙ next-own t h k k-there (d .event) s₂ (e .0) fit₂ ∙ next-tick t h k k-there (d .event) s₂ z in
       record {
         pending = λ lt. let p = ticked-on t h k k-there (tickCount t s₁ cs) _ lt run in
-          (ap (λ (x : ℕ). statusOf x) own ∙ p .status, ap (λ (x : ℕ). remainingOf x) own ∙ p .remaining, v ∙ ap (λ (x : ℕ). statusOf x) own ∙ p .status);
-        expired = λ eq. let p = ap (λ (x : ℕ). statusOf x) (own ∙ ticked-out t h k k-there (tickCount t s₁ cs) _ eq run) ∙ source-status statusExpired 0 in (p, v ∙ p) }
+            (ap (λ (x : ℕ). statusOf x) own ∙ p .status, ap (λ (x : ℕ). remainingOf x) own ∙ p .remaining, v ∙ ap (λ (x : ℕ). statusOf x) own ∙ p .status);
+        expired = λ eq. let p = ap (λ (x : ℕ). statusOf x) (own ∙ ticked-out t h k k-there (tickCount t s₁ cs) _ eq run) ∙ source-status statusExpired 0 in (p, v ∙ p);
+      }
 
 -- Not even the platform ends another's wakeup: a valid or clear that is answered 0 carries the owner's number.
 pub ended-by-owner : (t : List ℕ) (k : ℕ) (s : List ℕ) (c : Call) → ended t k s c ≡ true → eventOwner (c .event) ≡ sourceOwner t k
@@ -208,7 +210,7 @@ ended-by-owner t k s c x =
     let i : eventIndex (c .event) ≡ k = eqb-true _ _ (part-of _ (λ e. rw (e, and-false) at x)) in
     let w = done-call t s c a .0 in
     let not-kind : (q : ℕ) → eqb q validKind ≡ false → eqb q clearKind ≡ false → eventKind (c .event) ≡ q → ⊥ =
-      λ q u v e. let y : (eqb q validKind || eqb q clearKind) ≡ true = rw e at z in clash y (rw (u, v)) in
+    λ q u v e. let y : (eqb q validKind || eqb q clearKind) ≡ true = rw e at z in clash y (rw (u, v)) in
     owner-is t (c .event) w (not-kind tickKind refl refl)
     ∙ ap (ownerOf t) (named-source t (c .event) w (not-kind modeKind refl refl) (not-kind requestKind refl refl) (not-kind busOffKind refl refl))
     ∙ ap (λ (x : ℕ). sourceOwner t x) i
