@@ -60,12 +60,12 @@ if-not t c l x h = rw (h, runIf)
 
 -- what an item of kind 0 to 4 does, kind by kind
 pub effect-cases : (P : List ℕ → Type 0) (t : List ℕ) (i : ℕ) (s : List ℕ)
-  → (itemKind t i ≡ kindClear → P (setPort (itemA t i) (markedOf (word s (itemA t i))) 0 0 s))
-  → (itemKind t i ≡ kindStart → P (setPort (itemA t i) 1 timerStarted (reload t (itemA t i)) s))
-  → (itemKind t i ≡ kindStop → P (setPort (itemA t i) 1 timerStopped 0 s))
-  → (itemKind t i ≡ kindAsk → P (setNetwork t (itemA t i) (asking (itemB t i) (networkIn t (itemA t i) s)) s))
-  → ((itemKind t i ≡ kindAsk → ⊥) → P s)
-  → P (effect t i s)
+    → (itemKind t i ≡ kindClear → P (setPort (itemA t i) (markedOf (word s (itemA t i))) 0 0 s))
+    → (itemKind t i ≡ kindStart → P (setPort (itemA t i) 1 timerStarted (reload t (itemA t i)) s))
+    → (itemKind t i ≡ kindStop → P (setPort (itemA t i) 1 timerStopped 0 s))
+    → (itemKind t i ≡ kindAsk → P (setNetwork t (itemA t i) (asking (itemB t i) (networkIn t (itemA t i) s)) s))
+    → ((itemKind t i ≡ kindAsk → ⊥) → P s)
+    → P (effect t i s)
 unfolding effect
 effect-cases P t i s f₁ f₂ f₃ f₄ f₅ =
     split (eqb (itemKind t i) kindClear) (λ a. rw a (f₁ (eqb-true _ _ a)))

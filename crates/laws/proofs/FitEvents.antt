@@ -191,7 +191,7 @@ module _ (t : List ℕ) (f : Facts t) where
 
   -- a request, deferred or immediate
   pub request-cases : (P : Run → Type 0) (p v : ℕ) (s : List ℕ) → p < ports t → (portKind t p ≡ kindTimer → ⊥) → v < 256 → (portKind t p ≡ kindEvent → v ≤ 1) → Fits t s
-    → (Fits t (setPort p 1 v 0 s) → P (start (setPort p 1 v 0 s))) → (Fits t (setPort p 0 v 0 s) → P (arbitrate t (only p) (setPort p 0 v 0 s))) → P (request t p v s)
+      → (Fits t (setPort p 1 v 0 s) → P (start (setPort p 1 v 0 s))) → (Fits t (setPort p 0 v 0 s) → P (arbitrate t (only p) (setPort p 0 v 0 s))) → P (request t p v s)
   unfolding request
   request-cases P p v s b nt v₈ ev h late now =
       split (eqb (deferred t p) 1)

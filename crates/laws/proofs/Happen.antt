@@ -83,7 +83,7 @@ module _ (t : List ℕ) (e : ℕ) (w : Taken t e) where
   unfolding named
   named-network k = rw k
 
-  named-source : (eventKind e ≡ modeKind → ⊥) → (eventKind e ≡ requestKind → ⊥) → (eventKind e ≡ busOffKind → ⊥) → named e ≡ aSource (eventIndex e)
+  pub named-source : (eventKind e ≡ modeKind → ⊥) → (eventKind e ≡ requestKind → ⊥) → (eventKind e ≡ busOffKind → ⊥) → named e ≡ aSource (eventIndex e)
   unfolding named
   named-source a b c = rw (ne-eqb _ _ a, ne-eqb _ _ b, ne-eqb _ _ c)
 

@@ -39,7 +39,8 @@ fitting-kept t f P k q s h p =
       stop = λ p s b e w. (fit-kept t f .stop p s b e (w .0), k .port p _ _ _ s b (λ z. omega arith) (w .0) (w .1));
       ask = λ n mode s b m w. (fit-kept t f .ask n mode s b m (w .0), k .ask n mode s b m (w .0) (w .1));
       store = λ r b s c d w. (fit-kept t f .store r b s c d (w .0), k .store r b s c (w .0) (w .1));
-      unmark = λ p s b w. (fit-kept t f .unmark p s b (w .0), k .unmark p s b (w .0) (w .1)) }) q s (h, p) .1
+      unmark = λ p s b w. (fit-kept t f .unmark p s b (w .0), k .unmark p s b (w .0) (w .1));
+    }) q s (h, p) .1
 
 -- A port that shows keeps its value, and whether it is defined.
 
@@ -67,10 +68,11 @@ port-still t f p v d m =
       ask = λ n mode s b c h w. shows-other p v d (networkIndex t n) _ s (λ e. let there : p < ports t = m .there in omega arith) w;
       store = λ r b s c h w. shows-other p v d (ruleIndex t r) _ s (λ e. let there : p < ports t = m .there in omega arith) w;
       unmark = λ q s b h w. split (eqb p q)
-        (λ e. let z : p ≡ q = eqb-true _ _ e in let len = fits-length t s h in let there : p < ports t = m .there in
+          (λ e. let z : p ≡ q = eqb-true _ _ e in let len = fits-length t s h in let there : p < ports t = m .there in
           let is : word (set s q (unmarked (word s q))) p ≡ unmarked (word s p) = rw (← z) (getD-set-same s p (unmarked (word s p)) 0 (omega arith)) in
           record { value = ap (λ (x : ℕ). valueOf x) is ∙ unmarked-value (word s p) ∙ w .value; defined = ap (λ (x : ℕ). definedOf x) is ∙ unmarked-defined (word s p) ∙ w .defined })
-        (λ e. shows-other p v d q _ s (eqb-false _ _ e) w) })
+          (λ e. shows-other p v d q _ s (eqb-false _ _ e) w);
+    })
 
 -- A source's word.
 
@@ -82,7 +84,8 @@ source-still t f k w b =
       port = λ q x y z s c nm h e. getD-set-other s q (sourceIndex t k) _ 0 (λ u. omega arith) ∙ e;
       ask = λ n mode s c m h e. getD-set-other s (networkIndex t n) (sourceIndex t k) _ 0 (λ u. omega arith) ∙ e;
       store = λ r g s c h e. getD-set-other s (ruleIndex t r) (sourceIndex t k) _ 0 (λ u. omega arith) ∙ e;
-      unmark = λ q s c h e. getD-set-other s q (sourceIndex t k) _ 0 (λ u. omega arith) ∙ e })
+      unmark = λ q s c h e. getD-set-other s q (sourceIndex t k) _ 0 (λ u. omega arith) ∙ e;
+    })
 
 -- A network's state, counter and remaining.
 
@@ -110,10 +113,11 @@ network-still t f n c b =
     (record {
       port = λ q x y z s e nm h k. core-other t s n q _ c (λ u. omega arith) k;
       ask = λ m mode s e g h k. split (eqb n m)
-        (λ z. let same : n ≡ m = eqb-true _ _ z in rw (← same, asked-word t s n mode b g h) (record { state = k .state; counter = k .counter; remaining = k .remaining }))
-        (λ z. ask-other m mode s k (eqb-false _ _ z));
+          (λ z. let same : n ≡ m = eqb-true _ _ z in rw (← same, asked-word t s n mode b g h) (record { state = k .state; counter = k .counter; remaining = k .remaining }))
+          (λ z. ask-other m mode s k (eqb-false _ _ z));
       store = λ r g s e h k. core-other t s n (ruleIndex t r) _ c (λ u. omega arith) k;
-      unmark = λ q s e h k. core-other t s n q _ c (λ u. omega arith) k })
+      unmark = λ q s e h k. core-other t s n q _ c (λ u. omega arith) k;
+    })
   where
     ask-other : (m mode : ℕ) (s : List ℕ) → Core (networkIn t n s) c → (n ≡ m → ⊥) → Core (networkIn t n (setNetwork t m (asking mode (networkIn t m s)) s)) c
     ask-other m mode s k d = unfold setNetwork in core-other t s n (networkIndex t m) _ c (λ u. d (omega arith)) k

@@ -61,10 +61,10 @@ module _ (t : List ℕ) (f : Facts t) (n : ℕ) (b : n < networks t) where
       (λ e. let there = port-there t kindTimer (itemA t i) (start-there t i named e) in ap (λ (c : Network). c .asked) (other-word s (itemA t i) _ (λ z. omega arith)) ∙ full)
       (λ e. let there = port-there t kindTimer (itemA t i) (stop-there t i named e) in ap (λ (c : Network). c .asked) (other-word s (itemA t i) _ (λ z. omega arith)) ∙ full)
       (λ e. let there = ask-there t i named e in let small = mode-small t i (f .item i h .0) e in
-        split (eqb n (itemA t i))
-        (λ z. let same : n ≡ itemA t i = eqb-true _ _ z in let few = f .counts .networks in
-          rw (← same) (ap (λ (c : Network). c .asked) (asked-word t s n (itemB t i) b small fit) ∙ asks-full n o (itemB t i) (omega arith) small (rw (e, ← same) at none)))
-        (λ z. ap (λ (c : Network). c .asked) (ask-elsewhere s (itemA t i) _ (eqb-false _ _ z)) ∙ full))
+      split (eqb n (itemA t i))
+      (λ z. let same : n ≡ itemA t i = eqb-true _ _ z in let few = f .counts .networks in
+      rw (← same) (ap (λ (c : Network). c .asked) (asked-word t s n (itemB t i) b small fit) ∙ asks-full n o (itemB t i) (omega arith) small (rw (e, ← same) at none)))
+      (λ z. ap (λ (c : Network). c .asked) (ask-elsewhere s (itemA t i) _ (eqb-false _ _ z)) ∙ full))
       (λ e. full)
     where
       ask-elsewhere : (s : List ℕ) (m : ℕ) (c : Network) → (n ≡ m → ⊥) → networkIn t n (setNetwork t m c s) ≡ networkIn t n s
@@ -75,13 +75,17 @@ module _ (t : List ℕ) (f : Facts t) (n : ℕ) (b : n < networks t) where
   asked-acts =
       record {
         begin = λ l x h q. (q .0, λ none. q .1 (any-more (asksOther n) (x .words) _ none .0));
-        act = λ l i x w g h q. (effect-keeps t f (Fits t) (fit-kept t f) i (x .state) (item-there t f l i w) (q .0),
-          λ none. let m = any-more (asksOther n) (x .words) _ none in effect-asked (listOwner t l) i (x .state) (item-there t f l i w) (q .0) (q .1 (m .0)) (m .1));
+        act = λ l i x w g h q. (
+          effect-keeps t f (Fits t) (fit-kept t f) i (x .state) (item-there t f l i w) (q .0),
+          λ none. let m = any-more (asksOther n) (x .words) _ none in effect-asked (listOwner t l) i (x .state) (item-there t f l i w) (q .0) (q .1 (m .0)) (m .1),
+        );
         undefined = λ l i x w e q. (q .0, λ none. q .1 (any-more (asksOther n) (x .words) _ none .0));
-        judge = λ l i x w e u q. let there = rule-there t i (f .item i (item-there t f l i w) .1) e in
-          (fit-kept t f .store (itemA t i) _ (x .state) there (result-small t (x .state) (itemA t i)) (q .0),
-          λ none. ap (λ (c : Network). c .asked) (other-word (x .state) (ruleIndex t (itemA t i)) _ (λ z. omega arith)) ∙ q .1 (any-more (asksOther n) (x .words) _ none .0));
-        deep = λ x q. q }
+        judge = λ l i x w e u q. let there = rule-there t i (f .item i (item-there t f l i w) .1) e in (
+          fit-kept t f .store (itemA t i) _ (x .state) there (result-small t (x .state) (itemA t i)) (q .0),
+          λ none. ap (λ (c : Network). c .asked) (other-word (x .state) (ruleIndex t (itemA t i)) _ (λ z. omega arith)) ∙ q .1 (any-more (asksOther n) (x .words) _ none .0),
+        );
+        deep = λ x q. q;
+      }
 
   before-lists : (q : ℕ → Bool) (s : List ℕ) → networkIn t n (storeResults t q (unmarkPorts t q s)) ≡ networkIn t n s
   unfolding storeResults storeResult unmarkPorts unmarkPort setResult

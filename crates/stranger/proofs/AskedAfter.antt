@@ -32,8 +32,8 @@ counted-asked t n c =
     split (eqb (c .state) stateRecover)
     (λ a. split (leb (c .remaining) 1) (λ d. rw (a, d)) (λ d. rw (a, d)))
     (λ a. split (eqb (c .state) stateCheck)
-      (λ e. split (leb (c .remaining) 1) (λ d. rw (a, e, d)) (λ d. rw (a, e, d)))
-      (λ e. rw (a, e)))
+    (λ e. split (leb (c .remaining) 1) (λ d. rw (a, e, d)) (λ d. rw (a, e, d)))
+    (λ e. rw (a, e)))
 
 ticked-asked : (t : List ℕ) (n : ℕ) (c : Network) → tickedNetwork t n c .asked ≡ c .asked
 unfolding tickedNetwork
@@ -67,9 +67,9 @@ module _ (t : List ℕ) (f : Facts t) (n : ℕ) (b : n < networks t) where
   asks-network a m c s u fit ok same h =
       let len = fits-length t s fit in
       let one : Asks a (setNetwork t m c s) = split (eqb m n)
-        (λ e. let is : m ≡ n = eqb-true _ _ e in
-          rw is (ap (λ (x : ℕ). networkOf x .asked) (getD-set-same s (networkIndex t n) (packNetwork c) 0 (omega arith)) ∙ ap (λ (x : Network). x .asked) (network-again c (network-small t m c ok)) ∙ (rw is at same) ∙ h))
-        (λ e. let d : (m ≡ n → ⊥) = eqb-false _ _ e in asks-other a (networkIndex t m) _ s (λ z. d (omega arith)) h) in
+      (λ e. let is : m ≡ n = eqb-true _ _ e in
+      rw is (ap (λ (x : ℕ). networkOf x .asked) (getD-set-same s (networkIndex t n) (packNetwork c) 0 (omega arith)) ∙ ap (λ (x : Network). x .asked) (network-again c (network-small t m c ok)) ∙ (rw is at same) ∙ h))
+      (λ e. let d : (m ≡ n → ⊥) = eqb-false _ _ e in asks-other a (networkIndex t m) _ s (λ z. d (omega arith)) h) in
       split (eqb (shown (c .state)) (shown (networkIn t m s .state))) (λ e. rw e one)
       (λ e. rw e (asks-port a (networkPort t m) _ _ _ _ (may-show t _ (f .network m u .may) .there) one))
 
@@ -97,27 +97,27 @@ module _ (t : List ℕ) (f : Facts t) (n : ℕ) (b : n < networks t) where
       each-keeps (Asks a) (tickTimer t) 0 (ports t) _ (λ p x u v. asks-timer a p x (omega arith))
       (each-keeps (Asks a) (tickSource t) 0 (sources t) _ (λ k x u v. asks-tick-source a k x (omega arith))
       (each-keeps (λ x. Fits t x × Asks a x) (tickNetwork t) 0 (networks t) s
-        (λ m x u v w. (tick-network-fits t f m x (omega arith) (w .0), asks-ticked a m x (omega arith) (w .0) (w .1))) (fit, h) .1))
+      (λ m x u v w. (tick-network-fits t f m x (omega arith) (w .0), asks-ticked a m x (omega arith) (w .0) (w .1))) (fit, h) .1))
 
   -- one event
   pub asked-after : (e : ℕ) (s : List ℕ) → Taken t e → Fits t s → Asks askedFull s → anyWord (asksOther n) (happen t e s .words) ≡ false → Asks askedFull (happen t e s .state)
   unfolding tick arbitrateMarked wake validate clear busOff
   asked-after e s w fit h =
       let request-asks : (q v : ℕ) → q < ports t → (portKind t q ≡ kindTimer → ⊥) → v < 256 → (portKind t q ≡ kindEvent → v ≤ 1) → anyWord (asksOther n) (request t q v s .words) ≡ false → Asks askedFull (request t q v s .state) =
-        λ q v c nt v₈ ev. request-cases t f (λ x. anyWord (asksOther n) (x .words) ≡ false → Asks askedFull (x .state)) q v s c nt v₈ ev fit
-        (λ fit₁ none. asks-port askedFull q _ _ _ s c h) (λ fit₁ none. asked-stays t f n b (only q) _ fit₁ (asks-port askedFull q _ _ _ s c h) none) in
+      λ q v c nt v₈ ev. request-cases t f (λ x. anyWord (asksOther n) (x .words) ≡ false → Asks askedFull (x .state)) q v s c nt v₈ ev fit
+      (λ fit₁ none. asks-port askedFull q _ _ _ s c h) (λ fit₁ none. asked-stays t f n b (only q) _ fit₁ (asks-port askedFull q _ _ _ s c h) none) in
       happen-cases (λ x. anyWord (asksOther n) (x .words) ≡ false → Asks askedFull (x .state)) t e s
       (λ k none. asked-stays t f n b _ _ (things-fit t f s fit) (asks-things askedFull s fit h) none)
       (λ k. let m = mode-kind t e w k in request-asks (eventIndex e) (eventValue e) (mode-index t e w k) (λ z. omega arith) (digit-small _ 256 _ (omega arith)) (λ z. absurd (omega arith)))
       (λ k. let m = request-kind t e w k in request-asks (eventIndex e) 1 (request-index t e w k) (λ z. omega arith) (omega arith) (λ z. omega arith))
       (λ k none. let c = source-index t e w (λ z. omega arith) (λ z. omega arith) (λ z. omega arith) (λ z. omega arith) in
-        split (eqb (statusIn t (eventIndex e) s) statusNone || eqb (statusIn t (eventIndex e) s) statusExpired) (λ d. rw d (asks-source askedFull (eventIndex e) _ _ s c h)) (λ d. rw d h))
+      split (eqb (statusIn t (eventIndex e) s) statusNone || eqb (statusIn t (eventIndex e) s) statusExpired) (λ d. rw d (asks-source askedFull (eventIndex e) _ _ s c h)) (λ d. rw d h))
       (λ k none. let c = source-index t e w (λ z. omega arith) (λ z. omega arith) (λ z. omega arith) (λ z. omega arith) in
-        split (eqb (statusIn t (eventIndex e) s) statusPending) (λ d. rw d (asks-source askedFull (eventIndex e) _ _ s c h)) (λ d. rw d h))
+      split (eqb (statusIn t (eventIndex e) s) statusPending) (λ d. rw d (asks-source askedFull (eventIndex e) _ _ s c h)) (λ d. rw d h))
       (λ k none. let c = bus-off-index t e w k in
-        split (takes (networkIn t (eventIndex e) s))
-        (λ d. rw d (bus-off-asks (eventIndex e) c))
-        (λ d. rw d h))
+      split (takes (networkIn t (eventIndex e) s))
+      (λ d. rw d (bus-off-asks (eventIndex e) c))
+      (λ d. rw d h))
       (λ k none. let c = source-index t e w (λ z. k (omega arith)) (λ z. k (omega arith)) (λ z. k (omega arith)) (λ z. k (omega arith)) in asks-source askedFull (eventIndex e) _ _ s c h)
     where
       bus-off-asks : (m : ℕ) → m < networks t → Asks askedFull (moveNetwork t m (offBus t m (min 255 (networkIn t m s .counter + 1)) (networkIn t m s)) s)

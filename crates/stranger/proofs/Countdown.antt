@@ -38,7 +38,8 @@ phase-same L E k a b x y p =
     record {
       recovering = λ h. (x ∙ p .recovering h .0, y ∙ p .recovering h .1);
       checking = λ h g. (x ∙ p .checking h g .0, y ∙ p .checking h g .1);
-      settled = λ h. x ∙ p .settled h }
+      settled = λ h. x ∙ p .settled h;
+    }
 
 -- a network that is asked full, counting
 
@@ -74,26 +75,26 @@ phase-tick t n L k c one a p =
     let E = eTicks t n in
     split (ltb k L)
     (λ x. let lt : k < L = ltb-true _ _ x in let s = p .recovering lt .0 in let r : c .remaining ≡ L - k = p .recovering lt .1 in
-      split (leb (c .remaining) 1)
-      (λ y. let le : c .remaining ≤ 1 = leb-true _ _ y in
-        phase-here L E (suc k) _ _ (counts-in t n c stateRecover a s (omega arith) ∙ recover-last t n c s le)
-        (record { recovering = λ h. absurd (omega arith); checking = λ h g. (refl, omega arith); settled = λ h. absurd (omega arith) }))
-      (λ y. let gt : 1 < c .remaining = leb-false _ _ y in
-        phase-here L E (suc k) _ _ (counts-in t n c stateRecover a s (omega arith) ∙ recover-on t n c s gt)
-        (record { recovering = λ h. (refl, omega arith); checking = λ h g. absurd (omega arith); settled = λ h. absurd (omega arith) })))
+    split (leb (c .remaining) 1)
+    (λ y. let le : c .remaining ≤ 1 = leb-true _ _ y in
+    phase-here L E (suc k) _ _ (counts-in t n c stateRecover a s (omega arith) ∙ recover-last t n c s le)
+    (record { recovering = λ h. absurd (omega arith); checking = λ h g. (refl, omega arith); settled = λ h. absurd (omega arith) }))
+    (λ y. let gt : 1 < c .remaining = leb-false _ _ y in
+    phase-here L E (suc k) _ _ (counts-in t n c stateRecover a s (omega arith) ∙ recover-on t n c s gt)
+    (record { recovering = λ h. (refl, omega arith); checking = λ h g. absurd (omega arith); settled = λ h. absurd (omega arith) })))
     (λ x. let ge : L ≤ k = ltb-false _ _ x in
-      split (ltb k (L + E))
-      (λ z. let lt : k < L + E = ltb-true _ _ z in let s = p .checking ge lt .0 in let r : c .remaining ≡ L + E - k = p .checking ge lt .1 in
-        split (leb (c .remaining) 1)
-        (λ y. let le : c .remaining ≤ 1 = leb-true _ _ y in
-          phase-here L E (suc k) _ _ (counts-in t n c stateCheck a s (omega arith) ∙ check-last t n c s le)
-          (record { recovering = λ h. absurd (omega arith); checking = λ h g. absurd (omega arith); settled = λ h. refl }))
-        (λ y. let gt : 1 < c .remaining = leb-false _ _ y in
-          phase-here L E (suc k) _ _ (counts-in t n c stateCheck a s (omega arith) ∙ check-on t n c s gt)
-          (record { recovering = λ h. absurd (omega arith); checking = λ h g. (refl, omega arith); settled = λ h. absurd (omega arith) })))
-      (λ z. let ge₂ : L + E ≤ k = ltb-false _ _ z in let s = p .settled ge₂ in
-        phase-here L E (suc k) _ _ (counts-in t n c stateFull a s (omega arith) ∙ full-stays t n c s)
-        (record { recovering = λ h. absurd (omega arith); checking = λ h g. absurd (omega arith); settled = λ h. s })))
+    split (ltb k (L + E))
+    (λ z. let lt : k < L + E = ltb-true _ _ z in let s = p .checking ge lt .0 in let r : c .remaining ≡ L + E - k = p .checking ge lt .1 in
+    split (leb (c .remaining) 1)
+    (λ y. let le : c .remaining ≤ 1 = leb-true _ _ y in
+    phase-here L E (suc k) _ _ (counts-in t n c stateCheck a s (omega arith) ∙ check-last t n c s le)
+    (record { recovering = λ h. absurd (omega arith); checking = λ h g. absurd (omega arith); settled = λ h. refl }))
+    (λ y. let gt : 1 < c .remaining = leb-false _ _ y in
+    phase-here L E (suc k) _ _ (counts-in t n c stateCheck a s (omega arith) ∙ check-on t n c s gt)
+    (record { recovering = λ h. absurd (omega arith); checking = λ h g. (refl, omega arith); settled = λ h. absurd (omega arith) })))
+    (λ z. let ge₂ : L + E ≤ k = ltb-false _ _ z in let s = p .settled ge₂ in
+    phase-here L E (suc k) _ _ (counts-in t n c stateFull a s (omega arith) ∙ full-stays t n c s)
+    (record { recovering = λ h. absurd (omega arith); checking = λ h g. absurd (omega arith); settled = λ h. s })))
 
 -- One call.
 
@@ -179,7 +180,8 @@ starts t n s c h =
       answer = eqb-true _ _ (part-of _ (λ e. rw e at h));
       kind = eqb-true _ _ (part-of _ (λ e. rw (e, and-false) at h));
       index = eqb-true _ _ (part-of _ (λ e. rw (e, and-false) at h));
-      took = and-right (answered t s c && eqb (eventKind (c .event)) busOffKind && eqb (eventIndex (c .event)) n) _ h }
+      took = and-right (answered t s c && eqb (eventKind (c .event)) busOffKind && eqb (eventIndex (c .event)) n) _ h;
+    }
 
 -- a call that is answered 0 is done
 pub done-call : (t s : List ℕ) (c : Call) → called t s c .answer ≡ 0 → Taken t (c .event) × (called t s c .state ≡ happen t (c .event) s .state) × (called t s c .words ≡ happen t (c .event) s .words)
@@ -226,12 +228,13 @@ phase-shown t n L k s v p =
     record {
       recovering = λ z. let q = p .recovering z in (q .0, q .1, v ∙ rw (q .0));
       checking = λ z y. let q = p .checking z y in (q .0, q .1, v ∙ rw (q .0));
-      settled = λ z. let q = p .settled z in (q, v ∙ rw q) }
+      settled = λ z. let q = p .settled z in (q, v ∙ rw q);
+    }
 
 -- from fresh, whatever went before: a bus-off of n is taken while full is asked, then calls that leave n alone
 module _ (t : List ℕ) (h : accepted t ≡ true) (n : ℕ) (before : List Call) (c : Call)
-  (taken : busOffTaken t n (after t (fresh t) before) c ≡ true) (full : networkIn t n (after t (fresh t) before) .asked ≡ askedFull)
-  (cs : List Call) (alone : leftAlone t n (called t (after t (fresh t) before) c .state) cs ≡ true) where
+    (taken : busOffTaken t n (after t (fresh t) before) c ≡ true) (full : networkIn t n (after t (fresh t) before) .asked ≡ askedFull)
+    (cs : List Call) (alone : leftAlone t n (called t (after t (fresh t) before) c .state) cs ≡ true) where
   abbrev s₀ : List ℕ
   s₀ = after t (fresh t) before
 

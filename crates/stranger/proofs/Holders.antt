@@ -26,9 +26,10 @@ module _ (t : List ℕ) (f : Facts t) where
   not-held : (p n k : ℕ) → held t p n k ≡ false → ((m : ℕ) → m < n → networkPort t m ≡ p → ⊥) × ((m : ℕ) → m < k → sourcePort t m ≡ p → ⊥)
   unfolding held networkHas sourceHas
   not-held p n k h =
-      let o = or-none (any 0 n (networkHas t p)) (any 0 k (sourceHas t p)) h in
-      (λ m b e. clash (eq-eqb _ _ e) (any-at (networkHas t p) 0 n m (o .0) (omega arith) (omega arith)),
-      λ m b e. clash (eq-eqb _ _ e) (any-at (sourceHas t p) 0 k m (o .1) (omega arith) (omega arith)))
+      let o = or-none (any 0 n (networkHas t p)) (any 0 k (sourceHas t p)) h in (
+        λ m b e. clash (eq-eqb _ _ e) (any-at (networkHas t p) 0 n m (o .0) (omega arith) (omega arith)),
+        λ m b e. clash (eq-eqb _ _ e) (any-at (sourceHas t p) 0 k m (o .1) (omega arith) (omega arith)),
+      )
 
   order-cases {ℓ} : {A : Type ℓ} (m n : ℕ) → (m ≡ n → ⊥) → (m < n → A) → (n < m → A) → A
   order-cases m n d a b = split (ltb m n) (λ e. a (ltb-true _ _ e)) (λ e. b (let g : n ≤ m = ltb-false _ _ e in omega arith))
@@ -61,7 +62,8 @@ network-holder t f n b =
       may = may-show t (networkPort t n) (f .network n b .may);
       otherNetworks = λ m a d. networks-apart t f m n a b (λ z. d (ap (λ (x : ℕ). ports t + rules t + x) z));
       otherSources = λ m a d e. network-source-apart t f n m b a (sym e);
-      requests = λ q h e. not-held t f q (networks t) (sources t) h .0 n b (sym e) }
+      requests = λ q h e. not-held t f q (networks t) (sources t) h .0 n b (sym e);
+    }
 
 pub source-holder : (t : List ℕ) → Facts t → (k : ℕ) → k < sources t → Holder t (sourceIndex t k) (sourcePort t k)
 source-holder t f k b =
@@ -70,7 +72,8 @@ source-holder t f k b =
       may = may-show t (sourcePort t k) (f .source k b .may);
       otherNetworks = λ m a d. network-source-apart t f m k a b;
       otherSources = λ m a d. sources-apart t f m k a b (λ z. d (ap (λ (x : ℕ). ports t + rules t + networks t + x) z));
-      requests = λ q h e. not-held t f q (networks t) (sources t) h .1 k b (sym e) }
+      requests = λ q h e. not-held t f q (networks t) (sources t) h .1 k b (sym e);
+    }
 
 -- The two words that a thing holds are as they were in s₀.
 pub record Cells (i p : ℕ) (s₀ s : List ℕ) : Type 0 where
@@ -120,8 +123,8 @@ module _ (t : List ℕ) (f : Facts t) (i p : ℕ) (h : Holder t i p) (s₀ : Lis
   other-timer q s b k =
       split (eqb (portKind t q) kindTimer && eqb (valueOf (word s q)) timerStarted)
       (λ e. let kind : portKind t q ≡ kindTimer = eqb-true _ _ (and-left _ (eqb (valueOf (word s q)) timerStarted) e) in
-        let apart : (q ≡ p → ⊥) = λ z. let mode : portKind t p ≡ kindMode = h .may .mode in let same : portKind t q ≡ portKind t p = ap (λ (x : ℕ). portKind t x) z in omega arith in
-        split (leb (remainingIn s q) 1) (λ d. rw (e, d) (port-keeps q 1 _ 0 s b apart k)) (λ d. rw (e, d) (port-keeps q _ _ _ s b apart k)))
+      let apart : (q ≡ p → ⊥) = λ z. let mode : portKind t p ≡ kindMode = h .may .mode in let same : portKind t q ≡ portKind t p = ap (λ (x : ℕ). portKind t x) z in omega arith in
+      split (leb (remainingIn s q) 1) (λ d. rw (e, d) (port-keeps q 1 _ 0 s b apart k)) (λ d. rw (e, d) (port-keeps q _ _ _ s b apart k)))
       (λ e. rw e k)
 
   pub timers-keep : (s : List ℕ) → Cells i p s₀ s → Cells i p s₀ (each 0 (ports t) (tickTimer t) s)

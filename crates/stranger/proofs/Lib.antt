@@ -17,3 +17,5 @@ pub mod Moves
 pub mod Shows
 pub mod AskedAfter
 pub mod Countdown
+pub mod Wakeup
+pub mod NotEmpty

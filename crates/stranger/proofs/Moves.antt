@@ -45,7 +45,7 @@ port-written t s s₁ p old new b small e =
     split (eqb new old)
     (λ h. rw h (record { value = λ v. ap (λ (x : ℕ). valueOf x) e ∙ v ∙ sym (eqb-true _ _ h); defined = rw h (ap (λ (x : ℕ). definedOf x) e) }))
     (λ h. let is : word (set s₁ p (packPort 1 1 new 0)) p ≡ packPort 1 1 new 0 = getD-set-same s₁ p _ 0 b in
-      rw h (record { value = λ v. ap (λ (x : ℕ). valueOf x) is ∙ port-value 1 1 new 0 ∙ mod-eq-of-lt small; defined = rw h (ap (λ (x : ℕ). definedOf x) is ∙ port-defined 1 1 new 0) }))
+    rw h (record { value = λ v. ap (λ (x : ℕ). valueOf x) is ∙ port-value 1 1 new 0 ∙ mod-eq-of-lt small; defined = rw h (ap (λ (x : ℕ). definedOf x) is ∙ port-defined 1 1 new 0) }))
 
 -- arbitration leaves it so
 pub port-then-still : (t : List ℕ) → Facts t → (p old new : ℕ) → MayShow t p → (q : ℕ → Bool) (s s₁ : List ℕ) → Fits t s₁ → PortMoves p old new s s₁ → PortMoves p old new s (arbitrate t q s₁ .state)
@@ -78,7 +78,8 @@ module _ (t : List ℕ) (f : Facts t) {X : Type 0} (i p : ℕ) (core : ℕ → X
   carried x s s₁ s₂ m k =
       record {
         own = ap core (k .own) ∙ m .own;
-        port = record { value = λ v. ap (λ (w : ℕ). valueOf w) (k .port) ∙ m .port .value v; defined = ap (λ (w : ℕ). definedOf w) (k .port) ∙ m .port .defined } }
+        port = record { value = λ v. ap (λ (w : ℕ). valueOf w) (k .port) ∙ m .port .value v; defined = ap (λ (w : ℕ). definedOf w) (k .port) ∙ m .port .defined };
+      }
 
   -- events of others, and requests, leave it alone
 
@@ -153,7 +154,8 @@ module _ (t : List ℕ) (f : Facts t) (n : ℕ) (b : n < networks t) where
       let same : shown (networkIn t n s₁ .state) ≡ shown (networkIn t n s .state) = ap (λ (w : ℕ). shown (networkOf w .state)) (cells .own) in
       record {
         own = ap coreOf (kept-own (networkIndex t n) (networkPort t n) (packNetwork c) _ s₁ (eqb (shown (c .state)) (shown (networkIn t n s₁ .state))) (omega arith) (λ z. omega arith)) ∙ ap (asking 0) (network-again c (network-small t n c ok));
-        port = rw same (port-written t s (set s₁ (networkIndex t n) (packNetwork c)) (networkPort t n) _ (shown (c .state)) (lt-length-set s₁ _ _ (omega arith)) (shown-small t f (c .state)) (getD-set-other s₁ (networkIndex t n) (networkPort t n) _ 0 (λ z. omega arith) ∙ cells .port)) }
+        port = rw same (port-written t s (set s₁ (networkIndex t n) (packNetwork c)) (networkPort t n) _ (shown (c .state)) (lt-length-set s₁ _ _ (omega arith)) (shown-small t f (c .state)) (getD-set-other s₁ (networkIndex t n) (networkPort t n) _ 0 (λ z. omega arith) ∙ cells .port));
+      }
 
   ticked-here : (s : List ℕ) → Fits t s → NetworkMoves (tickedNetwork t n (networkIn t n s)) s (tickNetwork t n (each 0 n (tickNetwork t) s))
   unfolding tickNetwork
@@ -204,13 +206,13 @@ module _ (t : List ℕ) (f : Facts t) (n : ℕ) (b : n < networks t) where
   network-by-bus-off e s k c fit =
       split (eqb (eventIndex e) n)
       (λ a. let same : eventIndex e ≡ n = eqb-true _ _ a in
-        split (takes (networkIn t n s))
-        (λ d. rw (k, same, eq-eqb n n refl, d) (network-moved _ s s fit (off-bus-ok t f n _ _ b (network-in t s fit n b) (omega arith) (omega arith)) (cells-refl _ _ s)))
-        (λ d. rw (k, same, eq-eqb n n refl, d) (network-by-nothing s)))
+      split (takes (networkIn t n s))
+      (λ d. rw (k, same, eq-eqb n n refl, d) (network-moved _ s s fit (off-bus-ok t f n _ _ b (network-in t s fit n b) (omega arith) (omega arith)) (cells-refl _ _ s)))
+      (λ d. rw (k, same, eq-eqb n n refl, d) (network-by-nothing s)))
       (λ a. let differ : (eventIndex e ≡ n → ⊥) = eqb-false _ _ a in
-        rw (k, a) (split (takes (networkIn t (eventIndex e) s))
-          (λ d. rw d (by-network t f _ _ coreOf shownBy held-network (eventIndex e) _ s c (λ z. differ (omega arith))))
-          (λ d. rw d (network-by-nothing s))))
+      rw (k, a) (split (takes (networkIn t (eventIndex e) s))
+      (λ d. rw d (by-network t f _ _ coreOf shownBy held-network (eventIndex e) _ s c (λ z. differ (omega arith))))
+      (λ d. rw d (network-by-nothing s))))
 
   pub network-moves : (e : ℕ) (s : List ℕ) → Taken t e → Fits t s → NetworkMoves (nextNetwork e s) s (happen t e s .state)
   unfolding nextNetwork tick arbitrateMarked clear
@@ -251,7 +253,8 @@ module _ (t : List ℕ) (f : Facts t) (k : ℕ) (b : k < sources t) where
       let is : statusOf (packSource status r) ≡ status = source-status status r ∙ mod-eq-of-lt small in
       record {
         own = kept-own (sourceIndex t k) (sourcePort t k) (packSource status r) status s₁ (eqb status (statusIn t k s₁)) (omega arith) (λ z. omega arith);
-        port = rw (is, same) (port-written t s (set s₁ (sourceIndex t k) (packSource status r)) (sourcePort t k) _ status (lt-length-set s₁ _ _ (omega arith)) (omega arith) (getD-set-other s₁ (sourceIndex t k) (sourcePort t k) _ 0 (λ z. omega arith) ∙ cells .port)) }
+        port = rw (is, same) (port-written t s (set s₁ (sourceIndex t k) (packSource status r)) (sourcePort t k) _ status (lt-length-set s₁ _ _ (omega arith)) (omega arith) (getD-set-other s₁ (sourceIndex t k) (sourcePort t k) _ 0 (λ z. omega arith) ∙ cells .port));
+      }
 
   -- what a tick makes of its word
   unfoldable pub tickedSource : ℕ → ℕ
@@ -305,19 +308,19 @@ module _ (t : List ℕ) (f : Facts t) (k : ℕ) (b : k < sources t) where
   source-by-wake m s c fit =
       split (eqb m k)
       (λ a. let same : m ≡ k = eqb-true _ _ a in rw (a, same)
-        (split (eqb (statusIn t k s) statusNone || eqb (statusIn t k s) statusExpired)
-        (λ e. rw e (source-moved _ _ s s fit (woken-ok t f k .status₂) (cells-refl _ _ s))) (λ e. rw e (source-by-nothing s))))
+      (split (eqb (statusIn t k s) statusNone || eqb (statusIn t k s) statusExpired)
+      (λ e. rw e (source-moved _ _ s s fit (woken-ok t f k .status₂) (cells-refl _ _ s))) (λ e. rw e (source-by-nothing s))))
       (λ a. rw a (split (eqb (statusIn t m s) statusNone || eqb (statusIn t m s) statusExpired)
-        (λ e. rw e (by-source t f _ _ wordOf _ held-source m _ _ s c (other-index m (eqb-false _ _ a)))) (λ e. rw e (source-by-nothing s))))
+      (λ e. rw e (by-source t f _ _ wordOf _ held-source m _ _ s c (other-index m (eqb-false _ _ a)))) (λ e. rw e (source-by-nothing s))))
 
   source-by-valid : (m : ℕ) (s : List ℕ) → m < sources t → Fits t s → SourceMoves (cond (eqb m k) (validSource (word s (sourceIndex t k))) (word s (sourceIndex t k))) s (validate t m s)
   unfolding validate validSource
   source-by-valid m s c fit =
       split (eqb m k)
       (λ a. let same : m ≡ k = eqb-true _ _ a in rw (a, same)
-        (split (eqb (statusIn t k s) statusPending) (λ e. rw e (source-moved statusValidated 0 s s fit (omega arith) (cells-refl _ _ s))) (λ e. rw e (source-by-nothing s))))
+      (split (eqb (statusIn t k s) statusPending) (λ e. rw e (source-moved statusValidated 0 s s fit (omega arith) (cells-refl _ _ s))) (λ e. rw e (source-by-nothing s))))
       (λ a. rw a (split (eqb (statusIn t m s) statusPending)
-        (λ e. rw e (by-source t f _ _ wordOf _ held-source m _ _ s c (other-index m (eqb-false _ _ a)))) (λ e. rw e (source-by-nothing s))))
+      (λ e. rw e (by-source t f _ _ wordOf _ held-source m _ _ s c (other-index m (eqb-false _ _ a)))) (λ e. rw e (source-by-nothing s))))
 
   source-by-clear : (m : ℕ) (s : List ℕ) → m < sources t → Fits t s → SourceMoves (cond (eqb m k) (packSource statusNone 0) (word s (sourceIndex t k))) s (clear t m s)
   unfolding clear

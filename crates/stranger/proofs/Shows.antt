@@ -49,8 +49,8 @@ module _ (t : List ℕ) (h : accepted t ≡ true) where
   network-call n b s c fit =
       call-cases (λ x. PortMoves (networkPort t n) (modeToShow t n s) (modeToShow t n x) s x) t s c (port-stays _ _ s s refl)
       (λ w. let m = network-moves t (facts t h) n b (c .event) s w fit in
-        let e : nextNetwork t (facts t h) n b (c .event) s .state ≡ networkIn t n (happen t (c .event) s .state) .state = sym (ap (λ x. x .state) (m .own)) in
-        rw (← e) (m .port))
+      let e : nextNetwork t (facts t h) n b (c .event) s .state ≡ networkIn t n (happen t (c .event) s .state) .state = sym (ap (λ x. x .state) (m .own)) in
+      rw (← e) (m .port))
 
   source-call : (k : ℕ) → k < sources t → (s : List ℕ) (c : Call) → Fits t s → PortMoves (sourcePort t k) (statusToShow t k s) (statusToShow t k (called t s c .state)) s (called t s c .state)
   unfolding statusToShow
@@ -60,7 +60,7 @@ module _ (t : List ℕ) (h : accepted t ≡ true) where
 
 -- a run of calls
 module _ (t : List ℕ) (h : accepted t ≡ true) (p : ℕ) (look : List ℕ → ℕ)
-  (call : (s : List ℕ) (c : Call) → Fits t s → PortMoves p (look s) (look (called t s c .state)) s (called t s c .state)) where
+    (call : (s : List ℕ) (c : Call) → Fits t s → PortMoves p (look s) (look (called t s c .state)) s (called t s c .state)) where
   value-after : (cs : List Call) (s : List ℕ) → Fits t s → valueOf (word s p) ≡ look s → valueOf (word (after t s cs) p) ≡ look (after t s cs)
   unfolding after
   value-after [] s fit v = v
@@ -105,12 +105,13 @@ unfolding packPort digit
 zero-port = (refl, refl)
 
 shows-after : (t : List ℕ) (h : accepted t ≡ true) (p : ℕ) (look : List ℕ → ℕ) → ((s : List ℕ) (c : Call) → Fits t s → PortMoves p (look s) (look (called t s c .state)) s (called t s c .state))
-  → MayShow t p → look (fresh t) ≡ 0 → (cs : List Call) → PortShows p look t cs
+    → MayShow t p → look (fresh t) ≡ 0 → (cs : List Call) → PortShows p look t cs
 shows-after t h p look call m zero-look cs =
     let w = fresh-showing t p m in
     record {
       value = value-after t h p look call cs (fresh t) (fresh-fits t h) (ap (λ (x : ℕ). valueOf x) w ∙ zero-port .0 ∙ sym zero-look);
-      defined = defined-after t h p look call cs (fresh t) (fresh-fits t h) ∙ ap (λ (d : ℕ). cond (changes look t (fresh t) cs) 1 d) (ap (λ (x : ℕ). definedOf x) w ∙ zero-port .1) }
+      defined = defined-after t h p look call cs (fresh t) (fresh-fits t h) ∙ ap (λ (d : ℕ). cond (changes look t (fresh t) cs) 1 d) (ap (λ (x : ℕ). definedOf x) w ∙ zero-port .1);
+    }
 
 pub network-shows : (t : List ℕ) → accepted t ≡ true → (n : ℕ) → n < networks t → (cs : List Call) → PortShows (networkPort t n) (modeToShow t n) t cs
 unfolding modeToShow digit shown

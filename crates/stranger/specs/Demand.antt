@@ -4,7 +4,7 @@ use mathlib.Core.Bool.{Bool, true, false, cond, _&&_, _||_, not}
 use mathlib.Core.List.{List, [], _∷_}
 use Prim.Native.Nat.{ℕ, zero, suc, _+_, _-_, _≤_, _<_, min}
 use lib.Dec.{leb, eqb}
-use Rattle.rulebook.specs.Words.{word, field}
+use Rattle.rulebook.specs.Words.{word, field, laid}
 use Rattle.rulebook.specs.Table.{networkPort, eTicks, sourcePort, timeout, kindAsk}
 use Rattle.rulebook.specs.State.{sourceIndex, definedOf, valueOf, remainingOf, fresh, askedFull, stateCheck, stateFull, stateRecover, statusNone, statusPending, statusExpired}
 use Rattle.rulebook.specs.Lists.{networkIn}
@@ -74,6 +74,10 @@ becomesPending t k s c =
     && eqb (eventIndex (c .event)) k
     && (eqb (statusIn t k s) statusNone || eqb (statusIn t k s) statusExpired)
     && leb 1 (timeout t k)
+
+-- a wakeup of source k, sent under the number of operator o
+unfoldable pub wakeupWord : ℕ → ℕ → ℕ
+wakeupWord o k = laid 0 4 wakeupKind + laid 4 4 o + laid 8 8 k
 
 -- source k is validated or cleared in this call
 unfoldable pub ended : List ℕ → ℕ → List ℕ → Call → Bool
