@@ -11,6 +11,7 @@ pub mod Order
 pub mod Runs
 pub mod Nesting
 pub mod Deep
+pub mod Frame
 pub mod Cost
 pub mod Fit
 pub mod FitKept
