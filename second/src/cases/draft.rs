@@ -1,0 +1,161 @@
+//! A table before it is packed, and what its maker knows of its nesting.
+
+use crate::words::*;
+
+/// How deep a good table may nest: the maker's own number, so that a wrong one
+/// in the rules shows.
+pub const SEVEN: u32 = 7;
+
+#[derive(Clone, Default, Debug)]
+pub struct Draft {
+    pub ports: Vec<Port>,
+    pub networks: Vec<(Network, Waits)>,
+    pub sources: Vec<Source>,
+    pub expressions: Vec<Expression>,
+    pub rules: Vec<Rule>,
+    pub lists: Vec<List>,
+    pub items: Vec<Item>,
+}
+
+/// How deep something nests, walked along its names.
+#[derive(Clone, Copy, PartialEq, Eq, PartialOrd, Ord, Debug)]
+pub enum Depth {
+    Levels(u32),
+    Endless,
+}
+
+impl Draft {
+    /// An accepted table, unpacked.
+    pub fn of(table: &Table) -> Self {
+        let all = |section: Section| 0..table.count(section);
+        Draft {
+            ports: all(Section::Ports).map(|p| table.port(p)).collect(),
+            networks: all(Section::Networks).map(|n| (table.network(n), table.waits(n))).collect(),
+            sources: all(Section::Sources).map(|s| table.source(s)).collect(),
+            expressions: all(Section::Expressions).map(|e| table.expression(e)).collect(),
+            rules: all(Section::Rules).map(|r| table.rule(r)).collect(),
+            lists: all(Section::Lists).map(|l| table.list(l)).collect(),
+            items: all(Section::Items).map(|i| table.item(i)).collect(),
+        }
+    }
+
+    /// A network's word in a state of this table.
+    pub fn network_in(&self, state: &[u32], number: usize) -> NetworkState {
+        NetworkState::of(state[self.ports.len() + self.rules.len() + number])
+    }
+
+    /// A source's word in a state of this table.
+    pub fn source_in(&self, state: &[u32], number: usize) -> SourceState {
+        let before = self.ports.len() + self.rules.len() + self.networks.len();
+        SourceState::of(state[before + number])
+    }
+
+    pub fn words(&self) -> Vec<u32> {
+        let pair = |high: usize, low: usize| Pair { high: high as u32, low: low as u32 }.word();
+        let head = Head {
+            edition: EDITION,
+            ports: self.ports.len() as u32,
+            networks: self.networks.len() as u32,
+            sources: self.sources.len() as u32,
+        };
+        let mut words = vec![
+            head.word(),
+            pair(self.expressions.len(), self.rules.len()),
+            pair(self.lists.len(), self.items.len()),
+        ];
+        words.extend(self.ports.iter().map(|port| port.word()));
+        words.extend(self.networks.iter().flat_map(|(n, waits)| [n.word(), waits.word()]));
+        words.extend(self.sources.iter().map(|source| source.word()));
+        words.extend(self.expressions.iter().map(|expression| expression.word()));
+        words.extend(self.rules.iter().map(|rule| rule.word()));
+        words.extend(self.lists.iter().map(|list| list.word()));
+        words.extend(self.items.iter().map(|item| item.word()));
+        words
+    }
+
+    /// The depth of every expression and every list, by walking down with a
+    /// memory: another way than the check's, so that the two can disagree.
+    pub fn depths(&self) -> (Vec<Depth>, Vec<Depth>) {
+        let arguments = |expression: usize| self.expressions[expression].arguments().collect();
+        let named = |list: usize| self.named_by(list);
+        let expressions = Walk::over(self.expressions.len(), &arguments);
+        (expressions, Walk::over(self.lists.len(), &named))
+    }
+
+    fn named_by(&self, list: usize) -> Vec<usize> {
+        let mut named = vec![];
+        for item in &self.items[self.lists[list].items()] {
+            match item.kind {
+                item::LIST => named.push(item.a as usize),
+                item::RULE => named.extend(self.rules[item.a as usize].lists()),
+                _ => {}
+            }
+        }
+        named
+    }
+
+    /// What all lists of a good table cost together, by walking every path.
+    pub fn b(&self) -> usize {
+        (0..self.lists.len()).map(|list| self.cost(list)).sum()
+    }
+
+    fn cost(&self, list: usize) -> usize {
+        let item_cost = |item: &Item| match item.kind {
+            item::LIST => self.cost(item.a as usize),
+            item::RULE => {
+                let lists = self.rules[item.a as usize].lists();
+                1 + lists.map(|list| self.cost(list)).max().unwrap_or(0)
+            }
+            _ => 1,
+        };
+        1 + self.items[self.lists[list].items()].iter().map(item_cost).sum::<usize>()
+    }
+
+    /// The ports that networks, then sources, have as their own.
+    pub fn thing_ports(&self) -> Vec<u32> {
+        let networks = self.networks.iter().map(|(network, _)| network.port);
+        networks.chain(self.sources.iter().map(|source| source.port)).collect()
+    }
+
+    pub fn mentioned(&self, expression: usize) -> Vec<usize> {
+        match self.expressions[expression] {
+            Expression::Condition(condition) => vec![condition.port as usize],
+            operator => operator.arguments().flat_map(|a| self.mentioned(a)).collect(),
+        }
+    }
+}
+
+struct Walk<'a> {
+    names: &'a dyn Fn(usize) -> Vec<usize>,
+    known: Vec<Option<Depth>>,
+    /// On the way down from the start: meeting one again closes a ring.
+    open: Vec<bool>,
+}
+
+impl Walk<'_> {
+    fn over(count: usize, names: &dyn Fn(usize) -> Vec<usize>) -> Vec<Depth> {
+        let mut walk = Walk { names, known: vec![None; count], open: vec![false; count] };
+        (0..count).map(|start| walk.depth(start)).collect()
+    }
+
+    fn depth(&mut self, at: usize) -> Depth {
+        if let Some(depth) = self.known[at] {
+            return depth;
+        }
+        if self.open[at] {
+            return Depth::Endless;
+        }
+        self.open[at] = true;
+        let named = (self.names)(at);
+        let deepest = named.into_iter().map(|next| self.depth(next)).max();
+        self.open[at] = false;
+        let depth = match deepest {
+            None => Depth::Levels(1),
+            Some(Depth::Levels(levels)) => Depth::Levels(levels + 1),
+            Some(Depth::Endless) => Depth::Endless,
+        };
+        // In a ring, the first met is endless for certain, and so is all that leads to it.
+        self.known[at] = Some(depth);
+        depth
+    }
+}

@@ -1,0 +1,322 @@
+//! Generated cases: the same for the same seed, and what their making says of
+//! their outcome.
+
+pub mod draft;
+pub mod prng;
+pub mod refused;
+pub mod sequences;
+pub mod states;
+pub mod tables;
+
+use draft::{Draft, SEVEN};
+use prng::Prng;
+use refused::Refused;
+use sequences::sequence;
+use states::{MISFITS, Misfit, fit_state, fresh_state, unfit_state};
+use tables::{PADDING, Plan, fill_items, grow, pad};
+
+use crate::check;
+use crate::words::*;
+
+/// What another program is to be compared on.
+#[derive(Clone, PartialEq, Eq, Debug, Default)]
+pub struct Case {
+    pub table: Vec<u32>,
+    /// The state to start from, of any length.
+    pub state: Vec<u32>,
+    /// How many trace words are lent.
+    pub room: usize,
+    pub events: Vec<u32>,
+}
+
+/// What the making of a case says of it; None where it says nothing.
+#[derive(Clone, Debug, Default)]
+pub struct Known {
+    /// Reason and place.
+    pub check: Option<(u32, usize)>,
+    pub b: Option<usize>,
+    /// The state is fresh, or fits, or misses this.
+    pub fresh: bool,
+    pub fit: bool,
+    pub misfit: Option<Misfit>,
+    /// The answer to each event.
+    pub answers: Option<Vec<u32>>,
+    /// A coverage row the case was made for.
+    pub note: Option<&'static str>,
+}
+
+#[derive(Clone, Debug, Default)]
+pub struct Made {
+    pub case: Case,
+    pub known: Known,
+}
+
+#[derive(Clone, Copy, Debug)]
+enum Shape {
+    Small,
+    Rich,
+    Limits,
+    Dearest,
+    Brimful,
+    SevenDeep,
+    EightDeep,
+    NotReached,
+    Unfit,
+    Refused,
+    TwoFaults,
+    Hostile,
+    NamesTurned,
+    BitsFlipped,
+    Raw,
+}
+
+/// The shapes come round in this order, so that every seed meets all of them.
+const ROUND: [Shape; 40] = {
+    use Shape::*;
+    [
+        Small, Rich, Refused, Small, NotReached, Unfit, Small, Refused, SevenDeep, Small, Rich,
+        TwoFaults, Small, BitsFlipped, Refused, Small, NotReached, Unfit, Rich, EightDeep, Small,
+        NamesTurned, Dearest, Small, Raw, Rich, Refused, Unfit, Small, NotReached, Hostile, Small,
+        Refused, Limits, Rich, Small, Brimful, NamesTurned, Unfit, NotReached,
+    ]
+};
+
+/// An endless run of cases.
+pub struct Cases {
+    rng: Prng,
+    made: usize,
+}
+
+impl Cases {
+    pub fn new(seed: u64) -> Self {
+        Cases { rng: Prng::new(seed), made: 0 }
+    }
+}
+
+impl Iterator for Cases {
+    type Item = Made;
+
+    fn next(&mut self) -> Option<Made> {
+        let (shape, round) = (ROUND[self.made % ROUND.len()], self.made / ROUND.len());
+        self.made += 1;
+        Some(make(&mut self.rng, shape, round))
+    }
+}
+
+fn make(rng: &mut Prng, shape: Shape, round: usize) -> Made {
+    match shape {
+        Shape::Small => from_fresh(rng, Plan::small, 80),
+        Shape::Rich => from_fresh(rng, Plan::rich, 90),
+        Shape::Limits => at_limits(rng),
+        Shape::Dearest => dearest(rng),
+        Shape::Brimful => brimful(rng),
+        Shape::SevenDeep => {
+            let base = small(rng);
+            let draft = refused::row(rng, &base, SEVEN as usize);
+            accepted(rng, &draft, fresh_state(&draft), true, 30)
+        }
+        Shape::EightDeep => refused_case(rng, |rng| {
+            let base = small(rng);
+            refused::eight_deep(rng, &base)
+        }),
+        Shape::NotReached => {
+            let draft = any_draft(rng);
+            let state = fit_state(rng, &draft);
+            accepted(rng, &draft, state, false, 12)
+        }
+        Shape::Unfit => unfit(rng),
+        Shape::Refused => {
+            let reason = 1 + rng.below(9) as u32;
+            refused_case(rng, |rng| Some(refused::refuse_some(rng, reason, any_draft)))
+        }
+        Shape::TwoFaults => refused_case(rng, |rng| {
+            let good = any_draft(rng);
+            refused::two_faults(rng, &good)
+        }),
+        Shape::Hostile => hostile(rng, round),
+        Shape::NamesTurned => names_turned(rng),
+        Shape::BitsFlipped => bits_flipped(rng),
+        Shape::Raw => raw(rng),
+    }
+}
+
+fn small(rng: &mut Prng) -> Draft {
+    let plan = Plan::small(rng);
+    grow(rng, plan)
+}
+
+fn any_draft(rng: &mut Prng) -> Draft {
+    let plan = if rng.chance(50) { Plan::small(rng) } else { Plan::rich(rng) };
+    grow(rng, plan)
+}
+
+fn from_fresh(rng: &mut Prng, plan: impl Fn(&mut Prng) -> Plan, most: usize) -> Made {
+    let plan = plan(rng);
+    let draft = grow(rng, plan);
+    let length = 5 + rng.below(most);
+    accepted(rng, &draft, fresh_state(&draft), true, length)
+}
+
+/// Mostly B words, at times a few more, at times too few.
+fn room(rng: &mut Prng, b: usize) -> usize {
+    match rng.weighed(&[75, 20, 5]) {
+        0 => b,
+        1 => b + 1 + rng.below(4),
+        _ => b - rng.below(b + 1).min(b),
+    }
+}
+
+/// A case on an accepted table from a state that fits.
+fn accepted(rng: &mut Prng, draft: &Draft, state: Vec<u32>, fresh: bool, length: usize) -> Made {
+    let b = draft.b();
+    let room = room(rng, b);
+    let length = if room < b { 2 } else { length };
+    let (events, answers): (Vec<u32>, Vec<u32>) =
+        sequence(rng, draft, length, 6).into_iter().unzip();
+    let answers = answers.into_iter().map(|answer| if room < b { 3 } else { answer }).collect();
+    Made {
+        case: Case { table: draft.words(), state, room, events },
+        known: Known {
+            check: Some((0, 0)),
+            b: Some(b),
+            fresh,
+            fit: true,
+            answers: Some(answers),
+            ..Default::default()
+        },
+    }
+}
+
+/// Every count at its limit, and the cost too or just below.
+fn at_limits(rng: &mut Prng) -> Made {
+    let plan = Plan::limits(rng);
+    let mut draft = grow(rng, plan);
+    let left = 4096 - rng.below(2) - draft.b();
+    pad(rng, &mut draft, left, PADDING);
+    fill_items(rng, &mut draft);
+    accepted(rng, &draft, fresh_state(&draft), true, 8)
+}
+
+/// All lists together cost exactly the most that is allowed.
+fn dearest(rng: &mut Prng) -> Made {
+    let mut draft = any_draft(rng);
+    let left = 4096 - draft.b();
+    pad(rng, &mut draft, left, 1);
+    accepted(rng, &draft, fresh_state(&draft), true, 20)
+}
+
+/// One event starts every list, and the trace fills all of B.
+fn brimful(rng: &mut Prng) -> Made {
+    let mut draft = Draft {
+        ports: vec![Port::default()],
+        expressions: vec![Expression::of(0)],
+        rules: vec![Rule { true_list: NO_LIST, false_list: NO_LIST, ..Default::default() }],
+        ..Default::default()
+    };
+    pad(rng, &mut draft, 4096, 1);
+    accepted(rng, &draft, fresh_state(&draft), true, 4)
+}
+
+fn unfit(rng: &mut Prng) -> Made {
+    let misfit = rng.pick(&MISFITS);
+    let (draft, state) = loop {
+        let plan = Plan::rich(rng);
+        let draft = grow(rng, plan);
+        if let Some(state) = unfit_state(rng, &draft, misfit) {
+            break (draft, state);
+        }
+    };
+    let mut made = accepted(rng, &draft, state, false, 2);
+    made.known.fit = false;
+    made.known.misfit = Some(misfit);
+    made.known.answers = Some(vec![2; made.case.events.len()]);
+    made
+}
+
+/// A refused table with a state and events that would do for a good one.
+fn refused_case(rng: &mut Prng, refuse: impl Fn(&mut Prng) -> Option<Refused>) -> Made {
+    let refused = loop {
+        if let Some(refused) = refuse(rng) {
+            break refused;
+        }
+    };
+    let (events, answers) = (vec![0, rng.word()], Some(vec![1; 2]));
+    let state = vec![0; rng.below(20)];
+    let Refused { words, reason, place, note } = refused;
+    let check = Some((reason, place));
+    Made {
+        case: Case { table: words, state, room: rng.below(8), events },
+        known: Known { check, answers, note, ..Default::default() },
+    }
+}
+
+fn hostile(rng: &mut Prng, round: usize) -> Made {
+    refused_case(rng, |rng| {
+        let levels = 2 + rng.below(6);
+        Some(match round % 4 {
+            0 => refused::hostile(rng, SEVEN as usize, false),
+            1 => refused::hostile(rng, SEVEN as usize + 1, false),
+            2 => refused::hostile(rng, levels, true),
+            _ => refused::hostile_expressions(rng, 512),
+        })
+    })
+}
+
+/// A good table with a few names and owners drawn anew from what there is.
+fn names_turned(rng: &mut Prng) -> Made {
+    let mut draft = any_draft(rng);
+    for _ in 0..1 + rng.below(3) {
+        let (expression, rule) = (rng.below(draft.expressions.len()), rng.below(draft.rules.len()));
+        let some_list = rng.below(draft.lists.len().max(1));
+        let (owner, some_port) = (rng.within(0, 3), rng.below(draft.ports.len()));
+        match rng.below(6) {
+            0 => {
+                let left = rng.below(draft.expressions.len()) as u32;
+                if let Expression::Operator(operator) = &mut draft.expressions[expression] {
+                    operator.left = left;
+                }
+            }
+            1 => draft.rules[rule].expression = expression as u32,
+            2 => draft.rules[rule].true_list = some_list as u32,
+            3 if !draft.items.is_empty() => {
+                let at = rng.below(draft.items.len());
+                let named = [(item::LIST, some_list), (item::RULE, rule)];
+                let (kind, a) = rng.pick(&named);
+                draft.items[at] = Item { kind, a: a as u32, b: 0 };
+            }
+            4 if !draft.lists.is_empty() => draft.lists[some_list].owner = owner,
+            _ => draft.ports[some_port].owner = owner,
+        }
+    }
+    let state = fit_state(rng, &draft);
+    let events = sequence(rng, &draft, 6, 6).into_iter().map(|(event, _)| event).collect();
+    let table = draft.words();
+    // Cost may have no end here, so the room is asked of the check.
+    let room = check(&table).b;
+    Made { case: Case { table, state, room, events }, known: Known::default() }
+}
+
+/// A good case with a few bits turned in its table or its state.
+fn bits_flipped(rng: &mut Prng) -> Made {
+    let draft = any_draft(rng);
+    let state = fit_state(rng, &draft);
+    let mut case = accepted(rng, &draft, state, false, 6).case;
+    let words = if rng.chance(60) { &mut case.table } else { &mut case.state };
+    for _ in 0..1 + rng.below(3) {
+        let word = rng.below(words.len());
+        words[word] ^= 1 << rng.below(32);
+    }
+    Made { case, known: Known::default() }
+}
+
+/// Words drawn at random, at times behind a header that fits their number.
+fn raw(rng: &mut Prng) -> Made {
+    let mut table: Vec<u32> = (0..rng.below(60)).map(|_| rng.word()).collect();
+    if rng.chance(50) {
+        table.resize(HEADER + 6, 0);
+        table[..HEADER].copy_from_slice(&[0x0101_0000, 0x0001_0001, 0x0001_0002]);
+    }
+    let state: Vec<u32> = (0..rng.below(4)).map(|_| rng.word()).collect();
+    let events: Vec<u32> = (0..3).map(|_| rng.word()).collect();
+    Made { case: Case { table, state, room: rng.below(9), events }, known: Known::default() }
+}

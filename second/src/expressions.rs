@@ -1,0 +1,52 @@
+//! Expressions: what they mention, what they give, and nesting in general.
+
+use crate::state::State;
+use crate::words::{Expression, LEVELS, Table, expression};
+
+/// The depth of each thing, given what each names: 1 plus the deepest it
+/// names; None where that is above seven or without end. Found level by level,
+/// for the paths may be too many to walk.
+pub fn depths(names: &[Vec<usize>]) -> Vec<Option<u32>> {
+    let mut depth = vec![None; names.len()];
+    for level in 1..=LEVELS {
+        let stands = |&thing: &usize| {
+            depth[thing].is_none() && names[thing].iter().all(|&named| depth[named].is_some())
+        };
+        let found: Vec<usize> = (0..names.len()).filter(stands).collect();
+        for thing in found {
+            depth[thing] = Some(level);
+        }
+    }
+    depth
+}
+
+/// Whether an expression mentions a port for which `wanted` holds. This is
+/// static: no part is passed over because another decides the value.
+pub fn mentions(table: &Table, number: usize, wanted: &dyn Fn(usize) -> bool) -> bool {
+    match table.expression(number) {
+        Expression::Condition(condition) => wanted(condition.port as usize),
+        operator => operator.arguments().any(|argument| mentions(table, argument, wanted)),
+    }
+}
+
+pub fn evaluate(table: &Table, state: &State, number: usize) -> bool {
+    let argument = |number: u32| evaluate(table, state, number as usize);
+    match table.expression(number) {
+        Expression::Condition(condition) => {
+            let value = state.port(condition.port as usize).value;
+            match condition.kind {
+                expression::EQUAL => value == condition.value,
+                expression::NOT_EQUAL => value != condition.value,
+                expression::SET => value == 1,
+                _ => value == 0,
+            }
+        }
+        Expression::Operator(operator) => match operator.kind {
+            expression::AND => argument(operator.left) && argument(operator.right),
+            expression::OR => argument(operator.left) || argument(operator.right),
+            expression::XOR => argument(operator.left) != argument(operator.right),
+            expression::NAND => !(argument(operator.left) && argument(operator.right)),
+            _ => !argument(operator.left),
+        },
+    }
+}

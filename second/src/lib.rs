@@ -1,0 +1,28 @@
+//! The second program of Herringcart: document 01's rules written again, from
+//! the document and its readings alone, as the judge of the first.
+
+// The rules, in the document's order.
+pub mod words;
+
+pub mod expressions;
+
+pub mod check;
+
+pub mod state;
+
+pub mod lists;
+
+pub mod events;
+
+pub mod step;
+
+pub mod program;
+
+// What the rules are tried with.
+pub mod cases;
+pub mod stream;
+pub mod testing;
+
+pub use check::{Check, check};
+pub use state::{check_state, fresh};
+pub use step::{Outcome, step};

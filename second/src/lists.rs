@@ -1,0 +1,114 @@
+//! Arbitration, and running lists.
+
+use std::cmp::Reverse;
+
+use crate::expressions::{evaluate, mentions};
+use crate::state::State;
+use crate::words::*;
+
+/// A run would start a list at an eighth level.
+#[derive(Debug)]
+pub struct EighthLevel;
+
+/// An event being taken: the state as it changes and the trace as it grows.
+pub struct Run<'a> {
+    pub table: &'a Table<'a>,
+    pub state: State<'a>,
+    pub trace: Vec<u32>,
+}
+
+impl Run<'_> {
+    pub fn arbitrate(&mut self, arbitrated: &[usize]) -> Result<(), EighthLevel> {
+        for &number in arbitrated {
+            let port = self.state.port(number);
+            self.state.set_port(number, PortState { marked: 0, ..port });
+        }
+        // Every rule is evaluated before any list runs.
+        let mut chosen: Vec<usize> = vec![];
+        for number in 0..self.table.count(Section::Rules) {
+            let rule = self.table.rule(number);
+            let concerned = rule.nested_only == 0
+                && mentions(self.table, rule.expression as usize, &|p| arbitrated.contains(&p));
+            if concerned && let Some(result) = self.result(rule) {
+                chosen.extend(self.store(number, result));
+            }
+        }
+        chosen.sort_by_key(|&list| (Reverse(self.table.list(list).priority), list));
+        chosen.dedup();
+        chosen.into_iter().try_for_each(|list| self.run_list(list, LEVELS))
+    }
+
+    /// What a rule gives by the current values; None where it mentions an undefined port.
+    fn result(&self, rule: Rule) -> Option<bool> {
+        let expression = rule.expression as usize;
+        let undefined = |port: usize| self.state.port(port).defined == 0;
+        let stands = !mentions(self.table, expression, &undefined);
+        stands.then(|| evaluate(self.table, &self.state, expression))
+    }
+
+    /// Stores a rule's result and gives the list it starts: the one for that
+    /// result, if it is conditional or the result is not the previous one.
+    fn store(&mut self, number: usize, result: bool) -> Option<usize> {
+        let previous = self.state.rule(number).last;
+        let last = result as u32;
+        self.state.set_rule(number, RuleState { last, zero: 0 });
+        let list = self.table.rule(number).list_for(result)?;
+        let starts = self.table.list(list).triggered == 0 || previous != last;
+        starts.then_some(list)
+    }
+
+    fn run_list(&mut self, number: usize, levels_left: u32) -> Result<(), EighthLevel> {
+        if levels_left == 0 {
+            return Err(EighthLevel);
+        }
+        let list = self.table.list(number);
+        self.write(LIST_START, list.owner, number as u32, 0);
+        for item in list.items() {
+            self.run_item(self.table.item(item), list.owner, levels_left)?;
+        }
+        Ok(())
+    }
+
+    fn run_item(&mut self, item: Item, owner: u32, levels_left: u32) -> Result<(), EighthLevel> {
+        let named = item.a as usize;
+        match item.kind {
+            item::LIST => return self.run_list(named, levels_left - 1),
+            item::RULE => return self.run_rule(named, owner, levels_left),
+            item::CLEAR_EVENT => {
+                let port = self.state.port(named);
+                self.state.set_port(named, PortState { value: 0, ..port });
+            }
+            item::START_TIMER => {
+                self.turn_timer(named, timer::STARTED, self.table.port(named).reload)
+            }
+            item::STOP_TIMER => self.turn_timer(named, timer::STOPPED, 0),
+            item::NETWORK_REQUEST => {
+                let network = self.state.network(named);
+                self.state.set_network(named, NetworkState { asked: item.b, ..network });
+            }
+            _ => {}
+        }
+        self.write(item.kind, owner, item.a, item.b);
+        Ok(())
+    }
+
+    fn run_rule(&mut self, number: usize, owner: u32, levels: u32) -> Result<(), EighthLevel> {
+        let result = self.result(self.table.rule(number));
+        let shown = result.map_or(UNDEFINED, |result| result as u32);
+        self.write(item::RULE, owner, number as u32, shown);
+        match result.and_then(|result| self.store(number, result)) {
+            Some(list) => self.run_list(list, levels - 1),
+            None => Ok(()),
+        }
+    }
+
+    /// A timer is marked whenever it is started, stopped or expires.
+    pub fn turn_timer(&mut self, number: usize, value: u32, remaining: u32) {
+        let turned = PortState { defined: 1, marked: 1, value, zero: 0, remaining };
+        self.state.set_port(number, turned);
+    }
+
+    fn write(&mut self, kind: u32, owner: u32, a: u32, b: u32) {
+        self.trace.push(TraceWord { kind, owner, a, b }.word());
+    }
+}

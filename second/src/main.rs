@@ -1,0 +1,53 @@
+//! `run TABLE EVENTS`, `test`, `emit SEED COUNT` and `answer`.
+
+use std::io::{self, BufWriter, Write};
+use std::process::ExitCode;
+
+use second::cases::Cases;
+use second::{program, stream, testing};
+
+const USAGE: &str = "usage: second run TABLE EVENTS | test | emit SEED COUNT | answer < CASES";
+
+fn main() -> ExitCode {
+    let args: Vec<String> = std::env::args().skip(1).collect();
+    let args: Vec<&str> = args.iter().map(String::as_str).collect();
+    let done = match args[..] {
+        ["run", table, events] => program::run(table, events).and_then(|text| put(text.as_bytes())),
+        ["test"] if testing::test() => Ok(()),
+        ["test"] => return ExitCode::FAILURE,
+        ["emit", seed, count] => emit(seed, count),
+        ["answer"] => answer().map_err(|why| format!("cannot answer: {why}")),
+        _ => Err(USAGE.into()),
+    };
+    match done {
+        Ok(()) => ExitCode::SUCCESS,
+        Err(message) => {
+            eprintln!("{message}");
+            ExitCode::from(2)
+        }
+    }
+}
+
+fn put(bytes: &[u8]) -> Result<(), String> {
+    io::stdout().lock().write_all(bytes).map_err(|why| format!("cannot print: {why}"))
+}
+
+fn emit(seed: &str, count: &str) -> Result<(), String> {
+    let seed: u64 = seed.parse().map_err(|_| format!("not a seed: {seed}"))?;
+    let count: usize = count.parse().map_err(|_| format!("not a count: {count}"))?;
+    let mut out = BufWriter::new(io::stdout().lock());
+    Cases::new(seed)
+        .take(count)
+        .try_for_each(|made| stream::write_words(&mut out, &stream::case_words(&made.case)))
+        .and_then(|()| out.flush())
+        .map_err(|why| format!("cannot emit: {why}"))
+}
+
+fn answer() -> io::Result<()> {
+    let mut input = io::BufReader::new(io::stdin().lock());
+    let mut out = BufWriter::new(io::stdout().lock());
+    while let Some(case) = stream::read_case(&mut input)? {
+        stream::write_words(&mut out, &stream::result_words(&case))?;
+    }
+    out.flush()
+}

@@ -1,0 +1,191 @@
+//! What the cases met. A row that no case met is a failure.
+
+use std::collections::{BTreeMap, BTreeSet};
+use std::fmt;
+
+use crate::cases::refused::{COST_4097, DEPTH_8_EXPRESSION, DEPTH_8_LIST, RING};
+use crate::cases::states::{MISFITS, Misfit};
+use crate::words::*;
+
+#[derive(Clone, Copy, PartialEq, Eq, PartialOrd, Ord, Debug)]
+pub enum Row {
+    Reason(u32),
+    Answer(u32),
+    EventTaken(u32),
+    ItemRun(u32),
+    Evaluated(u32),
+    NetworkTurn(u32, u32),
+    BusOffIgnored(u32),
+    SourceTurn(u32, u32),
+    Unfit(usize),
+    Limit(usize),
+    Special(&'static str),
+}
+
+pub const TWO_CHOSEN: &str = "two or more lists chosen at once";
+pub const CHOSEN_AND_NAMED: &str = "a list both chosen and named";
+pub const DEPTH_7_EXPRESSION: &str = "expression depth 7 accepted";
+pub const DEPTH_7_LIST: &str = "list depth 7 accepted";
+pub const COST_4096: &str = "cost 4096 accepted";
+pub const TRACE_FULL: &str = "trace filled to B";
+pub const PLATFORM_ASKS: &str = "platform list asks an operator's network";
+pub const UNDEFINED_ITEM: &str = "rule item with an undefined port";
+pub const COUNTER_HELD: &str = "counter held at 255";
+pub const L1_LOADED: &str = "L1 loaded";
+pub const L2_LOADED: &str = "L2 loaded";
+pub const TIMER_STARTED: &str = "timer started";
+pub const TIMER_STOPPED: &str = "timer stopped";
+pub const TIMER_EXPIRED: &str = "timer expired";
+pub const NETWORK_SHOWN: &str = "countdown checked: network shows full";
+pub const NETWORK_SETTLED: &str = "countdown checked: network settled";
+pub const SOURCE_EXPIRED: &str = "countdown checked: source expires";
+pub const SOURCE_ENDED: &str = "countdown ended by its own operator";
+pub const STRUCK_OUT: &str = "strangers' taken events struck out";
+
+const SPECIAL: [&str; 23] = [
+    TWO_CHOSEN,
+    CHOSEN_AND_NAMED,
+    DEPTH_7_EXPRESSION,
+    DEPTH_7_LIST,
+    DEPTH_8_EXPRESSION,
+    DEPTH_8_LIST,
+    RING,
+    COST_4096,
+    COST_4097,
+    TRACE_FULL,
+    PLATFORM_ASKS,
+    UNDEFINED_ITEM,
+    COUNTER_HELD,
+    L1_LOADED,
+    L2_LOADED,
+    TIMER_STARTED,
+    TIMER_STOPPED,
+    TIMER_EXPIRED,
+    NETWORK_SHOWN,
+    NETWORK_SETTLED,
+    SOURCE_EXPIRED,
+    SOURCE_ENDED,
+    STRUCK_OUT,
+];
+
+/// Every way a network can go; any other is a failure of the rules.
+const NETWORK_TURNS: [(u32, u32); 13] = {
+    use network::*;
+    [
+        (NONE, CHECK),
+        (SILENT, NONE),
+        (SILENT, CHECK),
+        (CHECK, NONE),
+        (CHECK, SILENT),
+        (CHECK, FULL),
+        (CHECK, RECOVER),
+        (FULL, NONE),
+        (FULL, SILENT),
+        (FULL, RECOVER),
+        (RECOVER, NONE),
+        (RECOVER, SILENT),
+        (RECOVER, CHECK),
+    ]
+};
+
+const SOURCE_TURNS: [(u32, u32); 9] = {
+    use source::*;
+    [
+        (NONE, PENDING),
+        (NONE, VALIDATED),
+        (PENDING, NONE),
+        (PENDING, VALIDATED),
+        (PENDING, EXPIRED),
+        (VALIDATED, NONE),
+        (EXPIRED, NONE),
+        (EXPIRED, PENDING),
+        (EXPIRED, VALIDATED),
+    ]
+};
+
+const EVENTS: [&str; 7] =
+    ["tick", "mode request", "event request", "wakeup", "wakeup valid", "bus-off", "wakeup clear"];
+const ITEMS: [&str; 7] =
+    ["outside call", "clear event", "start timer", "stop timer", "network request", "list", "rule"];
+const EXPRESSIONS: [&str; 9] =
+    ["equal", "not equal", "set", "cleared", "AND", "OR", "XOR", "NAND", "NOT"];
+const NETWORK_STATES: [&str; 5] = ["none", "silent", "check", "full", "recover"];
+const STATUSES: [&str; 4] = ["none", "pending", "validated", "expired"];
+
+impl Row {
+    pub fn unfit(misfit: Misfit) -> Row {
+        Row::Unfit(misfit as usize)
+    }
+
+    pub fn limit(section: Section) -> Row {
+        Row::Limit(section as usize)
+    }
+}
+
+impl fmt::Display for Row {
+    fn fmt(&self, f: &mut fmt::Formatter) -> fmt::Result {
+        let turn = |names: &[&str], from: u32, to: u32| {
+            format!("{} to {}", names[from as usize], names[to as usize])
+        };
+        let text = match *self {
+            Row::Reason(reason) => format!("reason {reason}"),
+            Row::Answer(answer) => format!("answer {answer}"),
+            Row::EventTaken(kind) => format!("event taken: {}", EVENTS[kind as usize]),
+            Row::ItemRun(kind) => format!("item run: {}", ITEMS[kind as usize]),
+            Row::Evaluated(kind) => format!("evaluated: {}", EXPRESSIONS[kind as usize]),
+            Row::NetworkTurn(from, to) => format!("network: {}", turn(&NETWORK_STATES, from, to)),
+            Row::BusOffIgnored(state) => {
+                format!("bus-off ignored in {}", NETWORK_STATES[state as usize])
+            }
+            Row::SourceTurn(from, to) => format!("source: {}", turn(&STATUSES, from, to)),
+            Row::Unfit(misfit) => format!("state unfit: {:?}", MISFITS[misfit]),
+            Row::Limit(section) => {
+                let section = SECTIONS[section];
+                format!("limit reached: {section:?} {}", section.limits().1)
+            }
+            Row::Special(what) => what.to_string(),
+        };
+        f.write_str(&text)
+    }
+}
+
+/// How many cases met each row.
+pub struct Coverage(BTreeMap<Row, usize>);
+
+impl Coverage {
+    /// Every row there must be, met by none yet.
+    pub fn new() -> Self {
+        let ignoring = [network::NONE, network::SILENT, network::RECOVER];
+        let rows = (0..=9)
+            .map(Row::Reason)
+            .chain((0..=6).map(Row::Answer))
+            .chain((0..=6).map(Row::EventTaken))
+            .chain((0..=6).map(Row::ItemRun))
+            .chain((0..=8).map(Row::Evaluated))
+            .chain(NETWORK_TURNS.map(|(from, to)| Row::NetworkTurn(from, to)))
+            .chain(ignoring.map(Row::BusOffIgnored))
+            .chain(SOURCE_TURNS.map(|(from, to)| Row::SourceTurn(from, to)))
+            .chain(MISFITS.map(Row::unfit))
+            .chain(SECTIONS.map(Row::limit))
+            .chain(SPECIAL.map(Row::Special));
+        Coverage(rows.map(|row| (row, 0)).collect())
+    }
+
+    /// Counts a case's rows; a row that cannot be is given back.
+    pub fn count(&mut self, met: &BTreeSet<Row>) -> Result<(), Row> {
+        for row in met {
+            *self.0.get_mut(row).ok_or(*row)? += 1;
+        }
+        Ok(())
+    }
+
+    pub fn missing(&self) -> Vec<Row> {
+        self.0.iter().filter(|&(_, &cases)| cases == 0).map(|(&row, _)| row).collect()
+    }
+}
+
+impl fmt::Display for Coverage {
+    fn fmt(&self, f: &mut fmt::Formatter) -> fmt::Result {
+        self.0.iter().try_for_each(|(row, cases)| writeln!(f, "{cases:>8}  {row}"))
+    }
+}

@@ -1,0 +1,102 @@
+//! The program, by what it prints, and once more as it is started.
+
+use std::process::{Command, Output};
+
+use super::marked::MARKED;
+use super::*;
+use crate::program::{printed, run};
+
+fn bytes(words: &[u32]) -> Vec<u8> {
+    words.iter().flat_map(|word| word.to_be_bytes()).collect()
+}
+
+const EIGHT_LINES: &str =
+    "0\n81400000\n00000000\n40000000\n80000000\nF1000000\n41000002\n01001234\n";
+const FRESH_LINES: &str = "00000000\n00000000\n00000000\n00000000\n";
+
+/// A file of these bytes for as long as the process lives.
+fn file(name: &str, bytes: &[u8]) -> String {
+    let name = format!("herringcart-second-{}-{name}", std::process::id());
+    let path = std::env::temp_dir().join(name);
+    std::fs::write(&path, bytes).expect("a file in the temporary folder");
+    path.to_string_lossy().into_owned()
+}
+
+/// Starts this very program as `run TABLE EVENTS`.
+fn start(table: &str, events: &str) -> Output {
+    let program = std::env::current_exe().expect("the program's own path");
+    Command::new(program).args(["run", table, events]).output().expect("the program starts")
+}
+
+fixed_cases! {
+    fn program_prints_the_marked_eight_lines() {
+        assert_eq!(printed(&bytes(&MARKED), &bytes(&[0x1100_0500])), EIGHT_LINES);
+    }
+
+    fn program_started_prints_the_same() {
+        let (table, events) =
+            (file("table", &bytes(&MARKED)), file("events", &bytes(&[0x1100_0500])));
+        let output = start(&table, &events);
+        std::fs::remove_file(table).and(std::fs::remove_file(events)).expect("the files go");
+        assert_eq!(String::from_utf8_lossy(&output.stdout), EIGHT_LINES);
+        assert!(output.status.success() && output.stderr.is_empty());
+    }
+
+    fn program_prints_capital_hex_and_passes_the_state_on() {
+        let events = bytes(&[0x1100_0500, 0, 0x5100_0000]);
+        let lines = printed(&bytes(&MARKED), &events);
+        let tick = "0\n81400000\n80800000\n40000000\n90000005\n";
+        let bus_off = "0\n81400000\nC0C00000\n40000000\nA0080003\n";
+        assert_eq!(lines, format!("{EIGHT_LINES}{tick}{bus_off}"));
+    }
+
+    fn program_prints_a_refused_events_answer_and_the_unchanged_state_and_goes_on() {
+        let events = bytes(&[0x1200_0500, 0x2100_0500, 0x2100_0000, 0]);
+        let lines = printed(&bytes(&MARKED), &events);
+        assert_eq!(
+            lines,
+            format!("6\n{FRESH_LINES}4\n{FRESH_LINES}5\n{FRESH_LINES}0\n{FRESH_LINES}")
+        );
+    }
+
+    fn program_without_events_prints_nothing() {
+        assert_eq!(printed(&bytes(&MARKED), &[]), "");
+        assert_eq!(printed(&bytes(&MARKED), &[0x11, 0, 5]), "");
+    }
+
+    fn program_ignores_bytes_past_the_last_whole_word() {
+        let table = [bytes(&MARKED), vec![1, 2, 3]].concat();
+        let events = [bytes(&[0x1100_0500]), vec![0xFF]].concat();
+        assert_eq!(printed(&table, &events), EIGHT_LINES);
+    }
+
+    fn program_prints_reason_and_place_and_ends() {
+        let events = bytes(&[0x1100_0500]);
+        assert_eq!(printed(&bytes(&with(&MARKED, 6, 0)), &events), "5\n6\n");
+        assert_eq!(printed(&bytes(&with(&MARKED, 11, 0xF000_0000)), &events), "5\n11\n");
+        assert_eq!(printed(&bytes(&MARKED)[..47], &events), "4\n0\n");
+        assert_eq!(printed(&[], &[]), "1\n0\n");
+    }
+
+    fn program_lends_b_and_so_never_prints_3() {
+        // B is 4,096, and all of it is written: 1 answer, 18 state words, the trace.
+        let lists = [list(0, 0, 255); 16];
+        let rules: Vec<u32> = (0..16).map(|number| rule(0, 0, number, NONE)).collect();
+        let table = plain(&[mode(0)], &[equal(0, 5)], &rules, &lists, &[call(0); 255]);
+        let lines = printed(&bytes(&table), &bytes(&[0x1000_0500]));
+        assert_eq!(lines.lines().next(), Some("0"));
+        assert_eq!(lines.lines().count(), 1 + 17 + 4096);
+    }
+
+    fn program_says_on_standard_error_what_it_cannot_read() {
+        let table = file("readable", &bytes(&MARKED[..11]));
+        let missing = format!("{table}-missing");
+        for (table, events) in [(&table, &missing), (&missing, &table)] {
+            assert!(run(table, events).unwrap_err().contains(&missing));
+            let output = start(table, events);
+            assert!(output.stdout.is_empty() && !output.status.success());
+            assert!(String::from_utf8_lossy(&output.stderr).contains(&missing));
+        }
+        std::fs::remove_file(table).expect("the file goes");
+    }
+}

@@ -1,0 +1,72 @@
+//! Everything that `test` runs.
+
+mod coverage;
+mod demand3;
+mod fixed;
+mod properties;
+mod traces;
+
+use std::panic::catch_unwind;
+
+use crate::cases::{Cases, Made};
+use coverage::Coverage;
+
+/// Each seed's first cases are run.
+const SEEDS: [u64; 4] = [1, 2026, 0xC0FFEE, 0x5EED_5EED_5EED_5EED];
+const CASES_EACH: usize = 4000;
+
+#[derive(Default)]
+struct Tally {
+    passed: usize,
+    failed: usize,
+}
+
+impl Tally {
+    fn note(&mut self, name: &str, outcome: Result<(), String>) {
+        match outcome {
+            Ok(()) => self.passed += 1,
+            Err(what) => {
+                self.failed += 1;
+                println!("FAILED {name}: {what}");
+            }
+        }
+    }
+}
+
+/// Runs all cases, prints what they met, and says whether all is well. The
+/// last line is the count.
+pub fn test() -> bool {
+    let mut tally = Tally::default();
+    // A panic is reported with its case's name, not on its own.
+    std::panic::set_hook(Box::new(|_| {}));
+    for &(name, case) in fixed::all().iter() {
+        tally.note(name, catch_unwind(case).map_err(|panic| panic_text(&*panic)));
+    }
+    let fixed = tally.passed + tally.failed;
+    let mut coverage = Coverage::new();
+    for seed in SEEDS {
+        for (number, made) in Cases::new(seed).take(CASES_EACH).enumerate() {
+            tally.note(&format!("case {number} of seed {seed}"), generated(&made, &mut coverage));
+        }
+    }
+    let generated = tally.passed + tally.failed - fixed;
+    println!("cases  coverage\n{coverage}");
+    for row in coverage.missing() {
+        tally.failed += 1;
+        println!("FAILED no case met: {row}");
+    }
+    println!("{fixed} fixed cases, {generated} generated cases");
+    println!("{} passed, {} failed", tally.passed, tally.failed);
+    tally.failed == 0
+}
+
+fn generated(made: &Made, coverage: &mut Coverage) -> Result<(), String> {
+    let tried = catch_unwind(|| properties::try_case(made));
+    let met = tried.map_err(|panic| panic_text(&*panic))??;
+    coverage.count(&met).map_err(|row| format!("met what cannot be: {row}"))
+}
+
+fn panic_text(panic: &(dyn std::any::Any + Send)) -> String {
+    let text = panic.downcast_ref::<String>().map(String::as_str);
+    text.or(panic.downcast_ref::<&str>().copied()).unwrap_or("panicked").to_string()
+}

@@ -1,0 +1,261 @@
+//! What must hold of every generated case, and what it met.
+
+use std::collections::BTreeSet;
+
+use super::coverage::{self, Row};
+use super::demand3;
+use super::traces::{self, items_run, started};
+use crate::cases::draft::{Depth, Draft, SEVEN};
+use crate::cases::states::fresh_state;
+use crate::cases::{Case, Made};
+use crate::stream::{STATE_FILL, TRACE_FILL};
+use crate::words::*;
+use crate::{check, check_state, fresh, state, step};
+
+pub type Met = BTreeSet<Row>;
+
+/// One event with the state before and after it.
+pub struct Entry {
+    pub event: Event,
+    pub answer: u32,
+    pub before: Vec<u32>,
+    pub after: Vec<u32>,
+    /// The trace words that the count covers.
+    pub trace: Vec<u32>,
+}
+
+impl Entry {
+    pub fn is_tick(&self) -> bool {
+        self.event.kind == event::TICK
+    }
+}
+
+/// Fails with what went wrong unless it holds.
+pub fn hold(holds: bool, what: impl FnOnce() -> String) -> Result<(), String> {
+    if holds { Ok(()) } else { Err(what()) }
+}
+
+/// Tries everything on one case; gives what it met.
+pub fn try_case(made: &Made) -> Result<Met, String> {
+    let (case, known) = (&made.case, &made.known);
+    let mut met: Met = known.note.map(Row::Special).into_iter().collect();
+    let checked = check(&case.table);
+    met.insert(Row::Reason(checked.reason));
+    let given = (checked.reason, checked.place);
+    hold(known.check.is_none_or(|check| check == given), || {
+        format!("check gives {checked:?}, made as {:?}", known.check)
+    })?;
+    hold(known.b.is_none_or(|b| b == checked.b), || format!("B {}", checked.b))?;
+    try_fresh(case, checked.reason)?;
+    let fit = check_state(&case.table, &case.state);
+    let expected = if known.fit { Some(0) } else { known.misfit.map(|_| 2) };
+    hold(expected.is_none_or(|expected| expected == fit), || {
+        format!("state answered {fit}, made as {:?}", known.misfit)
+    })?;
+    met.extend(known.misfit.map(Row::unfit));
+    let log = run(case);
+    for (number, entry) in log.iter().enumerate() {
+        let expected = known.answers.as_ref().map(|answers| answers[number]);
+        hold(expected.is_none_or(|expected| expected == entry.answer), || {
+            format!("event {number} answered {}, made for {expected:?}", entry.answer)
+        })?;
+        met.insert(Row::Answer(entry.answer));
+    }
+    if checked.reason == 0 {
+        let draft = read(&case.table);
+        try_table(&draft, checked.b, &mut met)?;
+        try_log(case, &draft, &log, checked.b, &mut met)?;
+        if known.fresh && case.room >= checked.b {
+            demand3::try_countdowns(&draft, &log, &mut met)?;
+            demand3::try_struck_out(case, &draft, &log, &mut met)?;
+        }
+    }
+    Ok(met)
+}
+
+fn read(words: &[u32]) -> Draft {
+    Draft::of(&Table::of(words).expect("an accepted table has its header"))
+}
+
+/// Every event in turn, the state passed on.
+pub fn run(case: &Case) -> Vec<Entry> {
+    let mut state = case.state.clone();
+    let one = |&event: &u32| {
+        let (before, mut trace) = (state.clone(), vec![TRACE_FILL; case.room]);
+        let outcome = step(&case.table, &mut state, &mut trace, event);
+        // A count past the room would show as a short trace and fail below.
+        let written = outcome.count.min(case.room);
+        let untouched = trace[written..].iter().all(|&word| word == TRACE_FILL);
+        let answer = if untouched { outcome.answer } else { u32::MAX };
+        trace.truncate(written);
+        Entry { event: Event::of(event), answer, before, after: state.clone(), trace }
+    };
+    case.events.iter().map(one).collect()
+}
+
+fn try_fresh(case: &Case, reason: u32) -> Result<(), String> {
+    let filled = vec![STATE_FILL; case.state.len()];
+    let mut made = filled.clone();
+    let answer = fresh(&case.table, &mut made);
+    let (expected, words) = match Table::of(&case.table) {
+        Some(table) if reason == 0 && state::state_length(&table) == made.len() => {
+            (0, fresh_state(&Draft::of(&table)))
+        }
+        _ => (if reason == 0 { 2 } else { 1 }, filled),
+    };
+    hold((answer, &made) == (expected, &words), || format!("fresh answered {answer}: {made:X?}"))
+}
+
+/// The walk's depths and cost agree with the check's; the limits it reaches.
+fn try_table(draft: &Draft, b: usize, met: &mut Met) -> Result<(), String> {
+    let (expressions, lists) = draft.depths();
+    for (depths, row) in
+        [(&expressions, coverage::DEPTH_7_EXPRESSION), (&lists, coverage::DEPTH_7_LIST)]
+    {
+        let deepest = depths.iter().max().copied().unwrap_or(Depth::Levels(0));
+        hold(deepest <= Depth::Levels(SEVEN), || format!("accepted though {deepest:?}"))?;
+        if deepest == Depth::Levels(SEVEN) {
+            met.insert(Row::Special(row));
+        }
+    }
+    hold(draft.b() == b, || format!("B is {b}, walked {}", draft.b()))?;
+    if b == 4096 {
+        met.insert(Row::Special(coverage::COST_4096));
+    }
+    let words = draft.words();
+    let table = Table::of(&words).ok_or("no header")?;
+    let full = |section: &Section| table.count(*section) == section.limits().1;
+    met.extend(SECTIONS.into_iter().filter(full).map(Row::limit));
+    Ok(())
+}
+
+fn try_log(
+    case: &Case,
+    draft: &Draft,
+    log: &[Entry],
+    b: usize,
+    met: &mut Met,
+) -> Result<(), String> {
+    for (number, entry) in log.iter().enumerate() {
+        hold(entry.answer <= 6, || format!("event {number} answered {}", entry.answer))?;
+        if entry.answer != 0 {
+            let unchanged = entry.before == entry.after && entry.trace.is_empty();
+            hold(unchanged, || format!("refused event {number} changed something"))?;
+            continue;
+        }
+        hold(entry.trace.len() <= b, || format!("event {number} wrote past B"))?;
+        hold(check_state(&case.table, &entry.after) == 0, || {
+            format!("event {number} left a state that does not fit: {:X?}", entry.after)
+        })?;
+        traces::try_trace(draft, entry).map_err(|what| format!("event {number}: {what}"))?;
+        meet(draft, entry, b, met);
+    }
+    Ok(())
+}
+
+/// What a taken event met, read off its words.
+fn meet(draft: &Draft, entry: &Entry, b: usize, met: &mut Met) {
+    met.insert(Row::EventTaken(entry.event.kind));
+    if b == 4096 && entry.trace.len() == b {
+        met.insert(Row::Special(coverage::TRACE_FULL));
+    }
+    meet_lists(draft, entry, met);
+    for word in entry.trace.iter().map(|&word| TraceWord::of(word)) {
+        let owner = |network: u32| draft.networks[network as usize].0.owner;
+        let special = match (word.kind, word.b) {
+            (item::START_TIMER, _) => coverage::TIMER_STARTED,
+            (item::STOP_TIMER, _) => coverage::TIMER_STOPPED,
+            (item::RULE, UNDEFINED) => coverage::UNDEFINED_ITEM,
+            (item::NETWORK_REQUEST, _) if word.owner == PLATFORM && owner(word.a) != PLATFORM => {
+                coverage::PLATFORM_ASKS
+            }
+            _ => continue,
+        };
+        met.insert(Row::Special(special));
+    }
+    meet_evaluated(draft, entry, met);
+    meet_turns(draft, entry, met);
+}
+
+fn meet_lists(draft: &Draft, entry: &Entry, met: &mut Met) {
+    let (starts, run) = (started(entry), items_run(draft, entry));
+    met.extend(run.iter().map(|item| Row::ItemRun(item.kind)));
+    // Without rule items, what was not named was chosen.
+    if run.iter().any(|item| item.kind == item::RULE) {
+        return;
+    }
+    let named: Vec<usize> =
+        run.iter().filter(|i| i.kind == item::LIST).map(|i| i.a as usize).collect();
+    if starts.len() >= named.len() + 2 {
+        met.insert(Row::Special(coverage::TWO_CHOSEN));
+    }
+    let times = |lists: &[usize], list: usize| lists.iter().filter(|&&l| l == list).count();
+    if named.iter().any(|&list| times(&starts, list) > times(&named, list)) {
+        met.insert(Row::Special(coverage::CHOSEN_AND_NAMED));
+    }
+}
+
+/// A rule was certainly evaluated if its stored result changed or a rule item says so.
+fn meet_evaluated(draft: &Draft, entry: &Entry, met: &mut Met) {
+    let first = draft.ports.len();
+    let changed = |&rule: &usize| entry.before[first + rule] != entry.after[first + rule];
+    let words = entry.trace.iter().map(|&word| TraceWord::of(word));
+    let by_item = words.filter(|word| word.kind == item::RULE && word.b != UNDEFINED);
+    let rules = (0..draft.rules.len()).filter(changed).chain(by_item.map(|w| w.a as usize));
+    for rule in rules {
+        meet_expression(draft, draft.rules[rule].expression as usize, met);
+    }
+}
+
+fn meet_expression(draft: &Draft, number: usize, met: &mut Met) {
+    let expression = draft.expressions[number];
+    met.insert(Row::Evaluated(Condition::of(expression.word()).kind));
+    expression.arguments().for_each(|argument| meet_expression(draft, argument, met));
+}
+
+fn meet_turns(draft: &Draft, entry: &Entry, met: &mut Met) {
+    for (number, port) in draft.ports.iter().enumerate() {
+        let value = |words: &[u32]| PortState::of(words[number]).value;
+        let (before, after) = (value(&entry.before), value(&entry.after));
+        if port.kind == port::TIMER && (before, after) == (timer::STARTED, timer::EXPIRED) {
+            met.insert(Row::Special(coverage::TIMER_EXPIRED));
+        }
+    }
+    for number in 0..draft.networks.len() {
+        let (before, after) =
+            (draft.network_in(&entry.before, number), draft.network_in(&entry.after, number));
+        if before.state != after.state {
+            met.insert(Row::NetworkTurn(before.state, after.state));
+        }
+        if entry.event.kind == event::BUS_OFF && entry.event.index as usize == number {
+            meet_bus_off(draft.networks[number], before, after, met);
+        }
+    }
+    for number in 0..draft.sources.len() {
+        let (before, after) =
+            (draft.source_in(&entry.before, number), draft.source_in(&entry.after, number));
+        if before.status != after.status {
+            met.insert(Row::SourceTurn(before.status, after.status));
+        }
+    }
+}
+
+fn meet_bus_off(
+    (network, waits): (Network, Waits),
+    before: NetworkState,
+    after: NetworkState,
+    met: &mut Met,
+) {
+    if before.state == after.state {
+        met.insert(Row::BusOffIgnored(before.state));
+        return;
+    }
+    if (before.counter, after.counter) == (255, 255) {
+        met.insert(Row::Special(coverage::COUNTER_HELD));
+    }
+    if waits.l1 != waits.l2 {
+        let short = after.counter <= network.threshold && after.remaining == waits.l1;
+        let loaded = if short { coverage::L1_LOADED } else { coverage::L2_LOADED };
+        met.insert(Row::Special(loaded));
+    }
+}
