@@ -1,0 +1,3 @@
+-- What the contracts of the words cite beside the rulebook.
+pub mod Field
+pub mod Sections

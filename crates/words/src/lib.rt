@@ -1,0 +1,34 @@
+// Words: the fields of one, and reading and writing of lent words that never fails.
+ghost use mathlib.Core.Path.{_≡_};
+ghost use Prim.Native.Nat.{_<_};
+ghost use lib.ListN.{set};
+ghost use Rattle.rulebook.specs.Words.{digit, word as wordOf};
+ghost use Rattle.words.specs.Field.{Field};
+
+pub mod sections;
+pub mod state;
+pub mod table;
+
+// `digit` of the rulebook: how many whole units w has, beyond whole multiples of `size` of them.
+fn field(w: u32, unit: u32, size: u32) -> u32
+    requires { ⌜ (0 < unit) × (0 < size) ⌝ }
+    ensures { λ r. ⌜ Field (digit unit size w) size r ⌝ }
+{
+    w / unit % size
+}
+
+// The word at an index; past the end it reads as 0.
+pub fn word(ws: &[u32], i: usize) -> u32
+    ensures { λ r. ⌜ r ≡ wordOf (now (ws .entry)) i ⌝ }
+{
+    if i < ws.len() { ws[i] } else { 0 }
+}
+
+// Writes a word; past the end nothing is written.
+pub fn put(ws: &mut [u32], i: usize, w: u32)
+    ensures { λ _. ⌜ now (ws .exit) ≡ set (now (ws .entry)) i w ⌝ }
+{
+    if i < ws.len() {
+        ws[i] = w;
+    }
+}
