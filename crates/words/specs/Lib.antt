@@ -1,3 +1,4 @@
 -- What the contracts of the words cite beside the rulebook.
 pub mod Field
 pub mod Sections
+pub mod Flags

@@ -4,6 +4,7 @@ ghost use Prim.Native.Nat.{_<_};
 ghost use lib.ListN.{set};
 ghost use Rattle.rulebook.specs.Words.{digit, word as wordOf};
 ghost use Rattle.words.specs.Field.{Field};
+ghost use Rattle.words.specs.Flags.{flagged};
 
 pub mod sections;
 pub mod state;
@@ -31,4 +32,12 @@ pub fn put(ws: &mut [u32], i: usize, w: u32)
     if i < ws.len() {
         ws[i] = w;
     }
+}
+
+// Whether a number's flag is up in lent flags, a word each; past the end none is.
+pub fn flag(flags: &[u32], i: u32) -> bool
+    ensures { λ r. ⌜ r ≡ flagged (now (flags .entry)) i ⌝ }
+{
+    let w = word(flags, i as usize);
+    w != 0
 }
