@@ -4,7 +4,6 @@ ghost use mathlib.Core.Path.{_≡_};
 ghost use Rattle.rulebook.specs.Expressions.{expressionWithin, mentions as mentionsOf};
 ghost use Rattle.words.specs.Flags.{flagged};
 ghost use Rattle.words.specs.Sections.{Laid};
-
 use words::flag;
 use words::sections::Layout;
 use words::sections::expression_word;
