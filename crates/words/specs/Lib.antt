@@ -2,3 +2,4 @@
 pub mod Field
 pub mod Sections
 pub mod Flags
+pub mod Parts
