@@ -1,12 +1,18 @@
 -- Laws of the rulebook's walks, in the form of a loop that counts i up to e. Assumes nothing.
 use Prim.Native.Nat.{ℕ, zero, suc, _+_, _-_, _<_, _≤_}
-use mathlib.Core.Path.{_≡_, refl, ap, fun-ext}
+use mathlib.Core.Path.{_≡_, refl, sym, ap, ap₂, fun-ext, _∙_}
+use native.Mathlib.Nat.{zero-add, add-zero, suc-add}
 use mathlib.Core.Bool.{Bool, true, false}
 use mathlib.Core.List.{List}
 use native.Mathlib.Numerals.{add-one}
 use native.Mathlib.Omega.{arith}
 use lib.ListN.{length, getD}
 use Rattle.rulebook.specs.Words.{first, all, any, sum, listed, each}
+
+-- a test holds or it fails
+pub split : {A : Type 0} (b : Bool) → (b ≡ true → A) → (b ≡ false → A) → A
+split true f g = f refl
+split false f g = g refl
 
 -- what is left before a turn and after it, and at the end
 left-more : (i e : ℕ) → i < e → e - i ≡ suc (e - (i + 1))
@@ -79,6 +85,41 @@ module _ {A : Type 0} (i e : ℕ) (f : ℕ → A → A) (a : A) where
   pub each-end : e ≤ i → each i (e - i) f a ≡ a
   unfolding each
   each-end h = rw (left-none i e h)
+
+-- A range may be written in another way.
+pub same-first : {i j m n : ℕ} (p : ℕ → Bool) → i ≡ j → m ≡ n → first i m p ≡ first j n p
+same-first p a b = ap₂ (λ (x y : ℕ). first x y p) a b
+
+-- Two ranges one after the other: the first number in the first range, or else in the second.
+
+pub first-before : (i m n : ℕ) (p : ℕ → Bool) → first i m p < i + m → first i (m + n) p ≡ first i m p
+unfolding first
+first-before i zero n p h = absurd (omega arith)
+first-before i (suc m) n p h =
+    rw (suc-add m n)
+    (split (p i) (λ e. first-step i (m + n) p true e ∙ sym (first-step i m p true e))
+    (λ e.
+    first-step i (m + n) p false e
+    ∙ first-before (suc i) m n p (omega (arith, rw (first-step i m p false e) at h))
+    ∙ sym (first-step i m p false e)))
+
+pub first-after : (i m n : ℕ) (p : ℕ → Bool) → i + m ≤ first i m p → first i (m + n) p ≡ first (i + m) n p
+unfolding first
+first-after i zero n p h = rw (zero-add, add-zero)
+first-after i (suc m) n p h =
+    rw (suc-add m n)
+    (split (p i) (λ e. absurd (omega (arith, rw (first-step i m p true e) at h)))
+    (λ e.
+    first-step i (m + n) p false e
+    ∙ first-after (suc i) m n p (omega (arith, rw (first-step i m p false e) at h))
+    ∙ same-first {i = suc i + m} {j = i + suc m} {m = n} {n = n} p (omega arith) refl))
+
+-- a range in which p holds nowhere
+pub first-none : (i n : ℕ) (p : ℕ → Bool) → ((k : ℕ) → i ≤ k → p k ≡ false) → first i n p ≡ i + n
+unfolding first
+first-none i zero p h = omega arith
+first-none i (suc n) p h =
+    first-step i n p false (h i (omega arith)) ∙ first-none (suc i) n p (λ k g. h k (omega arith)) ∙ omega arith
 
 -- A list of the n values from i on, by its elements.
 

@@ -1,10 +1,12 @@
 -- Which part stands at a place, by the places of the sections in a layout. Assumes nothing.
 use Prim.Native.Nat.{ℕ, _-_, _/_, _%_, _<_, _≤_}
 use mathlib.Core.Path.{_≡_}
+use mathlib.Core.Bool.{Bool, true, false, cond}
 use mathlib.Core.List.{List}
 use native.Mathlib.Omega.{arith}
+use lib.Dec.{ltb, eqb}
 use borrow.Author.Tests.{lt-ltb, le-ltb, eq-eqb, ne-eqb}
-use Rattle.rulebook.specs.Table.{networksFrom, sourcesFrom, expressionsFrom, rulesFrom, listsFrom, itemsFrom}
+use Rattle.rulebook.specs.Table.{Part, portsFrom, networksFrom, sourcesFrom, expressionsFrom, rulesFrom, listsFrom, itemsFrom}
 use Rattle.rulebook.specs.Table.{inHeader, atPort, atNetwork, atWaits, atSource, atExpression, atRule, atList, atItem, part}
 use Rattle.words.specs.declared.sections.Layout.{Layout}
 use Rattle.words.specs.Sections.{Laid}
@@ -90,3 +92,23 @@ module _ (t : List ℕ) (h : Layout) (laid : Laid t h) (i : ℕ) where
         le-ltb i (listsFrom t) (omega arith),
         le-ltb i (itemsFrom t) (omega arith),
       ))
+
+-- no list stands before the lists
+
+other : (l : ℕ) (b : Bool) (x y : Part) → (x ≡ atList l → ⊥) → (y ≡ atList l → ⊥) → cond b x y ≡ atList l → ⊥
+other l true x y hx hy = hx
+other l false x y hx hy = hy
+
+told : _≡_ {A = ℕ} 0 1 → ⊥
+told e = omega arith
+
+pub before-lists : (t : List ℕ) (h : Layout) → Laid t h → (i l : ℕ) → i < h .list0 → part t i ≡ atList l → ⊥
+unfolding part
+before-lists t h laid i l b =
+    simp (lt-ltb i (listsFrom t) (omega arith))
+    (other l (ltb i portsFrom) _ _ (λ e. told (cc))
+    (other l (ltb i (networksFrom t)) _ _ (λ e. told (cc))
+    (other l (ltb i (sourcesFrom t)) _ _
+    (other l (eqb ((i - networksFrom t) % 2) 0) _ _ (λ e. told (cc)) (λ e. told (cc)))
+    (other l (ltb i (expressionsFrom t)) _ _ (λ e. told (cc))
+    (other l (ltb i (rulesFrom t)) _ _ (λ e. told (cc)) (λ e. told (cc)))))))

@@ -1,4 +1,5 @@
 // Words: the fields of one, and reading and writing of lent words that never fails.
+ghost use mathlib.Core.Bool.{cond};
 ghost use mathlib.Core.Path.{_≡_};
 ghost use Prim.Native.Nat.{_<_};
 ghost use lib.ListN.{set};
@@ -41,4 +42,11 @@ pub fn flag(flags: &[u32], i: u32) -> bool
 {
     let w = word(flags, i as usize);
     w != 0
+}
+
+// A flag's word.
+pub fn raised(up: bool) -> u32
+    ensures { λ r. ⌜ r ≡ cond up 1 0 ⌝ }
+{
+    if up { 1 } else { 0 }
 }

@@ -1,0 +1,79 @@
+-- What the loops of rule 8 find, said of the rulebook's definitions. Assumes nothing.
+use Prim.Native.Nat.{ℕ, _+_, _-_, _<_, _≤_}
+use mathlib.Core.Path.{_≡_, refl, sym, ap, _∙_}
+use mathlib.Core.Bool.{Bool, true, false, cond, _&&_, not}
+use mathlib.Core.List.{List}
+use native.Mathlib.Omega.{arith}
+use lib.ListN.{length, getD, set}
+use lib.Seq.{getD-set-same, getD-set-other}
+use lib.Dec.{eqb}
+use borrow.Author.Count.{below-more}
+use native.Mathlib.Nat.{zero-add}
+use Rattle.rulebook.specs.Words.{field, all, first}
+use Rattle.rulebook.specs.Table.{part, atList, portWord, listWord, stranger, listsFrom, itemsFrom, lists, items}
+use Rattle.rulebook.specs.Reasons.{strangersPort, itemOwned, owners, breaks, lowest}
+use Rattle.walks.proofs.Walks.{first-before, first-after, first-none, same-first}
+use Rattle.words.specs.Flags.{flagged}
+use Rattle.words.specs.declared.sections.Layout.{Layout}
+use Rattle.words.specs.Sections.{Laid}
+use Rattle.words.proofs.Places.{list-part, item-part}
+
+-- Flags of strangers' ports.
+
+up-if : (b : Bool) → not (eqb (cond b 1 0) 0) ≡ b
+up-if true = refl
+up-if false = refl
+
+module _ (t : List ℕ) (o p w x v : ℕ) (flags : List ℕ) (inside : p < length flags) (hw : w ≡ portWord t p) (hx : x ≡ field 4 4 w)
+    (hv : v ≡ cond (not (eqb x o) && not (eqb x 0)) 1 0) where
+  marked-here : flagged (set flags p v) p ≡ strangersPort t o p
+  unfolding flagged strangersPort stranger
+  marked-here = rw (getD-set-same flags p v 0 inside, hv, up-if, hx, hw)
+
+  marked-before : ((k : ℕ) → k < p → flagged flags k ≡ strangersPort t o k) → (k : ℕ) → k < p → flagged (set flags p v) k ≡ strangersPort t o k
+  unfolding flagged
+  marked-before old k h = rw (getD-set-other flags p k v 0 (omega arith)) (old k h)
+
+  pub marked-more : ((k : ℕ) → k < p → flagged flags k ≡ strangersPort t o k) → (k : ℕ) → k < p + 1 → flagged (set flags p v) k ≡ strangersPort t o k
+  marked-more old = below-more _ p (marked-before old) marked-here
+
+-- A list, judged with its items.
+
+at-list : (t : List ℕ) (h : Layout) → Laid t h → (l : ℕ) → l < h .lists → part t (h .list0 + l) ≡ atList l
+at-list t h laid l b =
+    let q : h .list0 + l - h .list0 ≡ l = omega arith in
+    sym (rw q at (list-part t h laid (h .list0 + l) (omega arith) (omega arith)))
+
+pub list-breaks : (t : List ℕ) (h : Layout) → Laid t h → (l w o f n : ℕ) → l < h .lists → w ≡ listWord t l → o ≡ field 0 4 w
+    → f ≡ field 13 11 w → n ≡ field 24 8 w → breaks owners t (h .list0 + l) ≡ not (all f n (itemOwned t o))
+unfolding breaks owners
+list-breaks t h laid l w o f n b hw ho hf hn = rw (at-list t h laid l b, ho, hf, hn, hw)
+
+-- The whole scan: before the lists, in the lists, and the items, which clash with nobody.
+
+module _ (t : List ℕ) (h : Layout) (laid : Laid t h) (whole : length t ≡ h .length) (r : ℕ) (hr : r ≡ first 0 (listsFrom t) (breaks owners t)) where
+  rest : length t ≡ listsFrom t + (lists t + items t)
+  rest = omega arith
+
+  pub clash-early : r < h .list0 → r ≡ lowest owners t
+  unfolding lowest
+  clash-early b = rw rest (hr ∙ sym (first-before 0 (listsFrom t) (lists t + items t) (breaks owners t) (omega arith)))
+
+  later : h .list0 ≤ r → lowest owners t ≡ first (listsFrom t) (lists t + items t) (breaks owners t)
+  unfolding lowest
+  later b = rw rest (first-after 0 (listsFrom t) (lists t + items t) (breaks owners t) (omega arith) ∙ same-first (breaks owners t) (zero-add (listsFrom t)) refl)
+
+  module _ (s : ℕ) (hs : s ≡ first (listsFrom t) (lists t) (breaks owners t)) where
+    pub clash-in-lists : h .list0 ≤ r → s < h .item0 → s ≡ lowest owners t
+    clash-in-lists b d = hs ∙ sym (later b ∙ first-before (listsFrom t) (lists t) (items t) (breaks owners t) (omega arith))
+
+    item-keeps : (k : ℕ) → itemsFrom t ≤ k → breaks owners t k ≡ false
+    unfolding breaks owners
+    item-keeps k g = rw (← item-part t h laid k (omega arith))
+
+    pub clash-nowhere : h .list0 ≤ r → h .item0 ≤ s → h .length ≡ lowest owners t
+    clash-nowhere b d =
+        sym (later b
+        ∙ first-after (listsFrom t) (lists t) (items t) (breaks owners t) (omega arith)
+        ∙ first-none (itemsFrom t) (items t) (breaks owners t) item-keeps
+        ∙ sym (laid .length))
