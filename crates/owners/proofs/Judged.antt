@@ -1,41 +1,24 @@
 -- What the loops of rule 8 find, said of the rulebook's definitions. Assumes nothing.
 use Prim.Native.Nat.{ℕ, _+_, _-_, _<_, _≤_}
 use mathlib.Core.Path.{_≡_, refl, sym, ap, _∙_}
-use mathlib.Core.Bool.{Bool, true, false, cond, _&&_, not}
+use mathlib.Core.Bool.{false, _&&_, not}
 use mathlib.Core.List.{List}
 use native.Mathlib.Omega.{arith}
-use lib.ListN.{length, getD, set}
-use lib.Seq.{getD-set-same, getD-set-other}
+use lib.ListN.{length}
 use lib.Dec.{eqb}
-use borrow.Author.Count.{below-more}
 use native.Mathlib.Nat.{zero-add}
 use Rattle.rulebook.specs.Words.{field, all, first}
 use Rattle.rulebook.specs.Table.{part, atList, portWord, listWord, stranger, listsFrom, itemsFrom, lists, items}
 use Rattle.rulebook.specs.Reasons.{strangersPort, itemOwned, owners, breaks, lowest}
 use Rattle.walks.proofs.Walks.{first-before, first-after, first-none, same-first}
-use Rattle.words.specs.Flags.{flagged}
 use Rattle.words.specs.declared.sections.Layout.{Layout}
 use Rattle.words.specs.Sections.{Laid}
 use Rattle.words.proofs.Places.{list-part, item-part}
 
--- Flags of strangers' ports.
-
-up-if : (b : Bool) → not (eqb (cond b 1 0) 0) ≡ b
-up-if true = refl
-up-if false = refl
-
-module _ (t : List ℕ) (o p w x v : ℕ) (flags : List ℕ) (inside : p < length flags) (hw : w ≡ portWord t p) (hx : x ≡ field 4 4 w)
-    (hv : v ≡ cond (not (eqb x o) && not (eqb x 0)) 1 0) where
-  marked-here : flagged (set flags p v) p ≡ strangersPort t o p
-  unfolding flagged strangersPort stranger
-  marked-here = rw (getD-set-same flags p v 0 inside, hv, up-if, hx, hw)
-
-  marked-before : ((k : ℕ) → k < p → flagged flags k ≡ strangersPort t o k) → (k : ℕ) → k < p → flagged (set flags p v) k ≡ strangersPort t o k
-  unfolding flagged
-  marked-before old k h = rw (getD-set-other flags p k v 0 (omega arith)) (old k h)
-
-  pub marked-more : ((k : ℕ) → k < p → flagged flags k ≡ strangersPort t o k) → (k : ℕ) → k < p + 1 → flagged (set flags p v) k ≡ strangersPort t o k
-  marked-more old = below-more _ p (marked-before old) marked-here
+-- The test of a port whose word is w and whose owner is x.
+pub strange : (t : List ℕ) (o p w x : ℕ) → w ≡ portWord t p → x ≡ field 4 4 w → (not (eqb x o) && not (eqb x 0)) ≡ strangersPort t o p
+unfolding strangersPort stranger
+strange t o p w x hw hx = rw (hx, hw)
 
 -- A list, judged with its items.
 

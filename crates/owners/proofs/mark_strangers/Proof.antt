@@ -6,7 +6,8 @@ use lib.ListN.{length, length-set}
 use Rattle.rulebook.specs.Reasons.{strangersPort}
 use Rattle.words.specs.Flags.{flagged}
 use Rattle.owners.specs.Strangers.{Strangers}
-use Rattle.owners.proofs.Judged.{marked-more}
+use Rattle.owners.proofs.Judged.{strange}
+use Rattle.words.proofs.Fill.{raise-more}
 use Rattle.owners.proofs.mark_strangers.Statement.{statement}
 use Rattle.owners.proofs.mark_strangers.Tie as tie
 
@@ -44,7 +45,7 @@ loop-again : tie.Need-loop-again Inv-loop μ-loop
 loop-again c = (
   omega arith,
   ap length (c .before .before .put .ensures) ∙ simp length-set (c .before .before .before .before .before .before .before .before .loop .inv .1),
-  rw (c .before .before .put .ensures) (marked-more _ _ _ _ _ _ _ (omega (arith, c .before .before .before .before .before .before .before .before .loop .inv .1, c .before .before .before .before .before .before .before .loop-test .taken)) (c .before .before .before .before .before .before .port-word .ensures) (c .before .before .before .before .before .port-owner .ensures .value) (c .before .before .before .raised .ensures) (c .before .before .before .before .before .before .before .before .loop .inv .2)),
+  rw (c .before .before .put .ensures) (raise-more (strangersPort (c .before .before .before .before .before .before .before .before .before .before .before .args .t .now) (c .before .before .before .before .before .before .before .before .before .before .before .args .o)) _ _ _ _ (omega (arith, c .before .before .before .before .before .before .before .before .loop .inv .1, c .before .before .before .before .before .before .before .loop-test .taken)) (c .before .before .before .raised .ensures) (strange _ _ _ _ _ (c .before .before .before .before .before .before .port-word .ensures) (c .before .before .before .before .before .port-owner .ensures .value)) (c .before .before .before .before .before .before .before .before .loop .inv .2)),
 )
 
 same-length : tie.Need-same-length Inv-loop μ-loop
