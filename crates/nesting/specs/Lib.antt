@@ -1,2 +1,2 @@
--- What the contracts of rules 7 and 9 cite beside the rulebook.
+-- What the contracts of rule 7 cite beside the rulebook.
 pub mod Rounds

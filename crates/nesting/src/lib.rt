@@ -1,24 +1,21 @@
-// Rules 7 and 9: how deep lists nest and what they cost, found level by level in a local array and not by walking every path.
+// Rule 7: how deep expressions and lists nest. Lists are found level by level in a local array and not by walking every path.
 ghost use mathlib.Core.Path.{_≡_};
 ghost use Prim.Native.Nat.{_≤_};
 ghost use lib.ListN.{length};
-ghost use Rattle.rulebook.specs.Words.{word as wordOf};
 ghost use Rattle.rulebook.specs.Expressions.{deepest};
-ghost use Rattle.rulebook.specs.Reasons.{ruleNests, itemNests, listNests, listWithin, nesting, lowest, itemCost, listCost, bound as boundOf};
+ghost use Rattle.rulebook.specs.Reasons.{ruleNests, itemNests, listNests, nesting, lowest};
 ghost use Rattle.words.specs.Flags.{flagged};
 ghost use Rattle.words.specs.Parts.{partOf};
 ghost use Rattle.words.specs.Sections.{Laid};
-ghost use Rattle.nesting.specs.Rounds.{capped, costIn, Nesting, Round, CostRound, Costs};
+ghost use Rattle.nesting.specs.Rounds.{Nesting, Round};
 use expression::within;
 use words::flag;
 use words::parts::Part;
 use words::parts::part_at;
-use words::put;
 use words::raised;
 use words::sections;
 use words::sections::Layout;
 use words::table;
-use words::word;
 
 // Whether the lists that rule r starts are among those below.
 fn rule_nests(t: &[u32], h: Layout, below: &[u32], r: u32) -> bool
@@ -100,4 +97,42 @@ fn nested_lists(t: &[u32], h: Layout) -> [u32; 256]
         d += 1;
     }
     flags
+}
+
+// Whether a word keeps rule 7, by the flags of the lists that are at most seven deep.
+fn nests(t: &[u32], h: Layout, flags: &[u32], part: Part) -> bool
+    requires { ⌜ Laid (now t) h × Nesting deepest (now t) (now flags) ⌝ }
+    ensures { λ r. ⌜ r ≡ nesting (now (t .entry)) (partOf part) ⌝ }
+{
+    match part {
+        Part::Header => true,
+        Part::Port(_) => true,
+        Part::Network(_) => true,
+        Part::Waits(_) => true,
+        Part::Source(_) => true,
+        Part::Expression(e) => within(t, h, e, 7),
+        Part::Rule(_) => true,
+        Part::List(l) => flag(flags, l),
+        Part::Item(_) => true,
+    }
+}
+
+// The place of the first word that breaks rule 7; the length where none does.
+pub fn first_deep(t: &[u32], h: Layout) -> usize
+    requires { ⌜ Laid (now t) h × (length (now t) ≡ h .length) × (h .lists ≤ 256) ⌝ }
+    ensures { λ r. ⌜ r ≡ lowest nesting (now (t .entry)) ⌝ }
+{
+    let end = h.length;
+    let flags = nested_lists(t, h);
+    let mut i: usize = 0;
+    loop {
+        if end <= i {
+            break i;
+        }
+        let part = part_at(t, h, i);
+        if !nests(t, h, &flags, part) {
+            break i;
+        }
+        i += 1;
+    }
 }
