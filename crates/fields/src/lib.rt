@@ -1,10 +1,12 @@
 // Rule 5: each word of the table keeps its own field rules.
 ghost use mathlib.Core.Path.{_≡_};
+ghost use lib.ListN.{length};
 ghost use Rattle.rulebook.specs.Table.{atPort, atNetwork, atWaits, atSource, atExpression, atRule, atList, atItem};
-ghost use Rattle.rulebook.specs.Reasons.{ownFields};
+ghost use Rattle.rulebook.specs.Reasons.{ownFields, lowest};
 ghost use Rattle.words.specs.Parts.{partOf};
 ghost use Rattle.words.specs.Sections.{Laid};
 use words::parts::Part;
+use words::parts::part_at;
 use words::sections;
 use words::sections::Layout;
 use words::table;
@@ -104,7 +106,7 @@ fn item_fields(t: &[u32], h: Layout, i: u32) -> bool
 }
 
 // Whether a word keeps rule 5.
-pub fn own_fields(t: &[u32], h: Layout, part: Part) -> bool
+fn own_fields(t: &[u32], h: Layout, part: Part) -> bool
     requires { ⌜ Laid (now t) h ⌝ }
     ensures { λ r. ⌜ r ≡ ownFields (now (t .entry)) (partOf part) ⌝ }
 {
@@ -118,5 +120,24 @@ pub fn own_fields(t: &[u32], h: Layout, part: Part) -> bool
         Part::Rule(r) => rule_fields(t, h, r),
         Part::List(l) => list_fields(t, h, l),
         Part::Item(i) => item_fields(t, h, i),
+    }
+}
+
+// The place of the first word that breaks rule 5; the length where none does.
+pub fn first_misfit(t: &[u32], h: Layout) -> usize
+    requires { ⌜ Laid (now t) h × (length (now t) ≡ h .length) ⌝ }
+    ensures { λ r. ⌜ r ≡ lowest ownFields (now (t .entry)) ⌝ }
+{
+    let end = h.length;
+    let mut i: usize = 0;
+    loop {
+        if end <= i {
+            break i;
+        }
+        let part = part_at(t, h, i);
+        if !own_fields(t, h, part) {
+            break i;
+        }
+        i += 1;
     }
 }

@@ -1,11 +1,13 @@
 // Rule 6: each name is of a thing that is there, and of the right kind.
 ghost use mathlib.Core.Path.{_≡_};
+ghost use lib.ListN.{length};
 ghost use Rattle.rulebook.specs.Words.{any};
 ghost use Rattle.rulebook.specs.Table.{atNetwork, atSource, atExpression, atRule, atList, atItem};
-ghost use Rattle.rulebook.specs.Reasons.{networkHas, sourceHas, held as heldOf, mayShow, names as namesOf};
+ghost use Rattle.rulebook.specs.Reasons.{networkHas, sourceHas, held as heldOf, mayShow, names as namesOf, lowest};
 ghost use Rattle.words.specs.Parts.{partOf};
 ghost use Rattle.words.specs.Sections.{Laid};
 use words::parts::Part;
+use words::parts::part_at;
 use words::sections;
 use words::sections::Layout;
 use words::table;
@@ -156,7 +158,7 @@ fn item_names(t: &[u32], h: Layout, i: u32) -> bool
 }
 
 // Whether a word keeps rule 6.
-pub fn names(t: &[u32], h: Layout, part: Part) -> bool
+fn names(t: &[u32], h: Layout, part: Part) -> bool
     requires { ⌜ Laid (now t) h ⌝ }
     ensures { λ r. ⌜ r ≡ namesOf (now (t .entry)) (partOf part) ⌝ }
 {
@@ -170,5 +172,24 @@ pub fn names(t: &[u32], h: Layout, part: Part) -> bool
         Part::Rule(r) => rule_names(t, h, r),
         Part::List(l) => list_names(t, h, l),
         Part::Item(i) => item_names(t, h, i),
+    }
+}
+
+// The place of the first word that breaks rule 6; the length where none does.
+pub fn first_misnamed(t: &[u32], h: Layout) -> usize
+    requires { ⌜ Laid (now t) h × (length (now t) ≡ h .length) ⌝ }
+    ensures { λ r. ⌜ r ≡ lowest namesOf (now (t .entry)) ⌝ }
+{
+    let end = h.length;
+    let mut i: usize = 0;
+    loop {
+        if end <= i {
+            break i;
+        }
+        let part = part_at(t, h, i);
+        if !names(t, h, part) {
+            break i;
+        }
+        i += 1;
     }
 }
