@@ -1,0 +1,67 @@
+-- `cost::bound` meets its contract. The loop's invariant: the total with what the rest of the lists cost is B, once held. Assumes nothing.
+use Prim.Native.Nat.{_+_, _-_, _≤_}
+use mathlib.Core.Path.{_≡_, sym, _∙_}
+use native.Mathlib.Omega.{arith}
+use Rattle.rulebook.specs.Words.{sum}
+use Rattle.rulebook.specs.Reasons as Reasons
+use Rattle.cost.specs.Costs.{capped}
+use Rattle.cost.proofs.Capped.{bound-start, cost-is, cost-turn, cost-end}
+use Rattle.cost.proofs.bound.Statement.{statement}
+use Rattle.cost.proofs.bound.Tie as tie
+
+abbrev Inv-loop : tie.InvT-loop
+Inv-loop t lists costs total₀ l₀ total l = (l ≤ lists) × (total ≤ 4097) × (capped (Reasons.bound t) ≡ capped (total + sum l (lists - l) (Reasons.costWithin 7 t)))
+
+abbrev μ-loop : tie.MeasureT-loop
+μ-loop t lists costs total₀ l₀ total l = lists - l
+
+list-costs-requires : tie.Need-list-costs-requires Inv-loop μ-loop
+list-costs-requires c κs = c .before .pre
+
+loop-holds : tie.Need-loop-holds Inv-loop μ-loop
+loop-holds c = (omega arith, omega arith, bound-start _ _ (c .before .before .pre .0))
+
+slice-aggregate-cost-in : tie.Need-slice-aggregate-cost-in Inv-loop μ-loop
+slice-aggregate-cost-in c = sym (c .before .before .before .list-costs .ensures .long)
+
+cost-in-requires : tie.Need-cost-in-requires Inv-loop μ-loop
+cost-in-requires c κs = tt
+
+add-cap : tie.Need-add-cap Inv-loop μ-loop
+add-cap c = omega (arith, c .before .before .before .loop .inv .1, c .cost-in .ensures .small)
+
+cap-requires : tie.Need-cap-requires Inv-loop μ-loop
+cap-requires c κs = tt
+
+add-l : tie.Need-add-l Inv-loop μ-loop
+add-l c = omega arith
+
+loop-less : tie.Need-loop-less Inv-loop μ-loop
+loop-less c = omega arith
+
+loop-again : tie.Need-loop-again Inv-loop μ-loop
+loop-again c = (
+  omega arith,
+  omega (arith, c .cap .ensures),
+  c .before .before .before .before .loop .inv .2 ∙ cost-turn (Reasons.costWithin 7 (c .before .before .before .before .before .before .before .args .t .now)) _ _ _ _ _ (c .before .before .before .loop-test .taken) (cost-is _ _ (c .before .before .before .before .before .list-costs .ensures) _ _ (c .before .cost-in .ensures .value)) (c .cap .ensures),
+)
+
+returns : tie.Need-returns Inv-loop μ-loop
+returns c = sym (c .before .loop .inv .2 ∙ cost-end _ _ _ _ (c .loop-test .left) (c .before .loop .inv .1))
+
+pub bound-spec : {M : Type 1} → statement M
+bound-spec =
+    tie.close
+    (tie.spec
+    Inv-loop
+    μ-loop
+    list-costs-requires
+    loop-holds
+    slice-aggregate-cost-in
+    cost-in-requires
+    add-cap
+    cap-requires
+    add-l
+    loop-less
+    loop-again
+    returns)

@@ -1,0 +1,51 @@
+-- `cost::list_costs` meets its contract. The loop's invariant: after d rounds the costs are those down to d levels. Assumes nothing.
+use Prim.Native.Nat.{_-_, _≤_}
+use mathlib.Core.Path.{_≡_, sym}
+use native.Mathlib.Omega.{arith}
+use Rattle.cost.specs.Costs.{Costs}
+use Rattle.cost.proofs.Capped.{first-level, next-level}
+use Rattle.cost.proofs.list_costs.Statement.{statement}
+use Rattle.cost.proofs.list_costs.Tie as tie
+
+abbrev Inv-loop : tie.InvT-loop
+Inv-loop t h costs₀ d₀ costs d = (d ≤ 7) × Costs d t costs
+
+abbrev μ-loop : tie.MeasureT-loop
+μ-loop t h costs₀ d₀ costs d = 7 - d
+
+loop-holds : tie.Need-loop-holds Inv-loop μ-loop
+loop-holds c = (omega arith, first-level (c .before .args .t .now))
+
+slice-aggregate-cost-round : tie.Need-slice-aggregate-cost-round Inv-loop μ-loop
+slice-aggregate-cost-round c = sym (c .before .before .loop .inv .1 .long)
+
+cost-round-requires : tie.Need-cost-round-requires Inv-loop μ-loop
+cost-round-requires c κs = c .before .before .before .before .pre
+
+add-d : tie.Need-add-d Inv-loop μ-loop
+add-d c = omega arith
+
+loop-less : tie.Need-loop-less Inv-loop μ-loop
+loop-less c = omega arith
+
+loop-again : tie.Need-loop-again Inv-loop μ-loop
+loop-again c = (omega arith, next-level _ _ _ _ (c .before .before .before .loop .inv .1) (c .cost-round .ensures))
+
+returns : tie.Need-returns Inv-loop μ-loop
+returns c =
+    let all : c .before .loop .d ≡ 7 = omega arith in
+    rw all at (c .before .loop .inv .1)
+
+pub list-costs-spec : {M : Type 1} → statement M
+list-costs-spec =
+    tie.close
+    (tie.spec
+    Inv-loop
+    μ-loop
+    loop-holds
+    slice-aggregate-cost-round
+    cost-round-requires
+    add-d
+    loop-less
+    loop-again
+    returns)

@@ -1,0 +1,18 @@
+-- `fields::list_fields` meets its contract: the fields read are the rulebook's. Assumes nothing.
+use Rattle.rulebook.specs.Reasons.{ownFields}
+use borrow.Author.Needs.{needs}
+use Rattle.fields.proofs.list_fields.Statement.{statement}
+use Rattle.fields.proofs.list_fields.Tie as tie
+
+list-word-requires : tie.Need-list-word-requires
+list-word-requires c κs = search needs
+
+item-count-requires : tie.Need-item-count-requires
+item-count-requires c κs = search needs
+
+returns : tie.Need-returns
+unfolding ownFields
+returns c = rw (c .item-count .ensures .value, c .before .list-word .ensures)
+
+pub list-fields-spec : {M : Type 1} → statement M
+list-fields-spec = tie.close (tie.spec list-word-requires item-count-requires returns)

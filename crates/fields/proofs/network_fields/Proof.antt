@@ -1,0 +1,18 @@
+-- `fields::network_fields` meets its contract: the fields read are the rulebook's. Assumes nothing.
+use Rattle.rulebook.specs.Reasons.{ownFields}
+use borrow.Author.Needs.{needs}
+use Rattle.fields.proofs.network_fields.Statement.{statement}
+use Rattle.fields.proofs.network_fields.Tie as tie
+
+network-word-requires : tie.Need-network-word-requires
+network-word-requires c κs = search needs
+
+network-zero-requires : tie.Need-network-zero-requires
+network-zero-requires c κs = search needs
+
+returns : tie.Need-returns
+unfolding ownFields
+returns c = rw (c .network-zero .ensures .value, c .before .network-word .ensures)
+
+pub network-fields-spec : {M : Type 1} → statement M
+network-fields-spec = tie.close (tie.spec network-word-requires network-zero-requires returns)

@@ -1,0 +1,18 @@
+-- `fields::rule_fields` meets its contract: the fields read are the rulebook's. Assumes nothing.
+use Rattle.rulebook.specs.Reasons.{ownFields}
+use borrow.Author.Needs.{needs}
+use Rattle.fields.proofs.rule_fields.Statement.{statement}
+use Rattle.fields.proofs.rule_fields.Tie as tie
+
+rule-word-requires : tie.Need-rule-word-requires
+rule-word-requires c κs = search needs
+
+first-result-requires : tie.Need-first-result-requires
+first-result-requires c κs = search needs
+
+returns : tie.Need-returns
+unfolding ownFields
+returns c = rw (c .first-result .ensures .value, c .before .rule-word .ensures)
+
+pub rule-fields-spec : {M : Type 1} → statement M
+rule-fields-spec = tie.close (tie.spec rule-word-requires first-result-requires returns)

@@ -1,0 +1,57 @@
+-- `names::networks_hold` meets its contract. The loop's invariant: what the whole walk gives is what the rest of it gives. Assumes nothing.
+use Prim.Native.Nat.{_-_, _≤_}
+use mathlib.Core.Path.{_≡_, sym, _∙_}
+use native.Mathlib.Nat.{sub-zero}
+use native.Mathlib.Omega.{arith}
+use borrow.Author.Tests.{eq-eqb, ne-eqb}
+use Rattle.rulebook.specs.Words.{any}
+use Rattle.rulebook.specs.Reasons.{networkHas}
+use Rattle.walks.proofs.Walks.{any-turn, any-here, any-end}
+use Rattle.names.proofs.Has.{network-has}
+use Rattle.names.proofs.networks_hold.Statement.{statement}
+use Rattle.names.proofs.networks_hold.Tie as tie
+
+abbrev Inv-loop : tie.InvT-loop
+Inv-loop t h p n i₀ i = (i ≤ n) × (any 0 n (networkHas t p) ≡ any i (n - i) (networkHas t p))
+
+abbrev μ-loop : tie.MeasureT-loop
+μ-loop t h p n i₀ i = n - i
+
+loop-holds : tie.Need-loop-holds Inv-loop μ-loop
+loop-holds c = (omega arith, rw sub-zero)
+
+network-word-requires : tie.Need-network-word-requires Inv-loop μ-loop
+network-word-requires c κs = c .before .before .before .pre
+
+network-port-requires : tie.Need-network-port-requires Inv-loop μ-loop
+network-port-requires c κs = tt
+
+returns : tie.Need-returns Inv-loop μ-loop
+returns c = sym (c .before .before .before .before .loop .inv .1 ∙ any-here _ _ (networkHas (c .before .before .before .before .before .before .args .t .now) (c .before .before .before .before .before .before .args .p)) (c .before .before .before .loop-test .taken) (network-has _ _ _ _ _ (c .before .before .network-word .ensures) (c .before .network-port .ensures .value) ∙ eq-eqb _ _ (c .if1 .taken)))
+
+add-i : tie.Need-add-i Inv-loop μ-loop
+add-i c = omega arith
+
+loop-less : tie.Need-loop-less Inv-loop μ-loop
+loop-less c = omega arith
+
+loop-again : tie.Need-loop-again Inv-loop μ-loop
+loop-again c = (omega arith, c .before .before .before .before .loop .inv .1 ∙ any-turn _ _ (networkHas (c .before .before .before .before .before .before .args .t .now) (c .before .before .before .before .before .before .args .p)) (c .before .before .before .loop-test .taken) (network-has _ _ _ _ _ (c .before .before .network-word .ensures) (c .before .network-port .ensures .value) ∙ ne-eqb _ _ (c .if1 .left)))
+
+returns-2 : tie.Need-returns-2 Inv-loop μ-loop
+returns-2 c = sym (c .before .loop .inv .1 ∙ any-end _ _ (networkHas (c .before .before .before .args .t .now) (c .before .before .before .args .p)) (c .loop-test .left))
+
+pub networks-hold-spec : {M : Type 1} → statement M
+networks-hold-spec =
+    tie.close
+    (tie.spec
+    Inv-loop
+    μ-loop
+    loop-holds
+    network-word-requires
+    network-port-requires
+    returns
+    add-i
+    loop-less
+    loop-again
+    returns-2)

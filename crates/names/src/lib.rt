@@ -1,0 +1,195 @@
+// Rule 6: each name is of a thing that is there, and of the right kind.
+ghost use mathlib.Core.Path.{_≡_};
+ghost use lib.ListN.{length};
+ghost use Rattle.rulebook.specs.Words.{any};
+ghost use Rattle.rulebook.specs.Table.{atNetwork, atSource, atExpression, atRule, atList, atItem};
+ghost use Rattle.rulebook.specs.Reasons.{networkHas, sourceHas, held as heldOf, mayShow, names as namesOf, lowest};
+ghost use Rattle.words.specs.Parts.{partOf};
+ghost use Rattle.words.specs.Sections.{Laid};
+use words::parts::Part;
+use words::parts::part_at;
+use words::sections;
+use words::sections::Layout;
+use words::table;
+
+// Whether one of the first n networks has port p.
+fn networks_hold(t: &[u32], h: Layout, p: u32, n: u32) -> bool
+    requires { ⌜ Laid (now t) h ⌝ }
+    ensures { λ r. ⌜ r ≡ any 0 n (networkHas (now (t .entry)) p) ⌝ }
+{
+    let mut i: u32 = 0;
+    while i < n {
+        let w = sections::network_word(t, h, i);
+        let port = table::network_port(w);
+        if port == p {
+            return true;
+        }
+        i += 1;
+    }
+    false
+}
+
+// Whether one of the first k sources has port p.
+fn sources_hold(t: &[u32], h: Layout, p: u32, k: u32) -> bool
+    requires { ⌜ Laid (now t) h ⌝ }
+    ensures { λ r. ⌜ r ≡ any 0 k (sourceHas (now (t .entry)) p) ⌝ }
+{
+    let mut i: u32 = 0;
+    while i < k {
+        let w = sections::source_word(t, h, i);
+        let port = table::source_port(w);
+        if port == p {
+            return true;
+        }
+        i += 1;
+    }
+    false
+}
+
+// Whether one of the first n networks or of the first k sources has port p.
+pub fn held(t: &[u32], h: Layout, p: u32, n: u32, k: u32) -> bool
+    requires { ⌜ Laid (now t) h ⌝ }
+    ensures { λ r. ⌜ r ≡ heldOf (now (t .entry)) p n k ⌝ }
+{
+    let by_network = networks_hold(t, h, p, n);
+    let by_source = sources_hold(t, h, p, k);
+    by_network | by_source
+}
+
+// Whether port p is one that a network or a source may show itself by: a deferred mode port without initial value.
+fn may_show(t: &[u32], h: Layout, p: u32) -> bool
+    requires { ⌜ Laid (now t) h ⌝ }
+    ensures { λ r. ⌜ r ≡ mayShow (now (t .entry)) p ⌝ }
+{
+    let w = sections::port_word(t, p);
+    let kind = table::port_kind(w);
+    let deferred = table::port_deferred(w);
+    let has_initial = table::port_has_initial(w);
+    let ports = h.ports;
+    (p < ports) & (kind == 0) & (deferred == 1) & (has_initial == 0)
+}
+
+fn network_names(t: &[u32], h: Layout, n: u32) -> bool
+    requires { ⌜ Laid (now t) h ⌝ }
+    ensures { λ r. ⌜ r ≡ namesOf (now (t .entry)) (atNetwork n) ⌝ }
+{
+    let w = sections::network_word(t, h, n);
+    let port = table::network_port(w);
+    let shows = may_show(t, h, port);
+    let taken = held(t, h, port, n, 0);
+    shows & !taken
+}
+
+fn source_names(t: &[u32], h: Layout, k: u32) -> bool
+    requires { ⌜ Laid (now t) h ⌝ }
+    ensures { λ r. ⌜ r ≡ namesOf (now (t .entry)) (atSource k) ⌝ }
+{
+    let w = sections::source_word(t, h, k);
+    let port = table::source_port(w);
+    let shows = may_show(t, h, port);
+    let taken = held(t, h, port, h.networks, k);
+    shows & !taken
+}
+
+fn expression_names(t: &[u32], h: Layout, e: u32) -> bool
+    requires { ⌜ Laid (now t) h ⌝ }
+    ensures { λ r. ⌜ r ≡ namesOf (now (t .entry)) (atExpression e) ⌝ }
+{
+    let w = sections::expression_word(t, h, e);
+    let kind = table::expression_kind(w);
+    let left = table::left(w);
+    let right = table::right(w);
+    let port = table::condition_port(w);
+    let named = sections::port_word(t, port);
+    let port_kind = table::port_kind(named);
+    let expressions = h.expressions;
+    let ports = h.ports;
+    (!((4 <= kind) & (kind <= 8)) | (left < expressions))
+        & (!((4 <= kind) & (kind <= 8) & !(kind == 8)) | (right < expressions))
+        & (!!((4 <= kind) & (kind <= 8)) | (port < ports))
+        & (!(kind <= 1) | !(port_kind == 1))
+        & (!((2 <= kind) & (kind <= 3)) | (port_kind == 1))
+}
+
+fn rule_names(t: &[u32], h: Layout, r: u32) -> bool
+    requires { ⌜ Laid (now t) h ⌝ }
+    ensures { λ b. ⌜ b ≡ namesOf (now (t .entry)) (atRule r) ⌝ }
+{
+    let w = sections::rule_word(t, h, r);
+    let expression = table::rule_expression(w);
+    let true_list = table::true_list(w);
+    let false_list = table::false_list(w);
+    let expressions = h.expressions;
+    let lists = h.lists;
+    (expression < expressions)
+        & ((true_list == 255) | (true_list < lists))
+        & ((false_list == 255) | (false_list < lists))
+}
+
+fn list_names(t: &[u32], h: Layout, l: u32) -> bool
+    requires { ⌜ Laid (now t) h ⌝ }
+    ensures { λ r. ⌜ r ≡ namesOf (now (t .entry)) (atList l) ⌝ }
+{
+    let w = sections::list_word(t, h, l);
+    let first = table::first_item(w);
+    let count = table::item_count(w);
+    let items = h.items;
+    first + count <= items
+}
+
+fn item_names(t: &[u32], h: Layout, i: u32) -> bool
+    requires { ⌜ Laid (now t) h ⌝ }
+    ensures { λ r. ⌜ r ≡ namesOf (now (t .entry)) (atItem i) ⌝ }
+{
+    let w = sections::item_word(t, h, i);
+    let kind = table::item_kind(w);
+    let a = table::item_a(w);
+    let named = sections::port_word(t, a);
+    let port_kind = table::port_kind(named);
+    let ports = h.ports;
+    let networks = h.networks;
+    let lists = h.lists;
+    let rules = h.rules;
+    (!(kind == 1) | (a < ports) & (port_kind == 1))
+        & (!((2 <= kind) & (kind <= 3)) | (a < ports) & (port_kind == 2))
+        & (!(kind == 4) | (a < networks))
+        & (!(kind == 5) | (a < lists))
+        & (!(kind == 6) | (a < rules))
+}
+
+// Whether a word keeps rule 6.
+fn names(t: &[u32], h: Layout, part: Part) -> bool
+    requires { ⌜ Laid (now t) h ⌝ }
+    ensures { λ r. ⌜ r ≡ namesOf (now (t .entry)) (partOf part) ⌝ }
+{
+    match part {
+        Part::Header => true,
+        Part::Port(_) => true,
+        Part::Network(n) => network_names(t, h, n),
+        Part::Waits(_) => true,
+        Part::Source(k) => source_names(t, h, k),
+        Part::Expression(e) => expression_names(t, h, e),
+        Part::Rule(r) => rule_names(t, h, r),
+        Part::List(l) => list_names(t, h, l),
+        Part::Item(i) => item_names(t, h, i),
+    }
+}
+
+// The place of the first word that breaks rule 6; the length where none does.
+pub fn first_misnamed(t: &[u32], h: Layout) -> usize
+    requires { ⌜ Laid (now t) h × (length (now t) ≡ h .length) ⌝ }
+    ensures { λ r. ⌜ r ≡ lowest namesOf (now (t .entry)) ⌝ }
+{
+    let end = h.length;
+    let mut i: usize = 0;
+    loop {
+        if end <= i {
+            break i;
+        }
+        let part = part_at(t, h, i);
+        if !names(t, h, part) {
+            break i;
+        }
+        i += 1;
+    }
+}

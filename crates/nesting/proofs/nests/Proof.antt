@@ -1,0 +1,100 @@
+-- `nesting::nests` meets its contract, arm by arm. Assumes nothing.
+use mathlib.Core.Path.{_∙_}
+use Rattle.rulebook.specs.Reasons.{nesting}
+use borrow.Author.Needs.{needs}
+use Rattle.nesting.proofs.nests.Statement.{statement}
+use Rattle.nesting.proofs.nests.Tie as tie
+
+enum-told : tie.Need-enum-told
+enum-told c = search needs
+
+enum-told-2 : tie.Need-enum-told-2
+enum-told-2 c = search needs
+
+enum-told-3 : tie.Need-enum-told-3
+enum-told-3 c = search needs
+
+enum-told-4 : tie.Need-enum-told-4
+enum-told-4 c = search needs
+
+enum-told-5 : tie.Need-enum-told-5
+enum-told-5 c = search needs
+
+enum-known-part : tie.Need-enum-known-part
+enum-known-part c = search needs
+
+within-requires : tie.Need-within-requires
+within-requires c κs = search needs
+
+enum-told-6 : tie.Need-enum-told-6
+enum-told-6 c = search needs
+
+enum-known-part-2 : tie.Need-enum-known-part-2
+enum-known-part-2 c = search needs
+
+flag-requires : tie.Need-flag-requires
+flag-requires c κs = search needs
+
+enum-told-7 : tie.Need-enum-told-7
+enum-told-7 c = search needs
+
+returns : tie.Need-returns
+unfolding nesting
+returns c = rw (c .enum-told .given .1)
+
+returns-2 : tie.Need-returns-2
+unfolding nesting
+returns-2 c = rw (c .enum-told2 .given .1)
+
+returns-3 : tie.Need-returns-3
+unfolding nesting
+returns-3 c = rw (c .enum-told3 .given .1)
+
+returns-4 : tie.Need-returns-4
+unfolding nesting
+returns-4 c = rw (c .enum-told4 .given .1)
+
+returns-5 : tie.Need-returns-5
+unfolding nesting
+returns-5 c = rw (c .enum-told5 .given .1)
+
+returns-6 : tie.Need-returns-6
+unfolding nesting
+returns-6 c = rw (c .before .before .part .given .1) (c .within .ensures)
+
+returns-7 : tie.Need-returns-7
+unfolding nesting
+returns-7 c = rw (c .enum-told6 .given .1)
+
+returns-8 : tie.Need-returns-8
+unfolding nesting
+returns-8 c = rw (c .before .before .part2 .given .1) (c .flag .ensures ∙ c .before .before .before .before .before .before .pre .1 .says _)
+
+returns-9 : tie.Need-returns-9
+unfolding nesting
+returns-9 c = rw (c .enum-told7 .given .1)
+
+pub nests-spec : {M : Type 1} → statement M
+nests-spec =
+    tie.close
+    (tie.spec
+    enum-told
+    enum-told-2
+    enum-told-3
+    enum-told-4
+    enum-told-5
+    enum-known-part
+    within-requires
+    enum-told-6
+    enum-known-part-2
+    flag-requires
+    enum-told-7
+    returns
+    returns-2
+    returns-3
+    returns-4
+    returns-5
+    returns-6
+    returns-7
+    returns-8
+    returns-9)

@@ -1,0 +1,106 @@
+-- `owners::owned_before_lists` meets its contract, arm by arm; no list stands before the lists. Assumes nothing.
+use mathlib.Core.Path.{sym, _∙_, ap}
+use Rattle.rulebook.specs.Reasons.{owners}
+use Rattle.words.specs.Parts.{partOf}
+use Rattle.words.proofs.Places.{before-lists}
+use borrow.Author.Needs.{needs}
+use Rattle.owners.proofs.owned_before_lists.Statement.{statement}
+use Rattle.owners.proofs.owned_before_lists.Tie as tie
+
+part-at-requires : tie.Need-part-at-requires
+part-at-requires c κs = search needs
+
+enum-told : tie.Need-enum-told
+enum-told c = search needs
+
+enum-told-2 : tie.Need-enum-told-2
+enum-told-2 c = search needs
+
+enum-known-part : tie.Need-enum-known-part
+enum-known-part c = search needs
+
+network-owned-requires : tie.Need-network-owned-requires
+network-owned-requires c κs = search needs
+
+enum-told-3 : tie.Need-enum-told-3
+enum-told-3 c = search needs
+
+enum-known-part-2 : tie.Need-enum-known-part-2
+enum-known-part-2 c = search needs
+
+source-owned-requires : tie.Need-source-owned-requires
+source-owned-requires c κs = search needs
+
+enum-told-4 : tie.Need-enum-told-4
+enum-told-4 c = search needs
+
+enum-known-part-3 : tie.Need-enum-known-part-3
+enum-known-part-3 c = search needs
+
+rule-owned-requires : tie.Need-rule-owned-requires
+rule-owned-requires c κs = search needs
+
+enum-told-5 : tie.Need-enum-told-5
+enum-told-5 c = search needs
+
+enum-told-6 : tie.Need-enum-told-6
+enum-told-6 c = search needs
+
+returns : tie.Need-returns
+unfolding owners
+returns c = rw (← c .before .before .part-at .ensures, c .enum-told .given .1)
+
+returns-2 : tie.Need-returns-2
+unfolding owners
+returns-2 c = rw (← c .before .before .part-at .ensures, c .enum-told2 .given .1)
+
+returns-3 : tie.Need-returns-3
+returns-3 c = rw (← c .before .before .before .before .part-at .ensures, c .before .before .part .given .1) (c .network-owned .ensures)
+
+returns-4 : tie.Need-returns-4
+unfolding owners
+returns-4 c = rw (← c .before .before .part-at .ensures, c .enum-told3 .given .1)
+
+returns-5 : tie.Need-returns-5
+returns-5 c = rw (← c .before .before .before .before .part-at .ensures, c .before .before .part2 .given .1) (c .source-owned .ensures)
+
+returns-6 : tie.Need-returns-6
+unfolding owners
+returns-6 c = rw (← c .before .before .part-at .ensures, c .enum-told4 .given .1)
+
+returns-7 : tie.Need-returns-7
+returns-7 c = rw (← c .before .before .before .before .part-at .ensures, c .before .before .part3 .given .1) (c .rule-owned .ensures)
+
+returns-8 : tie.Need-returns-8
+returns-8 c = absurd (before-lists _ _ (c .before .before .before .before .pre .0) _ _ (c .before .before .before .before .pre .1) (sym (c .before .before .part-at .ensures) ∙ ap partOf (c .enum-told5 .given .1)))
+
+returns-9 : tie.Need-returns-9
+unfolding owners
+returns-9 c = rw (← c .before .before .part-at .ensures, c .enum-told6 .given .1)
+
+pub owned-before-lists-spec : {M : Type 1} → statement M
+owned-before-lists-spec =
+    tie.close
+    (tie.spec
+    part-at-requires
+    enum-told
+    enum-told-2
+    enum-known-part
+    network-owned-requires
+    enum-told-3
+    enum-known-part-2
+    source-owned-requires
+    enum-told-4
+    enum-known-part-3
+    rule-owned-requires
+    enum-told-5
+    enum-told-6
+    returns
+    returns-2
+    returns-3
+    returns-4
+    returns-5
+    returns-6
+    returns-7
+    returns-8
+    returns-9)

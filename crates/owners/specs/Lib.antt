@@ -1,0 +1,2 @@
+-- What the contracts of rule 8 cite beside the rulebook.
+pub mod Strangers

@@ -1,0 +1,182 @@
+// Rule 8: owners do not clash.
+ghost use mathlib.Core.Path.{_≡_};
+ghost use Prim.Native.Nat.{_<_};
+ghost use lib.ListN.{length};
+ghost use Rattle.rulebook.specs.Words.{first};
+ghost use Rattle.rulebook.specs.Table.{atNetwork, atSource, atRule, part, listsFrom, lists};
+ghost use Rattle.rulebook.specs.Reasons.{itemOwned, owners, breaks, lowest};
+ghost use Rattle.words.specs.Sections.{Laid};
+ghost use Rattle.owners.specs.Strangers.{Strangers};
+use expression::mentions;
+use words::parts::Part;
+use words::parts::part_at;
+use words::put;
+use words::raised;
+use words::sections;
+use words::sections::Layout;
+use words::table;
+
+fn network_owned(t: &[u32], h: Layout, n: u32) -> bool
+    requires { ⌜ Laid (now t) h ⌝ }
+    ensures { λ r. ⌜ r ≡ owners (now (t .entry)) (atNetwork n) ⌝ }
+{
+    let w = sections::network_word(t, h, n);
+    let owner = table::network_owner(w);
+    let port = table::network_port(w);
+    let named = sections::port_word(t, port);
+    let port_owner = table::port_owner(named);
+    owner == port_owner
+}
+
+fn source_owned(t: &[u32], h: Layout, k: u32) -> bool
+    requires { ⌜ Laid (now t) h ⌝ }
+    ensures { λ r. ⌜ r ≡ owners (now (t .entry)) (atSource k) ⌝ }
+{
+    let w = sections::source_word(t, h, k);
+    let owner = table::source_owner(w);
+    let port = table::source_port(w);
+    let named = sections::port_word(t, port);
+    let port_owner = table::port_owner(named);
+    owner == port_owner
+}
+
+// Puts up the flags of the ports that are strangers' to o, of all that a condition can name.
+fn mark_strangers(t: &[u32], o: u32, flags: &mut [u32])
+    requires { ⌜ length (now flags) ≡ 256 ⌝ }
+    ensures { λ _. ⌜ Strangers (now (t .entry)) o (now (flags .exit)) ⌝ }
+{
+    let mut p: u32 = 0;
+    while p < 256 {
+        let w = sections::port_word(t, p);
+        let owner = table::port_owner(w);
+        let strange = !(owner == o) & !(owner == 0);
+        put(flags, p as usize, raised(strange));
+        p += 1;
+    }
+}
+
+fn rule_owned(t: &[u32], h: Layout, r: u32) -> bool
+    requires { ⌜ Laid (now t) h ⌝ }
+    ensures { λ b. ⌜ b ≡ owners (now (t .entry)) (atRule r) ⌝ }
+{
+    let w = sections::rule_word(t, h, r);
+    let owner = table::rule_owner(w);
+    let expression = table::rule_expression(w);
+    let true_list = table::true_list(w);
+    let false_list = table::false_list(w);
+    let true_word = sections::list_word(t, h, true_list);
+    let false_word = sections::list_word(t, h, false_list);
+    let true_owner = table::list_owner(true_word);
+    let false_owner = table::list_owner(false_word);
+    let mut flags = [0u32; 256];
+    mark_strangers(t, owner, &mut flags);
+    let strange = mentions(t, h, &flags, expression, 7);
+    !strange
+        & ((true_list == 255) | (true_owner == owner))
+        & ((false_list == 255) | (false_owner == owner))
+}
+
+// Whether item i may stand in a list of owner o.
+fn item_owned(t: &[u32], h: Layout, o: u32, i: u32) -> bool
+    requires { ⌜ Laid (now t) h ⌝ }
+    ensures { λ r. ⌜ r ≡ itemOwned (now (t .entry)) o i ⌝ }
+{
+    let w = sections::item_word(t, h, i);
+    let kind = table::item_kind(w);
+    let a = table::item_a(w);
+    let list_word = sections::list_word(t, h, a);
+    let rule_word = sections::rule_word(t, h, a);
+    let port_word = sections::port_word(t, a);
+    let network_word = sections::network_word(t, h, a);
+    let list_owner = table::list_owner(list_word);
+    let rule_owner = table::rule_owner(rule_word);
+    let port_owner = table::port_owner(port_word);
+    let network_owner = table::network_owner(network_word);
+    (!(kind == 5) | (list_owner == o))
+        & (!(kind == 6) | (rule_owner == o))
+        & ((o == 0) | (!((1 <= kind) & (kind <= 3)) | (port_owner == o)))
+        & ((o == 0) | (!(kind == 4) | (network_owner == o)))
+}
+
+// Whether the word at a place before the lists keeps rule 8.
+fn owned_before_lists(t: &[u32], h: Layout, i: usize) -> bool
+    requires { ⌜ Laid (now t) h × (i < h .list0) ⌝ }
+    ensures { λ r. ⌜ r ≡ owners (now (t .entry)) (part (now (t .entry)) i) ⌝ }
+{
+    let part = part_at(t, h, i);
+    match part {
+        Part::Header => true,
+        Part::Port(_) => true,
+        Part::Network(n) => network_owned(t, h, n),
+        Part::Waits(_) => true,
+        Part::Source(k) => source_owned(t, h, k),
+        Part::Expression(_) => true,
+        Part::Rule(r) => rule_owned(t, h, r),
+        Part::List(_) => true,
+        Part::Item(_) => true,
+    }
+}
+
+// The place of the first word before the lists that breaks rule 8; the lists' place where none does.
+fn clash_before_lists(t: &[u32], h: Layout) -> usize
+    requires { ⌜ Laid (now t) h ⌝ }
+    ensures { λ r. ⌜ r ≡ first 0 (listsFrom (now (t .entry))) (breaks owners (now (t .entry))) ⌝ }
+{
+    let end = h.list0;
+    let mut i: usize = 0;
+    loop {
+        if end <= i {
+            break i;
+        }
+        if !owned_before_lists(t, h, i) {
+            break i;
+        }
+        i += 1;
+    }
+}
+
+// The place of the first list that breaks rule 8, each judged with its items; the items' place where none does.
+fn list_clash(t: &[u32], h: Layout) -> usize
+    requires { ⌜ Laid (now t) h ⌝ }
+    ensures { λ r. ⌜ r ≡ first (listsFrom (now (t .entry))) (lists (now (t .entry))) (breaks owners (now (t .entry))) ⌝ }
+{
+    let list0 = h.list0;
+    let lists = h.lists;
+    let mut l: u32 = 0;
+    'lists: loop {
+        if lists <= l {
+            break list0 + l as usize;
+        }
+        let w = sections::list_word(t, h, l);
+        let owner = table::list_owner(w);
+        let first = table::first_item(w);
+        let count = table::item_count(w);
+        let end = first + count;
+        let mut i = first;
+        while i < end {
+            if !item_owned(t, h, owner, i) {
+                break 'lists list0 + l as usize;
+            }
+            i += 1;
+        }
+        l += 1;
+    }
+}
+
+// The place of the first word that breaks rule 8; the length where none does.
+pub fn first_clash(t: &[u32], h: Layout) -> usize
+    requires { ⌜ Laid (now t) h × (length (now t) ≡ h .length) ⌝ }
+    ensures { λ r. ⌜ r ≡ lowest owners (now (t .entry)) ⌝ }
+{
+    let list0 = h.list0;
+    let item0 = h.item0;
+    let early = clash_before_lists(t, h);
+    if early < list0 {
+        return early;
+    }
+    let at = list_clash(t, h);
+    if at < item0 {
+        return at;
+    }
+    h.length
+}

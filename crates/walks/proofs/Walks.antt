@@ -1,0 +1,146 @@
+-- Laws of the rulebook's walks, in the form of a loop that counts i up to e. Assumes nothing.
+use Prim.Native.Nat.{ℕ, zero, suc, _+_, _-_, _<_, _≤_}
+use mathlib.Core.Path.{_≡_, refl, sym, ap, ap₂, fun-ext, _∙_}
+use native.Mathlib.Nat.{zero-add, add-zero, suc-add}
+use mathlib.Core.Bool.{Bool, true, false}
+use mathlib.Core.List.{List}
+use native.Mathlib.Numerals.{add-one}
+use native.Mathlib.Omega.{arith}
+use lib.ListN.{length, getD}
+use Rattle.rulebook.specs.Words.{first, all, any, sum, listed, each}
+
+-- a test holds or it fails
+pub split : {A : Type 0} (b : Bool) → (b ≡ true → A) → (b ≡ false → A) → A
+split true f g = f refl
+split false f g = g refl
+
+-- what is left before a turn and after it, and at the end
+left-more : (i e : ℕ) → i < e → e - i ≡ suc (e - (i + 1))
+left-more i e h = omega arith
+
+left-none : (i e : ℕ) → e ≤ i → e - i ≡ 0
+left-none i e h = omega arith
+
+-- what is left at the start of a loop over the n numbers from i on
+pub whole : (i n : ℕ) → i + n - i ≡ n
+whole i n = omega arith
+
+-- The lowest number at which p holds.
+
+first-step : (i n : ℕ) (p : ℕ → Bool) (b : Bool) → p i ≡ b → first i (suc n) p ≡ elim b [ true ↦ i | false ↦ first (suc i) n p ]
+unfolding first
+first-step i n p b y = rw (y, first)
+
+module _ (i e : ℕ) (p : ℕ → Bool) where
+  pub first-here : i < e → p i ≡ true → first i (e - i) p ≡ i
+  unfolding first
+  first-here h y = rw (left-more i e h) (first-step i (e - (i + 1)) p _ y)
+
+  pub first-turn : i < e → p i ≡ false → first i (e - i) p ≡ first (i + 1) (e - (i + 1)) p
+  unfolding first
+  first-turn h y = rw (left-more i e h, add-one) (first-step i (e - suc i) p _ y)
+
+  pub first-end : e ≤ i → first i (e - i) p ≡ i
+  unfolding first
+  first-end h = rw (left-none i e h)
+
+  pub all-turn : i < e → p i ≡ true → all i (e - i) p ≡ all (i + 1) (e - (i + 1)) p
+  unfolding all
+  all-turn h y = rw (left-more i e h, y, add-one)
+
+  pub all-fails : i < e → p i ≡ false → all i (e - i) p ≡ false
+  unfolding all
+  all-fails h y = rw (left-more i e h, y)
+
+  pub all-end : e ≤ i → all i (e - i) p ≡ true
+  unfolding all
+  all-end h = rw (left-none i e h)
+
+  pub any-turn : i < e → p i ≡ false → any i (e - i) p ≡ any (i + 1) (e - (i + 1)) p
+  unfolding any
+  any-turn h y = rw (left-more i e h, y, add-one)
+
+  pub any-here : i < e → p i ≡ true → any i (e - i) p ≡ true
+  unfolding any
+  any-here h y = rw (left-more i e h, y)
+
+  pub any-end : e ≤ i → any i (e - i) p ≡ false
+  unfolding any
+  any-end h = rw (left-none i e h)
+
+module _ (i e : ℕ) (f : ℕ → ℕ) where
+  pub sum-turn : i < e → sum i (e - i) f ≡ f i + sum (i + 1) (e - (i + 1)) f
+  unfolding sum
+  sum-turn h = rw (left-more i e h, add-one)
+
+  pub sum-end : e ≤ i → sum i (e - i) f ≡ 0
+  unfolding sum
+  sum-end h = rw (left-none i e h)
+
+module _ {A : Type 0} (i e : ℕ) (f : ℕ → A → A) (a : A) where
+  pub each-turn : i < e → each i (e - i) f a ≡ each (i + 1) (e - (i + 1)) f (f i a)
+  unfolding each
+  each-turn h = rw (left-more i e h, add-one)
+
+  pub each-end : e ≤ i → each i (e - i) f a ≡ a
+  unfolding each
+  each-end h = rw (left-none i e h)
+
+-- A range may be written in another way.
+pub same-first : {i j m n : ℕ} (p : ℕ → Bool) → i ≡ j → m ≡ n → first i m p ≡ first j n p
+same-first p a b = ap₂ (λ (x y : ℕ). first x y p) a b
+
+-- Two ranges one after the other: the first number in the first range, or else in the second.
+
+pub first-before : (i m n : ℕ) (p : ℕ → Bool) → first i m p < i + m → first i (m + n) p ≡ first i m p
+unfolding first
+first-before i zero n p h = absurd (omega arith)
+first-before i (suc m) n p h =
+    rw (suc-add m n)
+    (split (p i) (λ e. first-step i (m + n) p true e ∙ sym (first-step i m p true e))
+    (λ e.
+    first-step i (m + n) p false e
+    ∙ first-before (suc i) m n p (omega (arith, rw (first-step i m p false e) at h))
+    ∙ sym (first-step i m p false e)))
+
+pub first-after : (i m n : ℕ) (p : ℕ → Bool) → i + m ≤ first i m p → first i (m + n) p ≡ first (i + m) n p
+unfolding first
+first-after i zero n p h = rw (zero-add, add-zero)
+first-after i (suc m) n p h =
+    rw (suc-add m n)
+    (split (p i) (λ e. absurd (omega (arith, rw (first-step i m p true e) at h)))
+    (λ e.
+    first-step i (m + n) p false e
+    ∙ first-after (suc i) m n p (omega (arith, rw (first-step i m p false e) at h))
+    ∙ same-first {i = suc i + m} {j = i + suc m} {m = n} {n = n} p (omega arith) refl))
+
+-- a range in which p holds nowhere
+pub first-none : (i n : ℕ) (p : ℕ → Bool) → ((k : ℕ) → i ≤ k → p k ≡ false) → first i n p ≡ i + n
+unfolding first
+first-none i zero p h = omega arith
+first-none i (suc n) p h =
+    first-step i n p false (h i (omega arith)) ∙ first-none (suc i) n p (λ k g. h k (omega arith)) ∙ omega arith
+
+-- A list of the n values from i on, by its elements.
+
+pub length-listed : (i n : ℕ) (f : ℕ → ℕ) → length (listed i n f) ≡ n
+unfolding listed
+length-listed i zero f = refl
+length-listed i (suc n) f = ap suc (length-listed (suc i) n f)
+
+pub getD-listed : (i n : ℕ) (f : ℕ → ℕ) (k : ℕ) → k < n → getD (listed i n f) k 0 ≡ f (i + k)
+unfolding listed
+getD-listed i zero f k h = absurd (omega arith)
+getD-listed i (suc n) f zero h = ap f (omega arith)
+getD-listed i (suc n) f (suc k) h =
+    let q : suc i + k ≡ i + suc k = omega arith in
+    rw (getD-listed (suc i) n f k (omega arith)) (ap f q)
+
+-- Walks of two functions that agree everywhere are the same walk.
+
+module _ (i n : ℕ) where
+  pub same-all : (p q : ℕ → Bool) → ((k : ℕ) → p k ≡ q k) → all i n p ≡ all i n q
+  same-all p q h = ap (all i n) (fun-ext h)
+
+  pub same-sum : (f g : ℕ → ℕ) → ((k : ℕ) → f k ≡ g k) → sum i n f ≡ sum i n g
+  same-sum f g h = ap (sum i n) (fun-ext h)

@@ -1,0 +1,44 @@
+-- A loop that fills an array of words, one store a turn. Assumes nothing.
+use Prim.Native.Nat.{ℕ, zero, suc, _+_, _<_, _≤_}
+use mathlib.Core.Path.{_≡_, refl, sym, ap, _∙_}
+use mathlib.Core.Bool.{Bool, true, false, cond, not}
+use mathlib.Core.List.{List}
+use native.Mathlib.Omega.{arith}
+use lib.ListN.{length, getD, set, replicate, List·getD-eq-default}
+use lib.Seq.{getD-set-same, getD-set-other}
+use lib.Dec.{eqb}
+use borrow.Author.Count.{below-more}
+use Rattle.words.specs.Flags.{flagged}
+
+-- what holds of the words before l, and of v, holds of the words before l + 1 once v is stored at l
+pub set-more : (P : ℕ → ℕ → Type 0) (ws : List ℕ) (l v : ℕ) → l < length ws → P l v → ((k : ℕ) → k < l → P k (getD ws k 0))
+    → (k : ℕ) → k < l + 1 → P k (getD (set ws l v) k 0)
+set-more P ws l v inside here before =
+    below-more (λ k. P k (getD (set ws l v) k 0)) l (λ k h. rw (getD-set-other ws l k v 0 (omega arith)) (before k h))
+    (rw (getD-set-same ws l v 0 inside) here)
+
+up-if : (b : Bool) → not (eqb (cond b 1 0) 0) ≡ b
+up-if true = refl
+up-if false = refl
+
+-- the same of flags that are to say q
+pub raise-more : (q : ℕ → Bool) (flags : List ℕ) (l v : ℕ) (b : Bool) → l < length flags → v ≡ cond b 1 0 → b ≡ q l
+    → ((k : ℕ) → k < l → flagged flags k ≡ q k) → (k : ℕ) → k < l + 1 → flagged (set flags l v) k ≡ q k
+unfolding flagged
+raise-more q flags l v b inside hv hb before =
+    set-more (λ k w. not (eqb w 0) ≡ q k) flags l v inside (rw hv (up-if b ∙ hb)) before
+
+-- past the end no flag is up, and among zeros none is
+
+pub none-past : (flags : List ℕ) (l : ℕ) → length flags ≤ l → flagged flags l ≡ false
+unfolding flagged
+none-past flags l h = rw (List·getD-eq-default flags 0 h)
+
+pub zero-word : (n l : ℕ) → _≡_ {A = ℕ} (getD (replicate n 0) l 0) 0
+zero-word zero l = refl
+zero-word (suc n) zero = refl
+zero-word (suc n) (suc l) = zero-word n l
+
+pub none-of-zeros : (n l : ℕ) → flagged (replicate n 0) l ≡ false
+unfolding flagged
+none-of-zeros n l = rw (zero-word n l)

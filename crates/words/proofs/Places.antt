@@ -1,0 +1,114 @@
+-- Which part stands at a place, by the places of the sections in a layout. Assumes nothing.
+use Prim.Native.Nat.{ℕ, _-_, _/_, _%_, _<_, _≤_}
+use mathlib.Core.Path.{_≡_}
+use mathlib.Core.Bool.{Bool, true, false, cond}
+use mathlib.Core.List.{List}
+use native.Mathlib.Omega.{arith}
+use lib.Dec.{ltb, eqb}
+use borrow.Author.Tests.{lt-ltb, le-ltb, eq-eqb, ne-eqb}
+use Rattle.rulebook.specs.Table.{Part, portsFrom, networksFrom, sourcesFrom, expressionsFrom, rulesFrom, listsFrom, itemsFrom}
+use Rattle.rulebook.specs.Table.{inHeader, atPort, atNetwork, atWaits, atSource, atExpression, atRule, atList, atItem, part}
+use Rattle.words.specs.declared.sections.Layout.{Layout}
+use Rattle.words.specs.Sections.{Laid}
+
+module _ (t : List ℕ) (h : Layout) (laid : Laid t h) (i : ℕ) where
+  pub header-part : i < 3 → inHeader ≡ part t i
+  unfolding part
+  header-part b = simp (lt-ltb i 3 b)
+
+  pub port-part : 3 ≤ i → i < h .network0 → atPort (i - 3) ≡ part t i
+  unfolding part
+  port-part a b = simp (le-ltb i 3 a, lt-ltb i (networksFrom t) (omega arith))
+
+  pub network-part : h .network0 ≤ i → i < h .source0 → (i - h .network0) % 2 ≡ 0 → atNetwork ((i - h .network0) / 2) ≡ part t i
+  unfolding part
+  network-part a b e =
+      let n = laid .network0 in
+      rw n
+      (simp (le-ltb i 3 (omega arith), le-ltb i (networksFrom t) (omega arith), lt-ltb i (sourcesFrom t) (omega arith), eq-eqb _ 0 (rw n at e)))
+
+  pub waits-part : h .network0 ≤ i → i < h .source0 → ((i - h .network0) % 2 ≡ 0 → ⊥) → atWaits ((i - h .network0) / 2) ≡ part t i
+  unfolding part
+  waits-part a b e =
+      let n = laid .network0 in
+      rw n
+      (simp (le-ltb i 3 (omega arith), le-ltb i (networksFrom t) (omega arith), lt-ltb i (sourcesFrom t) (omega arith), ne-eqb _ 0 (rw n at e)))
+
+  pub source-part : h .source0 ≤ i → i < h .expression0 → atSource (i - h .source0) ≡ part t i
+  unfolding part
+  source-part a b =
+      rw (laid .source0)
+      (simp (le-ltb i 3 (omega arith), le-ltb i (networksFrom t) (omega arith), le-ltb i (sourcesFrom t) (omega arith), lt-ltb i (expressionsFrom t) (omega arith)))
+
+  pub expression-part : h .expression0 ≤ i → i < h .rule0 → atExpression (i - h .expression0) ≡ part t i
+  unfolding part
+  expression-part a b =
+      rw (laid .expression0)
+      (simp (
+        le-ltb i 3 (omega arith),
+        le-ltb i (networksFrom t) (omega arith),
+        le-ltb i (sourcesFrom t) (omega arith),
+        le-ltb i (expressionsFrom t) (omega arith),
+        lt-ltb i (rulesFrom t) (omega arith),
+      ))
+
+  pub rule-part : h .rule0 ≤ i → i < h .list0 → atRule (i - h .rule0) ≡ part t i
+  unfolding part
+  rule-part a b =
+      rw (laid .rule0)
+      (simp (
+        le-ltb i 3 (omega arith),
+        le-ltb i (networksFrom t) (omega arith),
+        le-ltb i (sourcesFrom t) (omega arith),
+        le-ltb i (expressionsFrom t) (omega arith),
+        le-ltb i (rulesFrom t) (omega arith),
+        lt-ltb i (listsFrom t) (omega arith),
+      ))
+
+  pub list-part : h .list0 ≤ i → i < h .item0 → atList (i - h .list0) ≡ part t i
+  unfolding part
+  list-part a b =
+      rw (laid .list0)
+      (simp (
+        le-ltb i 3 (omega arith),
+        le-ltb i (networksFrom t) (omega arith),
+        le-ltb i (sourcesFrom t) (omega arith),
+        le-ltb i (expressionsFrom t) (omega arith),
+        le-ltb i (rulesFrom t) (omega arith),
+        le-ltb i (listsFrom t) (omega arith),
+        lt-ltb i (itemsFrom t) (omega arith),
+      ))
+
+  pub item-part : h .item0 ≤ i → atItem (i - h .item0) ≡ part t i
+  unfolding part
+  item-part a =
+      rw (laid .item0)
+      (simp (
+        le-ltb i 3 (omega arith),
+        le-ltb i (networksFrom t) (omega arith),
+        le-ltb i (sourcesFrom t) (omega arith),
+        le-ltb i (expressionsFrom t) (omega arith),
+        le-ltb i (rulesFrom t) (omega arith),
+        le-ltb i (listsFrom t) (omega arith),
+        le-ltb i (itemsFrom t) (omega arith),
+      ))
+
+-- no list stands before the lists
+
+other : (l : ℕ) (b : Bool) (x y : Part) → (x ≡ atList l → ⊥) → (y ≡ atList l → ⊥) → cond b x y ≡ atList l → ⊥
+other l true x y hx hy = hx
+other l false x y hx hy = hy
+
+told : _≡_ {A = ℕ} 0 1 → ⊥
+told e = omega arith
+
+pub before-lists : (t : List ℕ) (h : Layout) → Laid t h → (i l : ℕ) → i < h .list0 → part t i ≡ atList l → ⊥
+unfolding part
+before-lists t h laid i l b =
+    simp (lt-ltb i (listsFrom t) (omega arith))
+    (other l (ltb i portsFrom) _ _ (λ e. told (cc))
+    (other l (ltb i (networksFrom t)) _ _ (λ e. told (cc))
+    (other l (ltb i (sourcesFrom t)) _ _
+    (other l (eqb ((i - networksFrom t) % 2) 0) _ _ (λ e. told (cc)) (λ e. told (cc)))
+    (other l (ltb i (expressionsFrom t)) _ _ (λ e. told (cc))
+    (other l (ltb i (rulesFrom t)) _ _ (λ e. told (cc)) (λ e. told (cc)))))))

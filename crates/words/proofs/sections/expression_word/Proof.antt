@@ -1,0 +1,16 @@
+-- `words::sections::expression_word` meets its contract: the layout's place is the table's. Assumes nothing.
+use borrow.Author.Needs.{needs}
+use Rattle.words.proofs.sections.expression_word.Statement.{statement}
+use Rattle.words.proofs.sections.expression_word.Tie as tie
+
+add-word : tie.Need-add-word
+add-word c = search needs
+
+word-requires : tie.Need-word-requires
+word-requires c κs = search needs
+
+returns : tie.Need-returns
+returns c = rw (← c .before .before .before .pre .expression0) (c .word .ensures)
+
+pub expression-word-spec : {M : Type 1} → statement M
+expression-word-spec = tie.close (tie.spec add-word word-requires returns)

@@ -1,0 +1,16 @@
+-- `words::state::pack_rule` meets its contract: the fields, each cut to its width, do not overlap. Assumes nothing.
+use native.Mathlib.Omega.{arith}
+use Rattle.rulebook.specs.State.{packRule}
+use borrow.Author.Needs.{needs}
+use Rattle.words.proofs.state.pack_rule.Statement.{statement}
+use Rattle.words.proofs.state.pack_rule.Tie as tie
+
+mul-result : tie.Need-mul-result
+mul-result c = search needs
+
+returns : tie.Need-returns
+unfolding packRule
+returns c = omega arith
+
+pub pack-rule-spec : {M : Type 1} → statement M
+pack-rule-spec = tie.close (tie.spec mul-result returns)

@@ -1,0 +1,58 @@
+// Which word of the table the one at a place is, with its number in its section.
+ghost use mathlib.Core.Path.{_≡_};
+ghost use Prim.Native.Nat.{_<_};
+ghost use Rattle.rulebook.specs.Table.{part};
+ghost use Rattle.words.specs.Parts.{partOf};
+ghost use Rattle.words.specs.Sections.{Laid};
+use crate::sections::Layout;
+
+pub enum Part {
+    Header,
+    Port(u32),
+    Network(u32),
+    Waits(u32),
+    Source(u32),
+    Expression(u32),
+    Rule(u32),
+    List(u32),
+    Item(u32),
+}
+
+// The table stands here for the proof alone: the layout says all that is read of it.
+pub fn part_at(t: &[u32], h: Layout, i: usize) -> Part
+    requires { ⌜ Laid (now t) h × (i < h .length) ⌝ }
+    ensures { λ r. ⌜ partOf r ≡ part (now (t .entry)) i ⌝ }
+{
+    let network0 = h.network0;
+    let source0 = h.source0;
+    let expression0 = h.expression0;
+    let rule0 = h.rule0;
+    let list0 = h.list0;
+    let item0 = h.item0;
+    if i < 3 {
+        return Part::Header;
+    }
+    if i < network0 {
+        return Part::Port((i - 3) as u32);
+    }
+    if i < source0 {
+        let j = i - network0;
+        if j % 2 == 0 {
+            return Part::Network((j / 2) as u32);
+        }
+        return Part::Waits((j / 2) as u32);
+    }
+    if i < expression0 {
+        return Part::Source((i - source0) as u32);
+    }
+    if i < rule0 {
+        return Part::Expression((i - expression0) as u32);
+    }
+    if i < list0 {
+        return Part::Rule((i - rule0) as u32);
+    }
+    if i < item0 {
+        return Part::List((i - list0) as u32);
+    }
+    Part::Item((i - item0) as u32)
+}
