@@ -1,0 +1,29 @@
+-- `refusals::sent_by_owner` meets its contract: the parts of the test are the rulebook's. Assumes nothing.
+use Rattle.rulebook.specs.Step.{sentByOwner}
+use borrow.Author.Needs.{needs}
+use Rattle.refusals.proofs.sent_by_owner.Statement.{statement}
+use Rattle.refusals.proofs.sent_by_owner.Tie as tie
+
+kind-requires : tie.Need-kind-requires
+kind-requires c κs = search needs
+
+owner-requires : tie.Need-owner-requires
+owner-requires c κs = search needs
+
+named-requires : tie.Need-named-requires
+named-requires c κs = search needs
+
+owner-requires-2 : tie.Need-owner-requires-2
+owner-requires-2 c κs = search needs
+
+told-requires : tie.Need-told-requires
+told-requires c κs = search needs
+
+returns : tie.Need-returns
+unfolding sentByOwner
+returns c = rw (← c .before .before .before .before .kind .ensures .value, ← c .before .before .before .owner .ensures .value, ← c .before .before .named .ensures, ← c .before .owner2 .ensures) (c .told .ensures)
+
+pub sent-by-owner-spec : {M : Type 1} → statement M
+sent-by-owner-spec =
+    tie.close
+    (tie.spec kind-requires owner-requires named-requires owner-requires-2 told-requires returns)
