@@ -7,7 +7,7 @@ use Rattle.refusals.proofs.hear.Statement.{statement}
 use Rattle.refusals.proofs.hear.Tie as tie
 
 well-formed-requires : tie.Need-well-formed-requires
-well-formed-requires c κs = search needs
+well-formed-requires c κs = tt
 
 enum-told : tie.Need-enum-told
 enum-told c = search needs
@@ -20,7 +20,7 @@ unfolding heard refusedEvent
 returns c = rw (sym (c .before .before .well-formed .ensures) ∙ ap passes (c .enum-told2 .given .1))
 
 known-requires : tie.Need-known-requires
-known-requires c κs = search needs
+known-requires c κs = c .before .before .before .before .pre
 
 enum-told-3 : tie.Need-enum-told-3
 enum-told-3 c = search needs
@@ -33,7 +33,7 @@ unfolding heard refusedEvent
 returns-2 c = rw (sym (c .before .before .before .before .before .well-formed .ensures) ∙ ap passes (c .before .before .before .enum-told .given .1), sym (c .before .before .known .ensures) ∙ ap passes (c .enum-told4 .given .1))
 
 sent-by-owner-requires : tie.Need-sent-by-owner-requires
-sent-by-owner-requires c κs = search needs
+sent-by-owner-requires c κs = c .before .before .before .before .before .before .before .pre
 
 enum-told-5 : tie.Need-enum-told-5
 enum-told-5 c = search needs

@@ -1,15 +1,14 @@
 -- `refusals::named` meets its contract: one answer for each kind of thing. Assumes nothing.
 use Rattle.rulebook.specs.Step.{named}
 use borrow.Author.Tests.{eq-eqb, ne-eqb}
-use borrow.Author.Needs.{needs}
 use Rattle.refusals.proofs.named.Statement.{statement}
 use Rattle.refusals.proofs.named.Tie as tie
 
 kind-requires : tie.Need-kind-requires
-kind-requires c κs = search needs
+kind-requires c κs = tt
 
 index-requires : tie.Need-index-requires
-index-requires c κs = search needs
+index-requires c κs = tt
 
 returns : tie.Need-returns
 unfolding named

@@ -8,28 +8,28 @@ enum-known-thing : tie.Need-enum-known-thing
 enum-known-thing c = search needs
 
 port-word-requires : tie.Need-port-word-requires
-port-word-requires c κs = search needs
+port-word-requires c κs = tt
 
 port-owner-requires : tie.Need-port-owner-requires
-port-owner-requires c κs = search needs
+port-owner-requires c κs = tt
 
 enum-known-thing-2 : tie.Need-enum-known-thing-2
 enum-known-thing-2 c = search needs
 
 network-word-requires : tie.Need-network-word-requires
-network-word-requires c κs = search needs
+network-word-requires c κs = c .before .before .before .before .pre
 
 network-owner-requires : tie.Need-network-owner-requires
-network-owner-requires c κs = search needs
+network-owner-requires c κs = tt
 
 enum-known-thing-3 : tie.Need-enum-known-thing-3
 enum-known-thing-3 c = search needs
 
 source-word-requires : tie.Need-source-word-requires
-source-word-requires c κs = search needs
+source-word-requires c κs = c .before .before .before .before .pre
 
 source-owner-requires : tie.Need-source-owner-requires
-source-owner-requires c κs = search needs
+source-owner-requires c κs = tt
 
 returns : tie.Need-returns
 unfolding ownerOf

@@ -1,23 +1,22 @@
 -- `refusals::sent_by_owner` meets its contract: the parts of the test are the rulebook's. Assumes nothing.
 use Rattle.rulebook.specs.Step.{sentByOwner}
-use borrow.Author.Needs.{needs}
 use Rattle.refusals.proofs.sent_by_owner.Statement.{statement}
 use Rattle.refusals.proofs.sent_by_owner.Tie as tie
 
 kind-requires : tie.Need-kind-requires
-kind-requires c κs = search needs
+kind-requires c κs = tt
 
 owner-requires : tie.Need-owner-requires
-owner-requires c κs = search needs
+owner-requires c κs = tt
 
 named-requires : tie.Need-named-requires
-named-requires c κs = search needs
+named-requires c κs = tt
 
 owner-requires-2 : tie.Need-owner-requires-2
-owner-requires-2 c κs = search needs
+owner-requires-2 c κs = c .before .before .before .before .pre
 
 told-requires : tie.Need-told-requires
-told-requires c κs = search needs
+told-requires c κs = tt
 
 returns : tie.Need-returns
 unfolding sentByOwner

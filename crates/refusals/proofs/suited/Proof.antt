@@ -2,24 +2,23 @@
 use Rattle.rulebook.specs.Step.{suited}
 use borrow.Author.Tests.{ne-eqb}
 use Rattle.refusals.proofs.Tests.{and-true}
-use borrow.Author.Needs.{needs}
 use Rattle.refusals.proofs.suited.Statement.{statement}
 use Rattle.refusals.proofs.suited.Tie as tie
 
 kind-requires : tie.Need-kind-requires
-kind-requires c κs = search needs
+kind-requires c κs = tt
 
 index-requires : tie.Need-index-requires
-index-requires c κs = search needs
+index-requires c κs = tt
 
 port-word-requires : tie.Need-port-word-requires
-port-word-requires c κs = search needs
+port-word-requires c κs = tt
 
 port-kind-requires : tie.Need-port-kind-requires
-port-kind-requires c κs = search needs
+port-kind-requires c κs = tt
 
 held-requires : tie.Need-held-requires
-held-requires c κs = search needs
+held-requires c κs = c .before .before .before .before .before .before .pre
 
 returns : tie.Need-returns
 unfolding suited

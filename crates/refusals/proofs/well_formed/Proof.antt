@@ -1,27 +1,26 @@
 -- `refusals::well_formed` meets its contract: the fields read are the rulebook's. Assumes nothing.
 use Rattle.rulebook.specs.Step.{wellFormed}
 use Rattle.refusals.proofs.Tests.{not-not}
-use borrow.Author.Needs.{needs}
 use Rattle.refusals.proofs.well_formed.Statement.{statement}
 use Rattle.refusals.proofs.well_formed.Tie as tie
 
 kind-requires : tie.Need-kind-requires
-kind-requires c κs = search needs
+kind-requires c κs = tt
 
 owner-requires : tie.Need-owner-requires
-owner-requires c κs = search needs
+owner-requires c κs = tt
 
 index-requires : tie.Need-index-requires
-index-requires c κs = search needs
+index-requires c κs = tt
 
 value-requires : tie.Need-value-requires
-value-requires c κs = search needs
+value-requires c κs = tt
 
 zero-requires : tie.Need-zero-requires
-zero-requires c κs = search needs
+zero-requires c κs = tt
 
 told-requires : tie.Need-told-requires
-told-requires c κs = search needs
+told-requires c κs = tt
 
 returns : tie.Need-returns
 unfolding wellFormed

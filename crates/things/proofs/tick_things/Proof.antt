@@ -5,13 +5,13 @@ use Rattle.things.proofs.tick_things.Statement.{statement}
 use Rattle.things.proofs.tick_things.Tie as tie
 
 tick-networks-requires : tie.Need-tick-networks-requires
-tick-networks-requires c κs = search needs
+tick-networks-requires c κs = c .before .before .before .pre
 
 tick-sources-requires : tie.Need-tick-sources-requires
-tick-sources-requires c κs = search needs
+tick-sources-requires c κs = c .before .before .before .before .before .before .before .pre
 
 tick-timers-requires : tie.Need-tick-timers-requires
-tick-timers-requires c κs = search needs
+tick-timers-requires c κs = c .before .before .before .before .before .before .before .before .before .before .before .pre
 
 same-length : tie.Need-same-length
 same-length c = search needs

@@ -6,19 +6,19 @@ use Rattle.things.proofs.networks.bus_off.Statement.{statement}
 use Rattle.things.proofs.networks.bus_off.Tie as tie
 
 network-in-requires : tie.Need-network-in-requires
-network-in-requires c κs = search needs
+network-in-requires c κs = c .before .before .before .pre
 
 takes-requires : tie.Need-takes-requires
-takes-requires c κs = search needs
+takes-requires c κs = tt
 
 counted-up-requires : tie.Need-counted-up-requires
-counted-up-requires c κs = search needs
+counted-up-requires c κs = tt
 
 off-bus-requires : tie.Need-off-bus-requires
-off-bus-requires c κs = search needs
+off-bus-requires c κs = c .before .before .before .before .before .before .before .pre
 
 move-network-requires : tie.Need-move-network-requires
-move-network-requires c κs = search needs
+move-network-requires c κs = c .before .before .before .before .before .before .before .before .before .pre
 
 same-length : tie.Need-same-length
 same-length c = search needs

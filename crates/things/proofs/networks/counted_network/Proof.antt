@@ -6,13 +6,13 @@ use Rattle.things.proofs.networks.counted_network.Statement.{statement}
 use Rattle.things.proofs.networks.counted_network.Tie as tie
 
 waits-word-requires : tie.Need-waits-word-requires
-waits-word-requires c κs = search needs
+waits-word-requires c κs = c .before .before .before .pre
 
 e-ticks-requires : tie.Need-e-ticks-requires
-e-ticks-requires c κs = search needs
+e-ticks-requires c κs = tt
 
 moved-requires : tie.Need-moved-requires
-moved-requires c κs = search needs
+moved-requires c κs = tt
 
 returns : tie.Need-returns
 unfolding countedNetwork
@@ -22,14 +22,14 @@ sub-moved : tie.Need-sub-moved
 sub-moved c = search needs
 
 moved-requires-2 : tie.Need-moved-requires-2
-moved-requires-2 c κs = search needs
+moved-requires-2 c κs = tt
 
 returns-2 : tie.Need-returns-2
 unfolding countedNetwork
 returns-2 c = rw (eq-eqb _ _ (c .before .before .if1 .taken), lt-leb _ _ (c .before .if2 .left)) (c .moved2 .ensures)
 
 moved-requires-3 : tie.Need-moved-requires-3
-moved-requires-3 c κs = search needs
+moved-requires-3 c κs = tt
 
 returns-3 : tie.Need-returns-3
 unfolding countedNetwork
@@ -39,7 +39,7 @@ sub-moved-2 : tie.Need-sub-moved-2
 sub-moved-2 c = search needs
 
 moved-requires-4 : tie.Need-moved-requires-4
-moved-requires-4 c κs = search needs
+moved-requires-4 c κs = tt
 
 returns-4 : tie.Need-returns-4
 unfolding countedNetwork

@@ -7,16 +7,16 @@ use Rattle.things.proofs.networks.move_network.Statement.{statement}
 use Rattle.things.proofs.networks.move_network.Tie as tie
 
 network-in-requires : tie.Need-network-in-requires
-network-in-requires c κs = search needs
+network-in-requires c κs = c .before .before .before .pre
 
 shown-requires : tie.Need-shown-requires
-shown-requires c κs = search needs
+shown-requires c κs = tt
 
 shown-requires-2 : tie.Need-shown-requires-2
-shown-requires-2 c κs = search needs
+shown-requires-2 c κs = tt
 
 set-network-requires : tie.Need-set-network-requires
-set-network-requires c κs = search needs
+set-network-requires c κs = c .before .before .before .before .before .before .before .pre
 
 same-length : tie.Need-same-length
 same-length c = search needs
@@ -26,13 +26,13 @@ unfolding moveNetwork
 returns c = rw (← same-state (c .before .before .before .before .before .before .before .network-in .ensures), ← c .before .before .before .before .before .before .shown .ensures, ← c .before .before .before .before .before .shown2 .ensures, eq-eqb _ _ (c .if1 .taken)) (c .before .before .before .set-network .ensures)
 
 network-word-requires : tie.Need-network-word-requires
-network-word-requires c κs = search needs
+network-word-requires c κs = c .before .before .before .before .before .before .before .before .before .before .before .pre
 
 network-port-requires : tie.Need-network-port-requires
-network-port-requires c κs = search needs
+network-port-requires c κs = tt
 
 set-port-requires : tie.Need-set-port-requires
-set-port-requires c κs = search needs
+set-port-requires c κs = tt
 
 same-length-2 : tie.Need-same-length-2
 same-length-2 c = search needs

@@ -1,14 +1,13 @@
 -- `things::networks::off_bus` meets its contract: it is a move to recover, with the wait that the counter gives. Assumes nothing.
 use Rattle.rulebook.specs.Events.{offBus}
-use borrow.Author.Needs.{needs}
 use Rattle.things.proofs.networks.off_bus.Statement.{statement}
 use Rattle.things.proofs.networks.off_bus.Tie as tie
 
 wait-requires : tie.Need-wait-requires
-wait-requires c κs = search needs
+wait-requires c κs = c .before .pre
 
 moved-requires : tie.Need-moved-requires
-moved-requires c κs = search needs
+moved-requires c κs = tt
 
 returns : tie.Need-returns
 unfolding offBus

@@ -5,13 +5,13 @@ use Rattle.things.proofs.networks.set_network.Statement.{statement}
 use Rattle.things.proofs.networks.set_network.Tie as tie
 
 network-index-requires : tie.Need-network-index-requires
-network-index-requires c κs = search needs
+network-index-requires c κs = c .before .before .pre
 
 pack-network-requires : tie.Need-pack-network-requires
-pack-network-requires c κs = search needs
+pack-network-requires c κs = tt
 
 put-requires : tie.Need-put-requires
-put-requires c κs = search needs
+put-requires c κs = tt
 
 same-length : tie.Need-same-length
 same-length c = search needs

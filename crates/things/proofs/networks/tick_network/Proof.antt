@@ -5,13 +5,13 @@ use Rattle.things.proofs.networks.tick_network.Statement.{statement}
 use Rattle.things.proofs.networks.tick_network.Tie as tie
 
 network-in-requires : tie.Need-network-in-requires
-network-in-requires c κs = search needs
+network-in-requires c κs = c .before .before .before .pre
 
 ticked-network-requires : tie.Need-ticked-network-requires
-ticked-network-requires c κs = search needs
+ticked-network-requires c κs = c .before .before .before .before .pre
 
 move-network-requires : tie.Need-move-network-requires
-move-network-requires c κs = search needs
+move-network-requires c κs = c .before .before .before .before .before .before .pre
 
 same-length : tie.Need-same-length
 same-length c = search needs

@@ -1,24 +1,23 @@
 -- `things::networks::wait` meets its contract: one answer for each side of the threshold. Assumes nothing.
 use Rattle.rulebook.specs.Events.{wait}
 use borrow.Author.Tests.{le-leb, lt-leb}
-use borrow.Author.Needs.{needs}
 use Rattle.things.proofs.networks.wait.Statement.{statement}
 use Rattle.things.proofs.networks.wait.Tie as tie
 
 network-word-requires : tie.Need-network-word-requires
-network-word-requires c κs = search needs
+network-word-requires c κs = c .before .pre
 
 network-threshold-requires : tie.Need-network-threshold-requires
-network-threshold-requires c κs = search needs
+network-threshold-requires c κs = tt
 
 waits-word-requires : tie.Need-waits-word-requires
-waits-word-requires c κs = search needs
+waits-word-requires c κs = c .before .before .before .pre
 
 short-wait-requires : tie.Need-short-wait-requires
-short-wait-requires c κs = search needs
+short-wait-requires c κs = tt
 
 long-wait-requires : tie.Need-long-wait-requires
-long-wait-requires c κs = search needs
+long-wait-requires c κs = tt
 
 returns : tie.Need-returns
 unfolding wait

@@ -5,13 +5,13 @@ use Rattle.things.proofs.ports.request_port.Statement.{statement}
 use Rattle.things.proofs.ports.request_port.Tie as tie
 
 port-word-requires : tie.Need-port-word-requires
-port-word-requires c κs = search needs
+port-word-requires c κs = tt
 
 port-deferred-requires : tie.Need-port-deferred-requires
-port-deferred-requires c κs = search needs
+port-deferred-requires c κs = tt
 
 set-port-requires : tie.Need-set-port-requires
-set-port-requires c κs = search needs
+set-port-requires c κs = tt
 
 same-length : tie.Need-same-length
 same-length c = search needs
@@ -23,7 +23,7 @@ returns c = record {
 }
 
 set-port-requires-2 : tie.Need-set-port-requires-2
-set-port-requires-2 c κs = search needs
+set-port-requires-2 c κs = tt
 
 same-length-2 : tie.Need-same-length-2
 same-length-2 c = search needs

@@ -5,10 +5,10 @@ use Rattle.things.proofs.ports.set_port.Statement.{statement}
 use Rattle.things.proofs.ports.set_port.Tie as tie
 
 pack-port-requires : tie.Need-pack-port-requires
-pack-port-requires c κs = search needs
+pack-port-requires c κs = tt
 
 put-requires : tie.Need-put-requires
-put-requires c κs = search needs
+put-requires c κs = tt
 
 same-length : tie.Need-same-length
 same-length c = search needs

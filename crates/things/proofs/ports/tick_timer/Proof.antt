@@ -6,31 +6,31 @@ use Rattle.things.proofs.ports.tick_timer.Statement.{statement}
 use Rattle.things.proofs.ports.tick_timer.Tie as tie
 
 port-word-requires : tie.Need-port-word-requires
-port-word-requires c κs = search needs
+port-word-requires c κs = tt
 
 port-kind-requires : tie.Need-port-kind-requires
-port-kind-requires c κs = search needs
+port-kind-requires c κs = tt
 
 word-requires : tie.Need-word-requires
-word-requires c κs = search needs
+word-requires c κs = tt
 
 marked-requires : tie.Need-marked-requires
-marked-requires c κs = search needs
+marked-requires c κs = tt
 
 value-requires : tie.Need-value-requires
-value-requires c κs = search needs
+value-requires c κs = tt
 
 remaining-requires : tie.Need-remaining-requires
-remaining-requires c κs = search needs
+remaining-requires c κs = tt
 
 set-port-requires : tie.Need-set-port-requires
-set-port-requires c κs = search needs
+set-port-requires c κs = tt
 
 sub-set-port : tie.Need-sub-set-port
 sub-set-port c = search needs
 
 set-port-requires-2 : tie.Need-set-port-requires-2
-set-port-requires-2 c κs = search needs
+set-port-requires-2 c κs = tt
 
 same-length : tie.Need-same-length
 same-length c = search needs

@@ -5,7 +5,7 @@ use Rattle.things.proofs.sources.clear.Statement.{statement}
 use Rattle.things.proofs.sources.clear.Tie as tie
 
 move-source-requires : tie.Need-move-source-requires
-move-source-requires c κs = search needs
+move-source-requires c κs = c .before .before .before .pre
 
 same-length : tie.Need-same-length
 same-length c = search needs

@@ -6,10 +6,10 @@ use Rattle.things.proofs.sources.move_source.Statement.{statement}
 use Rattle.things.proofs.sources.move_source.Tie as tie
 
 source-status-requires : tie.Need-source-status-requires
-source-status-requires c κs = search needs
+source-status-requires c κs = c .before .before .before .pre
 
 set-source-requires : tie.Need-set-source-requires
-set-source-requires c κs = search needs
+set-source-requires c κs = c .before .before .before .before .before .pre
 
 same-length : tie.Need-same-length
 same-length c = search needs
@@ -19,13 +19,13 @@ unfolding moveSource
 returns c = rw (← c .before .before .before .before .before .source-status .ensures .value, eq-eqb _ _ (c .if1 .taken)) (c .before .before .before .set-source .ensures)
 
 source-word-requires : tie.Need-source-word-requires
-source-word-requires c κs = search needs
+source-word-requires c κs = c .before .before .before .before .before .before .before .before .before .pre
 
 source-port-requires : tie.Need-source-port-requires
-source-port-requires c κs = search needs
+source-port-requires c κs = tt
 
 set-port-requires : tie.Need-set-port-requires
-set-port-requires c κs = search needs
+set-port-requires c κs = tt
 
 same-length-2 : tie.Need-same-length-2
 same-length-2 c = search needs

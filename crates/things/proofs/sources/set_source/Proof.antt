@@ -5,13 +5,13 @@ use Rattle.things.proofs.sources.set_source.Statement.{statement}
 use Rattle.things.proofs.sources.set_source.Tie as tie
 
 source-index-requires : tie.Need-source-index-requires
-source-index-requires c κs = search needs
+source-index-requires c κs = c .before .before .pre
 
 pack-source-requires : tie.Need-pack-source-requires
-pack-source-requires c κs = search needs
+pack-source-requires c κs = tt
 
 put-requires : tie.Need-put-requires
-put-requires c κs = search needs
+put-requires c κs = tt
 
 same-length : tie.Need-same-length
 same-length c = search needs

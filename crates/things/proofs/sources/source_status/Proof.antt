@@ -1,16 +1,15 @@
 -- `things::sources::source_status` meets its contract: the field read is the rulebook's. Assumes nothing.
-use borrow.Author.Needs.{needs}
 use Rattle.things.proofs.sources.source_status.Statement.{statement}
 use Rattle.things.proofs.sources.source_status.Tie as tie
 
 source-index-requires : tie.Need-source-index-requires
-source-index-requires c κs = search needs
+source-index-requires c κs = c .before .before .pre
 
 word-requires : tie.Need-word-requires
-word-requires c κs = search needs
+word-requires c κs = tt
 
 status-requires : tie.Need-status-requires
-status-requires c κs = search needs
+status-requires c κs = tt
 
 returns : tie.Need-returns
 returns c = rw (← c .before .before .source-index .ensures, ← c .before .word .ensures) (c .status .ensures)

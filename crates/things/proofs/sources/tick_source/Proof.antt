@@ -6,25 +6,25 @@ use Rattle.things.proofs.sources.tick_source.Statement.{statement}
 use Rattle.things.proofs.sources.tick_source.Tie as tie
 
 source-index-requires : tie.Need-source-index-requires
-source-index-requires c κs = search needs
+source-index-requires c κs = c .before .before .pre
 
 word-requires : tie.Need-word-requires
-word-requires c κs = search needs
+word-requires c κs = tt
 
 status-requires : tie.Need-status-requires
-status-requires c κs = search needs
+status-requires c κs = tt
 
 remaining-requires : tie.Need-remaining-requires
-remaining-requires c κs = search needs
+remaining-requires c κs = tt
 
 move-source-requires : tie.Need-move-source-requires
-move-source-requires c κs = search needs
+move-source-requires c κs = c .before .before .before .before .before .before .before .before .before .before .pre
 
 sub-move-source : tie.Need-sub-move-source
 sub-move-source c = search needs
 
 move-source-requires-2 : tie.Need-move-source-requires-2
-move-source-requires-2 c κs = search needs
+move-source-requires-2 c κs = c .before .before .before .before .before .before .before .before .before .before .pre
 
 same-length : tie.Need-same-length
 same-length c = search needs

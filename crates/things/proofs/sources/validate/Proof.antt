@@ -6,10 +6,10 @@ use Rattle.things.proofs.sources.validate.Statement.{statement}
 use Rattle.things.proofs.sources.validate.Tie as tie
 
 source-status-requires : tie.Need-source-status-requires
-source-status-requires c κs = search needs
+source-status-requires c κs = c .before .before .before .pre
 
 move-source-requires : tie.Need-move-source-requires
-move-source-requires c κs = search needs
+move-source-requires c κs = c .before .before .before .before .before .before .pre
 
 same-length : tie.Need-same-length
 same-length c = search needs

@@ -5,19 +5,19 @@ use Rattle.things.proofs.sources.wake.Statement.{statement}
 use Rattle.things.proofs.sources.wake.Tie as tie
 
 source-status-requires : tie.Need-source-status-requires
-source-status-requires c κs = search needs
+source-status-requires c κs = c .before .before .before .pre
 
 source-word-requires : tie.Need-source-word-requires
-source-word-requires c κs = search needs
+source-word-requires c κs = c .before .before .before .before .before .pre
 
 source-timeout-requires : tie.Need-source-timeout-requires
-source-timeout-requires c κs = search needs
+source-timeout-requires c κs = tt
 
 woken-requires : tie.Need-woken-requires
-woken-requires c κs = search needs
+woken-requires c κs = tt
 
 move-source-requires : tie.Need-move-source-requires
-move-source-requires c κs = search needs
+move-source-requires c κs = c .before .before .before .before .before .before .before .before .before .pre
 
 same-length : tie.Need-same-length
 same-length c = search needs
