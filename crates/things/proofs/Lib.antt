@@ -1,3 +1,4 @@
 -- Laws that belong to no one function.
 pub mod Parts
 pub mod Requests
+pub mod Changes

@@ -15,4 +15,4 @@ pub request-goes : (t : List ℕ) (p value : ℕ) (s after : List ℕ) (immediat
     → request t p value s ≡ cond immediate (arbitrate t (only p) after) (start after)
 unfolding request
 request-goes t p value s after immediate r =
-    split (eqb (deferred t p) 1) (λ y. rw (r .written, r .now, y)) (λ y. rw (r .written, r .now, y))
+    split (eqb (deferred t p) 1) (λ y. rw (r .written, r .answered, y)) (λ y. rw (r .written, r .answered, y))

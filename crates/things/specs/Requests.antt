@@ -10,4 +10,4 @@ use Rattle.rulebook.specs.Lists.{setPort}
 -- s and after are the state before and after the write
 pub record Requested (t : List ℕ) (p value : ℕ) (s after : List ℕ) (immediate : Bool) : Type 0 where
   pub written : after ≡ cond (eqb (deferred t p) 1) (setPort p 1 value 0 s) (setPort p 0 value 0 s)
-  pub now : immediate ≡ not (eqb (deferred t p) 1)
+  pub answered : immediate ≡ not (eqb (deferred t p) 1)

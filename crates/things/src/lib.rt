@@ -4,6 +4,7 @@ ghost use Rattle.rulebook.specs.Words.{each};
 ghost use Rattle.rulebook.specs.Table.{ports as portsOf, networks as networksOf, sources as sourcesOf};
 ghost use Rattle.rulebook.specs.Events.{tickNetwork, tickSource, tickTimer, tickThings};
 ghost use Rattle.words.specs.Sections.{Laid};
+ghost use Rattle.things.specs.Changes.{changed};
 use words::sections::Layout;
 
 pub mod networks;
@@ -54,4 +55,17 @@ pub fn tick_things(t: &[u32], h: Layout, s: &mut [u32])
     tick_networks(t, h, s);
     tick_sources(t, h, s);
     tick_timers(t, h, s);
+}
+
+// What an event that asks for no arbitration does, by its kind and the number of its thing.
+pub fn change(t: &[u32], h: Layout, s: &mut [u32], kind: u32, i: u32)
+    requires { ⌜ Laid (now t) h ⌝ }
+    ensures { λ _. ⌜ now (s .exit) ≡ changed (now (t .entry)) kind i (now (s .entry)) ⌝ }
+{
+    match kind {
+        3 => sources::wake(t, h, s, i),
+        4 => sources::validate(t, h, s, i),
+        5 => networks::bus_off(t, h, s, i),
+        _ => sources::clear(t, h, s, i),
+    }
 }

@@ -19,7 +19,7 @@ same-length c = search needs
 returns : tie.Need-returns
 returns c = record {
   written = rw (← c .before .before .before .before .before .before .port-word .ensures, ← c .before .before .before .before .before .port-deferred .ensures .value, eq-eqb _ _ (c .before .before .before .before .if1 .taken)) (c .before .before .set-port .ensures);
-  now = rw (← c .before .before .before .before .before .before .port-word .ensures, ← c .before .before .before .before .before .port-deferred .ensures .value, eq-eqb _ _ (c .before .before .before .before .if1 .taken));
+  answered = rw (← c .before .before .before .before .before .before .port-word .ensures, ← c .before .before .before .before .before .port-deferred .ensures .value, eq-eqb _ _ (c .before .before .before .before .if1 .taken));
 }
 
 set-port-requires-2 : tie.Need-set-port-requires-2
@@ -31,7 +31,7 @@ same-length-2 c = search needs
 returns-2 : tie.Need-returns-2
 returns-2 c = record {
   written = rw (← c .before .before .before .before .before .before .port-word .ensures, ← c .before .before .before .before .before .port-deferred .ensures .value, ne-eqb _ _ (c .before .before .before .before .if1 .left)) (c .before .before .set-port2 .ensures);
-  now = rw (← c .before .before .before .before .before .before .port-word .ensures, ← c .before .before .before .before .before .port-deferred .ensures .value, ne-eqb _ _ (c .before .before .before .before .if1 .left));
+  answered = rw (← c .before .before .before .before .before .before .port-word .ensures, ← c .before .before .before .before .before .port-deferred .ensures .value, ne-eqb _ _ (c .before .before .before .before .if1 .left));
 }
 
 pub request-port-spec : {M : Type 1} → statement M

@@ -1,0 +1,63 @@
+-- `things::change` meets its contract: one answer for each kind. Assumes nothing.
+use borrow.Author.Tests.{ne-eqb}
+use Rattle.things.specs.Changes.{changed}
+use borrow.Author.Needs.{needs}
+use Rattle.things.proofs.change.Statement.{statement}
+use Rattle.things.proofs.change.Tie as tie
+
+wake-requires : tie.Need-wake-requires
+wake-requires c κs = c .before .before .before .before .pre
+
+validate-requires : tie.Need-validate-requires
+validate-requires c κs = c .before .before .before .before .pre
+
+bus-off-requires : tie.Need-bus-off-requires
+bus-off-requires c κs = c .before .before .before .before .pre
+
+clear-requires : tie.Need-clear-requires
+clear-requires c κs = c .before .before .before .before .pre
+
+same-length : tie.Need-same-length
+same-length c = search needs
+
+returns : tie.Need-returns
+unfolding changed
+returns c = rw (c .before .before .before .before .match .keys1) (c .before .before .wake .ensures)
+
+same-length-2 : tie.Need-same-length-2
+same-length-2 c = search needs
+
+returns-2 : tie.Need-returns-2
+unfolding changed
+returns-2 c = rw (c .before .before .before .before .match .keys2) (c .before .before .validate .ensures)
+
+same-length-3 : tie.Need-same-length-3
+same-length-3 c = search needs
+
+returns-3 : tie.Need-returns-3
+unfolding changed
+returns-3 c = rw (c .before .before .before .before .match .keys3) (c .before .before .bus-off .ensures)
+
+same-length-4 : tie.Need-same-length-4
+same-length-4 c = search needs
+
+returns-4 : tie.Need-returns-4
+unfolding changed
+returns-4 c = rw (ne-eqb _ _ (c .before .before .before .before .match .rest .0 .0 .1), ne-eqb _ _ (c .before .before .before .before .match .rest .0 .1), ne-eqb _ _ (c .before .before .before .before .match .rest .1)) (c .before .before .clear .ensures)
+
+pub change-spec : {M : Type 1} → statement M
+change-spec =
+    tie.close
+    (tie.spec
+    wake-requires
+    validate-requires
+    bus-off-requires
+    clear-requires
+    same-length
+    returns
+    same-length-2
+    returns-2
+    same-length-3
+    returns-3
+    same-length-4
+    returns-4)
