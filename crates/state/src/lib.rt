@@ -2,10 +2,14 @@
 ghost use mathlib.Core.Path.{_≡_};
 ghost use Prim.Native.Nat.{_<_, max};
 ghost use lib.ListN.{length};
-ghost use Rattle.rulebook.specs.Words.{all};
-ghost use Rattle.rulebook.specs.State.{portFits, ruleFits, networkFits, sourceFits, thing, thingFits, fits as fitsOf, freshPort, packRule, freshThing, stateLength};
+ghost use Rattle.rulebook.specs.State.{portFits, ruleFits, networkFits, sourceFits, thing, thingFits, fits as fitsOf, freshPort, packRule, freshThing, fresh as freshOf, stateLength};
+ghost use Rattle.rulebook.specs.Table.{firstResult};
 ghost use Rattle.words.specs.Sections.{Laid};
 ghost use Rattle.state.specs.Things.{thingOf};
+ghost use Rattle.state.specs.Made.{Fresh};
+use table::Checked;
+use table::check;
+use words::put;
 use words::sections;
 use words::sections::Layout;
 use words::sections::read_layout;
@@ -158,4 +162,79 @@ pub fn fits(t: &[u32], s: &[u32]) -> bool
         i += 1;
     }
     true
+}
+
+fn fresh_port(t: &[u32], p: u32) -> u32
+    ensures { λ r. ⌜ r ≡ freshPort (now (t .entry)) p ⌝ }
+{
+    let w = sections::port_word(t, p);
+    let kind = table_words::port_kind(w);
+    let has_initial = table_words::port_has_initial(w);
+    let initial = table_words::port_initial(w);
+    if has_initial == 1 {
+        return state_words::pack_port(1, 0, initial, 0);
+    }
+    if kind == 0 {
+        return state_words::pack_port(0, 0, 0, 0);
+    }
+    state_words::pack_port(1, 0, 0, 0)
+}
+
+fn fresh_rule(t: &[u32], h: Layout, r: u32) -> u32
+    requires { ⌜ Laid (now t) h ⌝ }
+    ensures { λ w. ⌜ w ≡ packRule (firstResult (now (t .entry)) r) ⌝ }
+{
+    let w = sections::rule_word(t, h, r);
+    state_words::pack_rule(table_words::first_result(w))
+}
+
+// A thing's word in a fresh state.
+fn fresh_word(t: &[u32], h: Layout, thing: Thing) -> u32
+    requires { ⌜ Laid (now t) h ⌝ }
+    ensures { λ r. ⌜ r ≡ freshThing (now (t .entry)) (thingOf thing) ⌝ }
+{
+    match thing {
+        Thing::Port(p) => fresh_port(t, p),
+        Thing::Rule(r) => fresh_rule(t, h, r),
+        Thing::Network(_) => 0,
+        Thing::Source(_) => 0,
+    }
+}
+
+fn write_fresh(t: &[u32], h: Layout, s: &mut [u32])
+    requires { ⌜ Laid (now t) h × (length (now s) ≡ stateLength (now t)) ⌝ }
+    ensures { λ _. ⌜ now (s .exit) ≡ freshOf (now (t .entry)) ⌝ }
+{
+    let end = s.len();
+    let mut i: usize = 0;
+    while i < end {
+        let thing = thing_at(t, h, i);
+        let w = fresh_word(t, h, thing);
+        put(s, i, w);
+        i += 1;
+    }
+}
+
+// What making a fresh state answers.
+pub enum Made {
+    Done,
+    BadTable,
+    WrongLength,
+}
+
+// Makes a fresh state of the table in the lent words, or refuses and writes nothing.
+pub fn fresh(t: &[u32], s: &mut [u32]) -> Made
+    ensures { λ r. ⌜ Fresh (now (t .entry)) (now (s .entry)) r (now (s .exit)) ⌝ }
+{
+    let checked = check(t);
+    let Checked::Accepted(_) = checked else {
+        return Made::BadTable;
+    };
+    let h = read_layout(t);
+    let end = state_length(t, h);
+    if s.len() != end {
+        return Made::WrongLength;
+    }
+    write_fresh(t, h, s);
+    Made::Done
 }
