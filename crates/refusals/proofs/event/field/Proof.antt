@@ -1,0 +1,20 @@
+-- `refusals::event::field` meets its contract: a remainder is below its divisor. Assumes nothing.
+use Rattle.rulebook.specs.Words.{digit}
+use native.Mathlib.Nat.{mod-lt}
+use mathlib.Core.Path.{refl}
+use borrow.Author.Needs.{needs}
+use Rattle.refusals.proofs.event.field.Statement.{statement}
+use Rattle.refusals.proofs.event.field.Tie as tie
+
+div-result : tie.Need-div-result
+div-result c = search needs
+
+rem-result : tie.Need-rem-result
+rem-result c = search needs
+
+returns : tie.Need-returns
+unfolding digit
+returns c = record { value = refl; small = mod-lt _ (c .pre .1) }
+
+pub field-spec : {M : Type 1} → statement M
+field-spec = tie.close (tie.spec div-result rem-result returns)

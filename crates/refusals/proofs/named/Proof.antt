@@ -1,0 +1,26 @@
+-- `refusals::named` meets its contract: one answer for each kind of thing. Assumes nothing.
+use Rattle.rulebook.specs.Step.{named}
+use borrow.Author.Tests.{eq-eqb, ne-eqb}
+use Rattle.refusals.proofs.named.Statement.{statement}
+use Rattle.refusals.proofs.named.Tie as tie
+
+kind-requires : tie.Need-kind-requires
+kind-requires c κs = tt
+
+index-requires : tie.Need-index-requires
+index-requires c κs = tt
+
+returns : tie.Need-returns
+unfolding named
+returns c = rw (← c .before .before .kind .ensures .value, ← c .before .index .ensures .value, c .if1 .taken)
+
+returns-2 : tie.Need-returns-2
+unfolding named
+returns-2 c = rw (← c .before .before .before .kind .ensures .value, ← c .before .before .index .ensures .value, c .before .if1 .left, eq-eqb _ _ (c .if2 .taken))
+
+returns-3 : tie.Need-returns-3
+unfolding named
+returns-3 c = rw (← c .before .before .before .kind .ensures .value, ← c .before .before .index .ensures .value, c .before .if1 .left, ne-eqb _ _ (c .if2 .left))
+
+pub named-spec : {M : Type 1} → statement M
+named-spec = tie.close (tie.spec kind-requires index-requires returns returns-2 returns-3)

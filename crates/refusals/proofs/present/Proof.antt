@@ -1,0 +1,31 @@
+-- `refusals::present` meets its contract: the counts read are the rulebook's, arm by arm. Assumes nothing.
+use Rattle.rulebook.specs.Step.{present}
+use borrow.Author.Needs.{needs}
+use Rattle.refusals.proofs.present.Statement.{statement}
+use Rattle.refusals.proofs.present.Tie as tie
+
+enum-known-thing : tie.Need-enum-known-thing
+enum-known-thing c = search needs
+
+enum-known-thing-2 : tie.Need-enum-known-thing-2
+enum-known-thing-2 c = search needs
+
+enum-known-thing-3 : tie.Need-enum-known-thing-3
+enum-known-thing-3 c = search needs
+
+returns : tie.Need-returns
+unfolding present
+returns c = rw (c .before .thing .given .1, c .before .before .before .pre .ports .value)
+
+returns-2 : tie.Need-returns-2
+unfolding present
+returns-2 c = rw (c .before .thing2 .given .1, c .before .before .before .pre .networks .value)
+
+returns-3 : tie.Need-returns-3
+unfolding present
+returns-3 c = rw (c .before .thing3 .given .1, c .before .before .before .pre .sources .value)
+
+pub present-spec : {M : Type 1} → statement M
+present-spec =
+    tie.close
+    (tie.spec enum-known-thing enum-known-thing-2 enum-known-thing-3 returns returns-2 returns-3)

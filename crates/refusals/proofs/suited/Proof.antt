@@ -1,0 +1,46 @@
+-- `refusals::suited` meets its contract: one answer for kind 1, one for kind 2 and one for the others. Assumes nothing.
+use Rattle.rulebook.specs.Step.{suited}
+use borrow.Author.Tests.{ne-eqb}
+use Rattle.refusals.proofs.Tests.{and-true}
+use Rattle.refusals.proofs.suited.Statement.{statement}
+use Rattle.refusals.proofs.suited.Tie as tie
+
+kind-requires : tie.Need-kind-requires
+kind-requires c κs = tt
+
+index-requires : tie.Need-index-requires
+index-requires c κs = tt
+
+port-word-requires : tie.Need-port-word-requires
+port-word-requires c κs = tt
+
+port-kind-requires : tie.Need-port-kind-requires
+port-kind-requires c κs = tt
+
+held-requires : tie.Need-held-requires
+held-requires c κs = c .before .before .before .before .before .before .pre
+
+returns : tie.Need-returns
+unfolding suited
+returns c = rw (← c .before .before .before .before .index .ensures .value, ← c .before .before .before .port-word .ensures, ← c .before .before .port-kind .ensures .value, ← c .before .before .before .before .before .kind .ensures .value, c .before .if1 .taken, ← c .before .before .before .before .before .before .before .pre .networks .value, ← c .before .before .before .before .before .before .before .pre .sources .value, ← c .held .ensures, and-true)
+
+returns-2 : tie.Need-returns-2
+unfolding suited
+returns-2 c = rw (← c .before .before .before .before .index .ensures .value, ← c .before .before .before .port-word .ensures, ← c .before .before .port-kind .ensures .value, ← c .before .before .before .before .before .kind .ensures .value, c .if2 .taken)
+
+returns-3 : tie.Need-returns-3
+unfolding suited
+returns-3 c = rw (← c .before .before .before .before .before .kind .ensures .value, ne-eqb _ _ (c .before .if1 .left), ne-eqb _ _ (c .if2 .left))
+
+pub suited-spec : {M : Type 1} → statement M
+suited-spec =
+    tie.close
+    (tie.spec
+    kind-requires
+    index-requires
+    port-word-requires
+    port-kind-requires
+    held-requires
+    returns
+    returns-2
+    returns-3)

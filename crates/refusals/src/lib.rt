@@ -1,0 +1,163 @@
+// Answers 4, 5 and 6: an event that is refused, by its word and the table alone.
+ghost use mathlib.Core.Path.{_≡_};
+ghost use Rattle.rulebook.specs.State.{ownerOf};
+ghost use Rattle.rulebook.specs.Step.{wellFormed, named as namedOf, present as presentOf, suited as suitedOf};
+ghost use Rattle.rulebook.specs.Step.{known as knownOf, sentByOwner};
+ghost use Rattle.words.specs.Sections.{Laid};
+ghost use Rattle.refusals.specs.Answers.{passes, answerOf, heard};
+ghost use Rattle.refusals.specs.Things.{thingOf};
+use names::held;
+use words::sections;
+use words::sections::Layout;
+use words::table;
+
+pub mod event;
+
+// The thing that an event other than a tick names.
+enum Thing {
+    Port(u32),
+    Network(u32),
+    Source(u32),
+}
+
+fn named(e: u32) -> Thing
+    ensures { λ r. ⌜ thingOf r ≡ namedOf e ⌝ }
+{
+    let kind = event::kind(e);
+    let index = event::index(e);
+    let of_port = (kind == 1) | (kind == 2);
+    if of_port {
+        return Thing::Port(index);
+    }
+    if kind == 5 {
+        return Thing::Network(index);
+    }
+    Thing::Source(index)
+}
+
+fn present(t: &[u32], h: Layout, thing: Thing) -> bool
+    requires { ⌜ Laid (now t) h ⌝ }
+    ensures { λ r. ⌜ r ≡ presentOf (now (t .entry)) (thingOf thing) ⌝ }
+{
+    let ports = h.ports;
+    let networks = h.networks;
+    let sources = h.sources;
+    match thing {
+        Thing::Port(p) => p < ports,
+        Thing::Network(n) => n < networks,
+        Thing::Source(k) => k < sources,
+    }
+}
+
+fn owner(t: &[u32], h: Layout, thing: Thing) -> u32
+    requires { ⌜ Laid (now t) h ⌝ }
+    ensures { λ r. ⌜ r ≡ ownerOf (now (t .entry)) (thingOf thing) ⌝ }
+{
+    match thing {
+        Thing::Port(p) => table::port_owner(sections::port_word(t, p)),
+        Thing::Network(n) => table::network_owner(sections::network_word(t, h, n)),
+        Thing::Source(k) => table::source_owner(sections::source_word(t, h, k)),
+    }
+}
+
+// Kind 1 wants a mode port that no network or source has, kind 2 an event port.
+fn suited(t: &[u32], h: Layout, e: u32) -> bool
+    requires { ⌜ Laid (now t) h ⌝ }
+    ensures { λ r. ⌜ r ≡ suitedOf (now (t .entry)) e ⌝ }
+{
+    let kind = event::kind(e);
+    let p = event::index(e);
+    let port_kind = table::port_kind(sections::port_word(t, p));
+    if kind == 1 {
+        let taken = held(t, h, p, h.networks, h.sources);
+        return (port_kind == 0) & !taken;
+    }
+    if kind == 2 {
+        return port_kind == 1;
+    }
+    true
+}
+
+// What one of the checks says.
+pub enum Check {
+    Passed,
+    Failed,
+}
+
+fn told(ok: bool) -> Check
+    ensures { λ r. ⌜ passes r ≡ ok ⌝ }
+{
+    if ok { Check::Passed } else { Check::Failed }
+}
+
+fn well_formed(e: u32) -> Check
+    ensures { λ r. ⌜ passes r ≡ wellFormed e ⌝ }
+{
+    let kind = event::kind(e);
+    let owner = event::owner(e);
+    let index = event::index(e);
+    let value = event::value(e);
+    let zero = event::zero(e);
+    told(
+        (kind <= 6)
+            & (zero == 0)
+            & (!(kind == 0) | (owner == 0) & (index == 0))
+            & ((kind == 1) | (value == 0)),
+    )
+}
+
+fn known(t: &[u32], h: Layout, e: u32) -> Check
+    requires { ⌜ Laid (now t) h ⌝ }
+    ensures { λ r. ⌜ passes r ≡ knownOf (now (t .entry)) e ⌝ }
+{
+    let kind = event::kind(e);
+    let there = present(t, h, named(e));
+    let fit = suited(t, h, e);
+    told((kind == 0) | there & fit)
+}
+
+fn sent_by_owner(t: &[u32], h: Layout, e: u32) -> Check
+    requires { ⌜ Laid (now t) h ⌝ }
+    ensures { λ r. ⌜ passes r ≡ sentByOwner (now (t .entry)) e ⌝ }
+{
+    let kind = event::kind(e);
+    let sender = event::owner(e);
+    let owner = owner(t, h, named(e));
+    told((kind == 0) | (sender == owner))
+}
+
+// What the checks of an event come to: it is taken, or refused with document 01's number.
+pub enum Heard {
+    Taken,
+    Refused(u32),
+}
+
+// The number of an answer.
+pub fn answer(heard: Heard) -> u32
+    ensures { λ r. ⌜ r ≡ answerOf heard ⌝ }
+{
+    match heard {
+        Heard::Taken => 0,
+        Heard::Refused(k) => k,
+    }
+}
+
+// The first check that fails ends the call with its number.
+pub fn hear(t: &[u32], h: Layout, e: u32) -> Heard
+    requires { ⌜ Laid (now t) h ⌝ }
+    ensures { λ r. ⌜ r ≡ heard (now (t .entry)) e ⌝ }
+{
+    let form = well_formed(e);
+    let Check::Passed = form else {
+        return Heard::Refused(4);
+    };
+    let thing = known(t, h, e);
+    let Check::Passed = thing else {
+        return Heard::Refused(5);
+    };
+    let sender = sent_by_owner(t, h, e);
+    let Check::Passed = sender else {
+        return Heard::Refused(6);
+    };
+    Heard::Taken
+}

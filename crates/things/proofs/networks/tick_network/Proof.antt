@@ -1,0 +1,31 @@
+-- `things::networks::tick_network` meets its contract: it is a move to what the tick makes of the network. Assumes nothing.
+use Rattle.rulebook.specs.Events.{tickNetwork}
+use borrow.Author.Needs.{needs}
+use Rattle.things.proofs.networks.tick_network.Statement.{statement}
+use Rattle.things.proofs.networks.tick_network.Tie as tie
+
+network-in-requires : tie.Need-network-in-requires
+network-in-requires c κs = c .before .before .before .pre
+
+ticked-network-requires : tie.Need-ticked-network-requires
+ticked-network-requires c κs = c .before .before .before .before .pre
+
+move-network-requires : tie.Need-move-network-requires
+move-network-requires c κs = c .before .before .before .before .before .before .pre
+
+same-length : tie.Need-same-length
+same-length c = search needs
+
+returns : tie.Need-returns
+unfolding tickNetwork
+returns c = rw (← c .before .before .before .before .before .network-in .ensures, ← c .before .before .before .before .ticked-network .ensures) (c .before .before .move-network .ensures)
+
+pub tick-network-spec : {M : Type 1} → statement M
+tick-network-spec =
+    tie.close
+    (tie.spec
+    network-in-requires
+    ticked-network-requires
+    move-network-requires
+    same-length
+    returns)

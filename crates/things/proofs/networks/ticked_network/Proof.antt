@@ -1,0 +1,54 @@
+-- `things::networks::ticked_network` meets its contract: one answer for each thing that a tick can do, by the tests that led there. Assumes nothing.
+use Rattle.rulebook.specs.Events.{tickedNetwork}
+use borrow.Author.Tests.{eq-eqb, ne-eqb}
+use Rattle.things.proofs.networks.ticked_network.Statement.{statement}
+use Rattle.things.proofs.networks.ticked_network.Tie as tie
+
+moved-requires : tie.Need-moved-requires
+moved-requires c κs = tt
+
+returns : tie.Need-returns
+unfolding tickedNetwork
+returns c = rw (eq-eqb _ _ (c .before .if1 .taken)) (c .moved .ensures)
+
+moved-requires-2 : tie.Need-moved-requires-2
+moved-requires-2 c κs = tt
+
+returns-2 : tie.Need-returns-2
+unfolding tickedNetwork
+returns-2 c = rw (ne-eqb _ _ (c .before .before .if1 .left), c .before .if2 .taken) (c .moved2 .ensures)
+
+waits-word-requires : tie.Need-waits-word-requires
+waits-word-requires c κs = c .before .before .before .before .pre
+
+e-ticks-requires : tie.Need-e-ticks-requires
+e-ticks-requires c κs = tt
+
+moved-requires-3 : tie.Need-moved-requires-3
+moved-requires-3 c κs = tt
+
+returns-3 : tie.Need-returns-3
+unfolding tickedNetwork
+returns-3 c = rw (ne-eqb _ _ (c .before .before .before .before .before .if1 .left), c .before .before .before .before .if2 .left, c .before .before .before .if3 .taken, ← c .before .before .waits-word .ensures, ← c .before .e-ticks .ensures .value) (c .moved3 .ensures)
+
+counted-network-requires : tie.Need-counted-network-requires
+counted-network-requires c κs = c .before .before .before .before .pre
+
+returns-4 : tie.Need-returns-4
+unfolding tickedNetwork
+returns-4 c = rw (ne-eqb _ _ (c .before .before .before .if1 .left), c .before .before .if2 .left, c .before .if3 .left) (c .counted-network .ensures)
+
+pub ticked-network-spec : {M : Type 1} → statement M
+ticked-network-spec =
+    tie.close
+    (tie.spec
+    moved-requires
+    returns
+    moved-requires-2
+    returns-2
+    waits-word-requires
+    e-ticks-requires
+    moved-requires-3
+    returns-3
+    counted-network-requires
+    returns-4)

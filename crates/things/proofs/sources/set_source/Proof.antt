@@ -1,0 +1,26 @@
+-- `things::sources::set_source` meets its contract: the word packed is the one that the rulebook sets. Assumes nothing.
+use Rattle.rulebook.specs.Events.{setSource}
+use borrow.Author.Needs.{needs}
+use Rattle.things.proofs.sources.set_source.Statement.{statement}
+use Rattle.things.proofs.sources.set_source.Tie as tie
+
+source-index-requires : tie.Need-source-index-requires
+source-index-requires c κs = c .before .before .pre
+
+pack-source-requires : tie.Need-pack-source-requires
+pack-source-requires c κs = tt
+
+put-requires : tie.Need-put-requires
+put-requires c κs = tt
+
+same-length : tie.Need-same-length
+same-length c = search needs
+
+returns : tie.Need-returns
+unfolding setSource
+returns c = rw (← c .before .before .before .before .before .source-index .ensures, ← c .before .before .before .before .pack-source .ensures) (c .before .before .put .ensures)
+
+pub set-source-spec : {M : Type 1} → statement M
+set-source-spec =
+    tie.close
+    (tie.spec source-index-requires pack-source-requires put-requires same-length returns)

@@ -1,0 +1,37 @@
+-- `things::sources::validate` meets its contract: one answer for a pending source and one for the others. Assumes nothing.
+use Rattle.rulebook.specs.Events.{validate}
+use borrow.Author.Tests.{eq-eqb, ne-eqb}
+use borrow.Author.Needs.{needs}
+use Rattle.things.proofs.sources.validate.Statement.{statement}
+use Rattle.things.proofs.sources.validate.Tie as tie
+
+source-status-requires : tie.Need-source-status-requires
+source-status-requires c κs = c .before .before .before .pre
+
+move-source-requires : tie.Need-move-source-requires
+move-source-requires c κs = c .before .before .before .before .before .before .pre
+
+same-length : tie.Need-same-length
+same-length c = search needs
+
+returns : tie.Need-returns
+unfolding validate
+returns c = rw (← c .before .before .before .before .before .source-status .ensures .value, eq-eqb _ _ (c .before .before .before .before .if1 .taken)) (c .before .before .move-source .ensures)
+
+same-length-2 : tie.Need-same-length-2
+same-length-2 c = search needs
+
+returns-2 : tie.Need-returns-2
+unfolding validate
+returns-2 c = rw (← c .before .source-status .ensures .value, ne-eqb _ _ (c .if1 .left))
+
+pub validate-spec : {M : Type 1} → statement M
+validate-spec =
+    tie.close
+    (tie.spec
+    source-status-requires
+    move-source-requires
+    same-length
+    returns
+    same-length-2
+    returns-2)

@@ -1,0 +1,56 @@
+-- `things::tick_sources` meets its contract. The loop's invariant: what the whole walk gives is what the rest of it gives from here. Assumes nothing.
+use Prim.Native.Nat.{_-_, _≤_}
+use mathlib.Core.Path.{_≡_, refl, sym, _∙_}
+use native.Mathlib.Nat.{sub-zero}
+use native.Mathlib.Omega.{arith}
+use lib.ListN.{length}
+use Rattle.rulebook.specs.Words.{each}
+use Rattle.rulebook.specs.Events.{tickSource}
+use Rattle.walks.proofs.Walks.{each-turn, each-end}
+use Rattle.things.proofs.tick_sources.Statement.{statement}
+use Rattle.things.proofs.tick_sources.Tie as tie
+
+abbrev Inv-loop : tie.InvT-loop
+Inv-loop t h s₀ count k₀ s k = (k ≤ count) × (length s ≡ length s₀) × (each 0 count (tickSource t) s₀ ≡ each k (count - k) (tickSource t) s)
+
+abbrev μ-loop : tie.MeasureT-loop
+μ-loop t h s₀ count k₀ s k = count - k
+
+loop-holds : tie.Need-loop-holds Inv-loop μ-loop
+loop-holds c = (omega arith, refl, rw sub-zero)
+
+tick-source-requires : tie.Need-tick-source-requires Inv-loop μ-loop
+tick-source-requires c κs = c .before .before .before .before .before .pre
+
+add-k : tie.Need-add-k Inv-loop μ-loop
+add-k c = omega arith
+
+loop-less : tie.Need-loop-less Inv-loop μ-loop
+loop-less c = omega arith
+
+loop-again : tie.Need-loop-again Inv-loop μ-loop
+loop-again c = (
+  omega arith,
+  c .before .before .tick-source .kept .1 .1 .0 ∙ c .before .before .before .before .before .loop .inv .1,
+  rw (c .before .before .tick-source .ensures) (c .before .before .before .before .before .loop .inv .2 ∙ each-turn _ _ (tickSource (c .before .before .before .before .before .before .before .before .args .t .now)) _ (c .before .before .before .before .loop-test .taken)),
+)
+
+same-length : tie.Need-same-length Inv-loop μ-loop
+same-length c = c .before .loop .inv .1
+
+returns : tie.Need-returns Inv-loop μ-loop
+returns c = rw (← c .before .before .before .before .pre .sources .value) (sym (c .before .loop .inv .2 ∙ each-end _ _ (tickSource (c .before .before .before .before .args .t .now)) _ (c .loop-test .left)))
+
+pub tick-sources-spec : {M : Type 1} → statement M
+tick-sources-spec =
+    tie.close
+    (tie.spec
+    Inv-loop
+    μ-loop
+    loop-holds
+    tick-source-requires
+    add-k
+    loop-less
+    loop-again
+    same-length
+    returns)

@@ -1,0 +1,56 @@
+-- `things::tick_timers` meets its contract. The loop's invariant: what the whole walk gives is what the rest of it gives from here. Assumes nothing.
+use Prim.Native.Nat.{_-_, _≤_}
+use mathlib.Core.Path.{_≡_, refl, sym, _∙_}
+use native.Mathlib.Nat.{sub-zero}
+use native.Mathlib.Omega.{arith}
+use lib.ListN.{length}
+use Rattle.rulebook.specs.Words.{each}
+use Rattle.rulebook.specs.Events.{tickTimer}
+use Rattle.walks.proofs.Walks.{each-turn, each-end}
+use Rattle.things.proofs.tick_timers.Statement.{statement}
+use Rattle.things.proofs.tick_timers.Tie as tie
+
+abbrev Inv-loop : tie.InvT-loop
+Inv-loop t s₀ count p₀ s p = (p ≤ count) × (length s ≡ length s₀) × (each 0 count (tickTimer t) s₀ ≡ each p (count - p) (tickTimer t) s)
+
+abbrev μ-loop : tie.MeasureT-loop
+μ-loop t s₀ count p₀ s p = count - p
+
+loop-holds : tie.Need-loop-holds Inv-loop μ-loop
+loop-holds c = (omega arith, refl, rw sub-zero)
+
+tick-timer-requires : tie.Need-tick-timer-requires Inv-loop μ-loop
+tick-timer-requires c κs = tt
+
+add-p : tie.Need-add-p Inv-loop μ-loop
+add-p c = omega arith
+
+loop-less : tie.Need-loop-less Inv-loop μ-loop
+loop-less c = omega arith
+
+loop-again : tie.Need-loop-again Inv-loop μ-loop
+loop-again c = (
+  omega arith,
+  c .before .before .tick-timer .kept .1 .0 ∙ c .before .before .before .before .before .loop .inv .1,
+  rw (c .before .before .tick-timer .ensures) (c .before .before .before .before .before .loop .inv .2 ∙ each-turn _ _ (tickTimer (c .before .before .before .before .before .before .before .before .args .t .now)) _ (c .before .before .before .before .loop-test .taken)),
+)
+
+same-length : tie.Need-same-length Inv-loop μ-loop
+same-length c = c .before .loop .inv .1
+
+returns : tie.Need-returns Inv-loop μ-loop
+returns c = rw (← c .before .before .before .before .pre .ports .value) (sym (c .before .loop .inv .2 ∙ each-end _ _ (tickTimer (c .before .before .before .before .args .t .now)) _ (c .loop-test .left)))
+
+pub tick-timers-spec : {M : Type 1} → statement M
+tick-timers-spec =
+    tie.close
+    (tie.spec
+    Inv-loop
+    μ-loop
+    loop-holds
+    tick-timer-requires
+    add-p
+    loop-less
+    loop-again
+    same-length
+    returns)

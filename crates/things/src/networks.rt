@@ -1,0 +1,212 @@
+// Networks: what a bus-off, a tick and a request for a mode do to one. A network is handed on by value, by its named fields.
+ghost use mathlib.Core.Path.{_≡_};
+ghost use Prim.Native.Nat.{_+_, min};
+ghost use Rattle.rulebook.specs.State.{networkIndex};
+ghost use Rattle.rulebook.specs.Lists.{networkIn, setNetwork, asking as askingOf};
+ghost use Rattle.rulebook.specs.Events.{shown as shownOf, moved as movedOf, moveNetwork, takes as takesOf, wait as waitOf, offBus};
+ghost use Rattle.rulebook.specs.Events.{busOff, countedNetwork, tickedNetwork, tickNetwork};
+ghost use Rattle.words.specs.Sections.{Laid};
+ghost use Rattle.things.specs.Networks.{networkAs};
+use crate::ports::set_port;
+use words::put;
+use words::sections;
+use words::sections::Layout;
+use words::state;
+use words::table;
+use words::word;
+
+pub struct Network {
+    pub asked: u32,
+    pub state: u32,
+    pub counter: u32,
+    pub remaining: u32,
+}
+
+// Where network n's word stands in the state. The table stands here for the proof alone.
+fn network_index(t: &[u32], h: Layout, n: u32) -> usize
+    requires { ⌜ Laid (now t) h ⌝ }
+    ensures { λ r. ⌜ r ≡ networkIndex (now (t .entry)) n ⌝ }
+{
+    h.ports as usize + h.rules as usize + n as usize
+}
+
+pub fn network_in(t: &[u32], h: Layout, s: &[u32], n: u32) -> Network
+    requires { ⌜ Laid (now t) h ⌝ }
+    ensures { λ r. ⌜ networkAs r ≡ networkIn (now (t .entry)) n (now (s .entry)) ⌝ }
+{
+    let i = network_index(t, h, n);
+    let w = word(s, i);
+    let asked = state::asked(w);
+    let state = state::network_state(w);
+    let counter = state::counter(w);
+    let remaining = state::remaining(w);
+    Network {
+        asked,
+        state,
+        counter,
+        remaining,
+    }
+}
+
+pub fn set_network(t: &[u32], h: Layout, s: &mut [u32], n: u32, c: Network)
+    requires { ⌜ Laid (now t) h ⌝ }
+    ensures { λ _. ⌜ now (s .exit) ≡ setNetwork (now (t .entry)) n (networkAs c) (now (s .entry)) ⌝ }
+{
+    let i = network_index(t, h, n);
+    let w = state::pack_network(c.asked, c.state, c.counter, c.remaining);
+    put(s, i, w);
+}
+
+// The same network asked for a mode.
+pub fn asking(mode: u32, c: Network) -> Network
+    ensures { λ r. ⌜ networkAs r ≡ askingOf mode (networkAs c) ⌝ }
+{
+    Network {
+        asked: mode,
+        state: c.state,
+        counter: c.counter,
+        remaining: c.remaining,
+    }
+}
+
+// The same network in another state; what it is asked for stays.
+fn moved(state: u32, counter: u32, remaining: u32, c: Network) -> Network
+    ensures { λ r. ⌜ networkAs r ≡ movedOf state counter remaining (networkAs c) ⌝ }
+{
+    Network {
+        asked: c.asked,
+        state,
+        counter,
+        remaining,
+    }
+}
+
+// The mode that a state shows on the network's port: check and full alike.
+fn shown(state: u32) -> u32
+    ensures { λ r. ⌜ r ≡ shownOf state ⌝ }
+{
+    if state == 0 {
+        return 0;
+    }
+    if state == 1 {
+        return 1;
+    }
+    if state == 4 { 3 } else { 2 }
+}
+
+// A change of the shown mode writes the network's port too, and marks it.
+fn move_network(t: &[u32], h: Layout, s: &mut [u32], n: u32, c: Network)
+    requires { ⌜ Laid (now t) h ⌝ }
+    ensures { λ _. ⌜ now (s .exit) ≡ moveNetwork (now (t .entry)) n (networkAs c) (now (s .entry)) ⌝ }
+{
+    let before = network_in(t, h, s, n);
+    let showed = shown(before.state);
+    let shows = shown(c.state);
+    set_network(t, h, s, n, c);
+    if shows == showed {
+        return;
+    }
+    let port = table::network_port(sections::network_word(t, h, n));
+    set_port(s, port, 1, shows, 0);
+}
+
+// Whether a bus-off is taken: in check or full alone.
+fn takes(c: Network) -> bool
+    ensures { λ r. ⌜ r ≡ takesOf (networkAs c) ⌝ }
+{
+    let state = c.state;
+    (state == 2) | (state == 3)
+}
+
+// The counter after one bus-off more, held at 255.
+fn counted_up(counter: u32) -> u32
+    ensures { λ r. ⌜ r ≡ min 255 (counter + 1) ⌝ }
+{
+    if counter < 255 { counter + 1 } else { 255 }
+}
+
+// How long a network recovers, by its new counter.
+fn wait(t: &[u32], h: Layout, n: u32, counter: u32) -> u32
+    requires { ⌜ Laid (now t) h ⌝ }
+    ensures { λ r. ⌜ r ≡ waitOf (now (t .entry)) n counter ⌝ }
+{
+    let threshold = table::network_threshold(sections::network_word(t, h, n));
+    let waits = sections::waits_word(t, h, n);
+    let short = table::short_wait(waits);
+    let long = table::long_wait(waits);
+    if counter <= threshold { short } else { long }
+}
+
+fn off_bus(t: &[u32], h: Layout, n: u32, counter: u32, c: Network) -> Network
+    requires { ⌜ Laid (now t) h ⌝ }
+    ensures { λ r. ⌜ networkAs r ≡ offBus (now (t .entry)) n counter (networkAs c) ⌝ }
+{
+    let remaining = wait(t, h, n, counter);
+    moved(4, counter, remaining, c)
+}
+
+pub fn bus_off(t: &[u32], h: Layout, s: &mut [u32], n: u32)
+    requires { ⌜ Laid (now t) h ⌝ }
+    ensures { λ _. ⌜ now (s .exit) ≡ busOff (now (t .entry)) n (now (s .entry)) ⌝ }
+{
+    let c = network_in(t, h, s, n);
+    if takes(c) {
+        let counter = counted_up(c.counter);
+        let off = off_bus(t, h, n, counter, c);
+        move_network(t, h, s, n, off);
+    }
+}
+
+// Recover and check count down; at 0 recover becomes check with E-ticks, check becomes full with counter 0.
+fn counted_network(t: &[u32], h: Layout, n: u32, c: Network) -> Network
+    requires { ⌜ Laid (now t) h ⌝ }
+    ensures { λ r. ⌜ networkAs r ≡ countedNetwork (now (t .entry)) n (networkAs c) ⌝ }
+{
+    let state = c.state;
+    let remaining = c.remaining;
+    if state == 4 {
+        if remaining <= 1 {
+            let e_ticks = table::e_ticks(sections::waits_word(t, h, n));
+            return moved(2, c.counter, e_ticks, c);
+        }
+        return moved(4, c.counter, remaining - 1, c);
+    }
+    if state == 2 {
+        if remaining <= 1 {
+            return moved(3, 0, 0, c);
+        }
+        return moved(2, c.counter, remaining - 1, c);
+    }
+    c
+}
+
+// A tick takes a network to the mode that it is asked for, or counts it on: one transition a tick.
+fn ticked_network(t: &[u32], h: Layout, n: u32, c: Network) -> Network
+    requires { ⌜ Laid (now t) h ⌝ }
+    ensures { λ r. ⌜ networkAs r ≡ tickedNetwork (now (t .entry)) n (networkAs c) ⌝ }
+{
+    let asked = c.asked;
+    let state = c.state;
+    if asked == 0 {
+        return moved(0, 0, 0, c);
+    }
+    let silenced = (asked == 1) & !(state == 0);
+    if silenced {
+        return moved(1, 0, 0, c);
+    }
+    let opened = (asked == 2) & ((state == 0) | (state == 1));
+    if opened {
+        let e_ticks = table::e_ticks(sections::waits_word(t, h, n));
+        return moved(2, 0, e_ticks, c);
+    }
+    counted_network(t, h, n, c)
+}
+
+pub fn tick_network(t: &[u32], h: Layout, s: &mut [u32], n: u32)
+    requires { ⌜ Laid (now t) h ⌝ }
+    ensures { λ _. ⌜ now (s .exit) ≡ tickNetwork (now (t .entry)) n (now (s .entry)) ⌝ }
+{
+    let c = network_in(t, h, s, n);
+    let ticked = ticked_network(t, h, n, c);
+    move_network(t, h, s, n, ticked);
+}
