@@ -4,14 +4,11 @@ ghost use Prim.Native.Nat.{_<_};
 ghost use lib.ListN.{length};
 ghost use Rattle.rulebook.specs.Words.{first};
 ghost use Rattle.rulebook.specs.Table.{atNetwork, atSource, atRule, part, listsFrom, lists};
-ghost use Rattle.rulebook.specs.Reasons.{itemOwned, owners, breaks, lowest};
+ghost use Rattle.rulebook.specs.Expressions.{mentions};
+ghost use Rattle.rulebook.specs.Reasons.{strangersPort, itemOwned, owners, breaks, lowest};
 ghost use Rattle.words.specs.Sections.{Laid};
-ghost use Rattle.owners.specs.Strangers.{Strangers};
-use expression::mentions;
 use words::parts::Part;
 use words::parts::part_at;
-use words::put;
-use words::raised;
 use words::sections;
 use words::sections::Layout;
 use words::table;
@@ -40,19 +37,30 @@ fn source_owned(t: &[u32], h: Layout, k: u32) -> bool
     owner == port_owner
 }
 
-// Puts up the flags of the ports that are strangers' to o, of all that a condition can name.
-fn mark_strangers(t: &[u32], o: u32, flags: &mut [u32])
-    requires { ⌜ length (now flags) ≡ 256 ⌝ }
-    ensures { λ _. ⌜ Strangers (now (t .entry)) o (now (flags .exit)) ⌝ }
+// Whether expression e, down to so many levels, mentions a port that is a stranger's to o. It goes down like the mention test over
+// flags, and asks each port it meets for its owner: 256 flags put up for each rule cost more than all else of an honest table.
+fn mentions_stranger(t: &[u32], h: Layout, o: u32, e: u32, levels: u32) -> bool
+    requires { ⌜ Laid (now t) h ⌝ }
+    ensures { λ r. ⌜ r ≡ mentions levels (now (t .entry)) (strangersPort (now (t .entry)) o) e ⌝ }
 {
-    let mut p: u32 = 0;
-    while p < 256 {
-        let w = sections::port_word(t, p);
-        let owner = table::port_owner(w);
-        let strange = !(owner == o) & !(owner == 0);
-        put(flags, p as usize, raised(strange));
-        p += 1;
+    if levels == 0 {
+        return false;
     }
+    let w = sections::expression_word(t, h, e);
+    let kind = table::expression_kind(w);
+    let condition = !((4 <= kind) & (kind <= 8));
+    if condition {
+        let named = sections::port_word(t, table::condition_port(w));
+        let owner = table::port_owner(named);
+        return !(owner == o) & !(owner == 0);
+    }
+    if mentions_stranger(t, h, o, table::left(w), levels - 1) {
+        return true;
+    }
+    if kind == 8 {
+        return false;
+    }
+    mentions_stranger(t, h, o, table::right(w), levels - 1)
 }
 
 fn rule_owned(t: &[u32], h: Layout, r: u32) -> bool
@@ -68,9 +76,7 @@ fn rule_owned(t: &[u32], h: Layout, r: u32) -> bool
     let false_word = sections::list_word(t, h, false_list);
     let true_owner = table::list_owner(true_word);
     let false_owner = table::list_owner(false_word);
-    let mut flags = [0u32; 256];
-    mark_strangers(t, owner, &mut flags);
-    let strange = mentions(t, h, &flags, expression, 7);
+    let strange = mentions_stranger(t, h, owner, expression, 7);
     !strange
         & ((true_list == 255) | (true_owner == owner))
         & ((false_list == 255) | (false_owner == owner))

@@ -8,14 +8,14 @@ use Prim.Native.Nat.{ℕ, _<_}
 use borrow.Author.Tests.{eqb-true}
 use Rattle.rulebook.specs.Table.{networks, networkOwner, sourceOwner}
 use Rattle.rulebook.specs.Reasons.{accepted}
-use Rattle.rulebook.specs.State.{networkIndex, fresh}
+use Rattle.rulebook.specs.State.{networkIndex}
 use Rattle.rulebook.specs.Events.{eventIndex}
 use Rattle.laws.proofs.Tests.{split, clash, part-of}
-use Rattle.laws.proofs.Steps.{fresh-fits}
+use Rattle.laws.proofs.FitKept.{Fits}
 use Rattle.stranger.specs.Calls.{Call, called, strangersCall, struckOut}
 use Rattle.stranger.specs.Demand.{busOffTaken, asksOther, anyWord, asksAnother, leftAlone, ended, notEnded}
 use Rattle.stranger.specs.View.{SameView}
-use Rattle.stranger.proofs.View.{same-view-refl, network-word}
+use Rattle.stranger.proofs.View.{network-word}
 use Rattle.stranger.proofs.Owners.{self-known}
 use Rattle.stranger.proofs.Events.{bus-off-owner, ending-owner}
 use Rattle.stranger.proofs.Strangers.{SameSeen, answered-taken, strangers-call-unseen, beside}
@@ -38,7 +38,7 @@ module _ (t : List ℕ) (h : accepted t ≡ true) where
     strangers-ask s c k =
         asks-in-own-words t n _ (asks-own t s _ _ h) ∙ ap (anyWord (asksOther n)) (strangers-call-unseen t h (networkOwner t n) s c k .words)
 
-    bus-off-same : (s₁ s₂ : List ℕ) (c : Call) → SameView t (networkOwner t n) s₁ s₂ → SameSeen t (networkOwner t n) (called t s₁ c) (called t s₂ c) → busOffTaken t n s₁ c ≡ busOffTaken t n s₂ c
+    pub bus-off-same : (s₁ s₂ : List ℕ) (c : Call) → SameView t (networkOwner t n) s₁ s₂ → SameSeen t (networkOwner t n) (called t s₁ c) (called t s₂ c) → busOffTaken t n s₁ c ≡ busOffTaken t n s₂ c
     unfolding busOffTaken
     bus-off-same s₁ s₂ c v same = rw (same .answer, v .same (networkIndex t n) (network-word t (networkOwner t n) n b ∙ self-known (networkOwner t n)))
 
@@ -47,13 +47,12 @@ module _ (t : List ℕ) (h : accepted t ≡ true) where
     ask-same s₁ s₂ c same =
         asks-in-own-words t n _ (asks-own t s₁ _ _ h) ∙ ap (anyWord (asksOther n)) (same .words) ∙ sym (asks-in-own-words t n _ (asks-own t s₂ _ _ h))
 
-    pub struck-out-left-alone : (cs : List Call) → leftAlone t n (fresh t) cs ≡ leftAlone t n (fresh t) (struckOut (networkOwner t n) cs)
+    pub left-alone-beside : (s₁ s₂ : List ℕ) (cs : List Call) → Fits t s₁ → Fits t s₂ → SameView t (networkOwner t n) s₁ s₂ → leftAlone t n s₁ cs ≡ leftAlone t n s₂ (struckOut (networkOwner t n) cs)
     unfolding leftAlone struckOut
-    struck-out-left-alone cs =
+    left-alone-beside =
         beside t h (networkOwner t n) (λ s₁ s₂ cs. leftAlone t n s₁ cs ≡ leftAlone t n s₂ (struckOut (networkOwner t n) cs)) (λ s₁ s₂ v. refl)
         (λ s₁ s₂ c cs e ih. rw (e, struckOut, strangers-bus-off s₁ c e, strangers-ask s₁ c e) ih)
         (λ s₁ s₂ c cs e v same ih. rw (e, struckOut, bus-off-same s₁ s₂ c v same, ask-same s₁ s₂ c same, ih))
-        (fresh t) (fresh t) cs (fresh-fits t h) (fresh-fits t h) (same-view-refl t (networkOwner t n) (fresh t))
 
   module _ (k : ℕ) where
     strangers-end : (s : List ℕ) (c : Call) → strangersCall (sourceOwner t k) c ≡ true → ended t k s c ≡ false
@@ -66,9 +65,8 @@ module _ (t : List ℕ) (h : accepted t ≡ true) where
         clash (rw (own ∙ ap (sourceOwner t) here) at z) (self-known (sourceOwner t k)))
         (λ e. e)
 
-    pub struck-out-not-ended : (cs : List Call) → notEnded t k (fresh t) cs ≡ notEnded t k (fresh t) (struckOut (sourceOwner t k) cs)
+    pub not-ended-beside : (s₁ s₂ : List ℕ) (cs : List Call) → Fits t s₁ → Fits t s₂ → SameView t (sourceOwner t k) s₁ s₂ → notEnded t k s₁ cs ≡ notEnded t k s₂ (struckOut (sourceOwner t k) cs)
     unfolding notEnded struckOut ended
-    struck-out-not-ended cs =
+    not-ended-beside =
         beside t h (sourceOwner t k) (λ s₁ s₂ cs. notEnded t k s₁ cs ≡ notEnded t k s₂ (struckOut (sourceOwner t k) cs)) (λ s₁ s₂ v. refl)
         (λ s₁ s₂ c cs e ih. rw (e, struckOut, strangers-end s₁ c e) ih) (λ s₁ s₂ c cs e v same ih. rw (e, struckOut, same .answer, ih))
-        (fresh t) (fresh t) cs (fresh-fits t h) (fresh-fits t h) (same-view-refl t (sourceOwner t k) (fresh t))

@@ -19,3 +19,4 @@ pub mod AskedAfter
 pub mod Countdown
 pub mod Wakeup
 pub mod NotEmpty
+pub mod Demand3

@@ -103,29 +103,33 @@ module _ (t : List ℕ) (h : accepted t ≡ true) (o : ℕ) where
       (λ e. let same = kept-call-same s₁ s₂ c e f₁ f₂ v in
       both s₁ s₂ c cs e v same (beside P none one both _ _ cs next₁ (step-fits t s₂ (c .room) (c .event) h f₂) (same .state)))
 
-  -- The run with the strangers struck out shows o the same after each kept call, and in the end.
+  -- The run with the strangers struck out, from a state that o cannot tell apart: o sees the same after each kept call and in the
+  -- end, and no tick that is taken is struck out.
 
-  pub struck-out-seen : (cs : List Call) → seen t o (fresh t) cs ≡ seen t o (fresh t) (struckOut o cs)
+  pub seen-beside : (s₁ s₂ : List ℕ) (cs : List Call) → Fits t s₁ → Fits t s₂ → SameView t o s₁ s₂ → seen t o s₁ cs ≡ seen t o s₂ (struckOut o cs)
   unfolding seen struckOut
-  struck-out-seen cs =
+  seen-beside =
       beside (λ s₁ s₂ cs. seen t o s₁ cs ≡ seen t o s₂ (struckOut o cs)) (λ s₁ s₂ v. refl) (λ s₁ s₂ c cs e ih. rw (e, seen, struckOut) ih)
       (λ s₁ s₂ c cs e v same ih. rw (e, seen, struckOut) (rw (e, seen) (ap₂ _∷_ (same-seen same) ih)))
-      (fresh t) (fresh t) cs (fresh-fits t h) (fresh-fits t h) (same-view-refl t o (fresh t))
 
-  pub struck-out-after : (cs : List Call) → SameView t o (after t (fresh t) cs) (after t (fresh t) (struckOut o cs))
+  pub after-beside : (s₁ s₂ : List ℕ) (cs : List Call) → Fits t s₁ → Fits t s₂ → SameView t o s₁ s₂ → SameView t o (after t s₁ cs) (after t s₂ (struckOut o cs))
   unfolding after struckOut
-  struck-out-after cs =
+  after-beside =
       beside (λ s₁ s₂ cs. SameView t o (after t s₁ cs) (after t s₂ (struckOut o cs))) (λ s₁ s₂ v. v) (λ s₁ s₂ c cs e ih. rw (e, struckOut) ih)
       (λ s₁ s₂ c cs e v same ih. rw (e, struckOut) ih)
-      (fresh t) (fresh t) cs (fresh-fits t h) (fresh-fits t h) (same-view-refl t o (fresh t))
 
-  -- no tick that is taken is struck out
-  pub struck-out-ticks : (cs : List Call) → tickCount t (fresh t) cs ≡ tickCount t (fresh t) (struckOut o cs)
+  pub ticks-beside : (s₁ s₂ : List ℕ) (cs : List Call) → Fits t s₁ → Fits t s₂ → SameView t o s₁ s₂ → tickCount t s₁ cs ≡ tickCount t s₂ (struckOut o cs)
   unfolding tickCount struckOut ticks
-  struck-out-ticks cs =
+  ticks-beside =
       beside (λ s₁ s₂ cs. tickCount t s₁ cs ≡ tickCount t s₂ (struckOut o cs)) (λ s₁ s₂ v. refl)
       (λ s₁ s₂ c cs e ih. rw (e, struckOut, strangers-tick s₁ c e) (zero-add _ ∙ ih)) (λ s₁ s₂ c cs e v same ih. rw (e, struckOut, same .answer, ih))
-      (fresh t) (fresh t) cs (fresh-fits t h) (fresh-fits t h) (same-view-refl t o (fresh t))
+
+  -- from fresh
+  pub struck-out-seen : (cs : List Call) → seen t o (fresh t) cs ≡ seen t o (fresh t) (struckOut o cs)
+  struck-out-seen cs = seen-beside (fresh t) (fresh t) cs (fresh-fits t h) (fresh-fits t h) (same-view-refl t o (fresh t))
+
+  pub struck-out-after : (cs : List Call) → SameView t o (after t (fresh t) cs) (after t (fresh t) (struckOut o cs))
+  struck-out-after cs = after-beside (fresh t) (fresh t) cs (fresh-fits t h) (fresh-fits t h) (same-view-refl t o (fresh t))
 
   -- So do any two runs whose calls agree once the strangers' are struck out.
 
@@ -135,9 +139,6 @@ module _ (t : List ℕ) (h : accepted t ≡ true) (o : ℕ) where
 
     pub strangers-after : SameView t o (after t (fresh t) cs₁) (after t (fresh t) cs₂)
     strangers-after = same-view-trans t o (rw e at (struck-out-after cs₁)) (same-view-sym t o (struck-out-after cs₂))
-
-    pub strangers-ticks : tickCount t (fresh t) cs₁ ≡ tickCount t (fresh t) cs₂
-    strangers-ticks = struck-out-ticks cs₁ ∙ ap (tickCount t (fresh t)) e ∙ sym (struck-out-ticks cs₂)
 
 -- a run with the strangers struck out is one of those that agree with it so
 pub struck-out-twice : (o : ℕ) (cs : List Call) → struckOut o (struckOut o cs) ≡ struckOut o cs

@@ -1,54 +1,63 @@
--- `owners::rule_owned` meets its contract: the flags are those of strangers' ports, and the fields read are the rulebook's. Assumes nothing.
-use mathlib.Core.Path.{_∙_}
-use Rattle.rulebook.specs.Reasons.{strangersPort, ruleOwned, owners}
-use Rattle.expression.proofs.Same.{same-mentions}
+use Rattle.rulebook.specs.Reasons.{ruleOwned, owners}
 use borrow.Author.Needs.{needs}
 use Rattle.owners.proofs.rule_owned.Statement.{statement}
 use Rattle.owners.proofs.rule_owned.Tie as tie
+use Rattle.owners.proofs.rule_owned.Reads as reads
+use Rattle.owners.proofs.rule_owned.Lts as lts
+use Rattle.owners.proofs.mentions_stranger.Reads as mentions-stranger-reads
+use Rattle.words.proofs.sections.list_word.Reads as list-word-reads
+use Rattle.words.proofs.sections.rule_word.Reads as rule-word-reads
+use Rattle.words.proofs.table.false_list.Reads as false-list-reads
+use Rattle.words.proofs.table.list_owner.Reads as list-owner-reads
+use Rattle.words.proofs.table.rule_expression.Reads as rule-expression-reads
+use Rattle.words.proofs.table.rule_owner.Reads as rule-owner-reads
+use Rattle.words.proofs.table.true_list.Reads as true-list-reads
 
+-- src/lib.rt:70:9
 rule-word-requires : tie.Need-rule-word-requires
 rule-word-requires c κs = search needs
 
+-- src/lib.rt:71:9
 rule-owner-requires : tie.Need-rule-owner-requires
 rule-owner-requires c κs = search needs
 
+-- src/lib.rt:72:9
 rule-expression-requires : tie.Need-rule-expression-requires
 rule-expression-requires c κs = search needs
 
+-- src/lib.rt:73:9
 true-list-requires : tie.Need-true-list-requires
 true-list-requires c κs = search needs
 
+-- src/lib.rt:74:9
 false-list-requires : tie.Need-false-list-requires
 false-list-requires c κs = search needs
 
+-- src/lib.rt:75:9
 list-word-requires : tie.Need-list-word-requires
 list-word-requires c κs = search needs
 
+-- src/lib.rt:76:9
 list-word-requires-2 : tie.Need-list-word-requires-2
 list-word-requires-2 c κs = search needs
 
+-- src/lib.rt:77:9
 list-owner-requires : tie.Need-list-owner-requires
 list-owner-requires c κs = search needs
 
+-- src/lib.rt:78:9
 list-owner-requires-2 : tie.Need-list-owner-requires-2
 list-owner-requires-2 c κs = search needs
 
-slice-aggregate-mark-strangers : tie.Need-slice-aggregate-mark-strangers
-slice-aggregate-mark-strangers c = search needs
+-- src/lib.rt:79:9
+mentions-stranger-requires : tie.Need-mentions-stranger-requires
+mentions-stranger-requires c κs = search needs
 
-mark-strangers-requires : tie.Need-mark-strangers-requires
-mark-strangers-requires c κs = search needs
-
-slice-aggregate-mentions : tie.Need-slice-aggregate-mentions
-slice-aggregate-mentions c = search needs
-
-mentions-requires : tie.Need-mentions-requires
-mentions-requires c κs = search needs
-
+-- src/lib.rt:66:1
 returns : tie.Need-returns
 unfolding owners ruleOwned
 returns c =
-    rw (c .mentions .ensures ∙ same-mentions _ _ (strangersPort (c .before .before .before .before .before .before .before .before .before .before .before .before .before .before .before .args .t .now) (c .before .before .before .before .before .before .before .before .before .before .before .before .rule-owner .result)) (c .before .before .before .mark-strangers .ensures .marks) 7 _, c .before .before .before .before .before .before .list-owner .ensures .value, c .before .before .before .before .before .list-owner2 .ensures .value, c .before .before .before .before .before .before .before .before .list-word .ensures, c .before .before .before .before .before .before .before .list-word2 .ensures, c .before .before .before .before .before .before .before .before .before .before .true-list .ensures .value, c .before .before .before .before .before .before .before .before .before .false-list .ensures .value, c .before .before .before .before .before .before .before .before .before .before .before .rule-expression .ensures .value, c .before .before .before .before .before .before .before .before .before .before .before .before .rule-owner .ensures .value, c .before .before .before .before .before .before .before .before .before .before .before .before .before .rule-word .ensures)
+    rw (c .mentions-stranger .ensures, c .before .before .list-owner .ensures .value, c .before .list-owner2 .ensures .value, c .before .before .before .before .list-word .ensures, c .before .before .before .list-word2 .ensures, c .before .before .before .before .before .before .true-list .ensures .value, c .before .before .before .before .before .false-list .ensures .value, c .before .before .before .before .before .before .before .rule-expression .ensures .value, c .before .before .before .before .before .before .before .before .rule-owner .ensures .value, c .before .before .before .before .before .before .before .before .before .rule-word .ensures)
 
 pub rule-owned-spec : {M : Type 1} → statement M
 rule-owned-spec =
@@ -63,8 +72,5 @@ rule-owned-spec =
     list-word-requires-2
     list-owner-requires
     list-owner-requires-2
-    slice-aggregate-mark-strangers
-    mark-strangers-requires
-    slice-aggregate-mentions
-    mentions-requires
+    mentions-stranger-requires
     returns)

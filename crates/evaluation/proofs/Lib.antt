@@ -1,0 +1,2 @@
+-- Laws of one level of an evaluation, as the code goes through it.
+pub mod Level

@@ -1,0 +1,2 @@
+-- What the contracts of the evaluation cite beside the rulebook.
+pub mod Met

@@ -1,0 +1,163 @@
+-- A run goes along a lent trace: its words so far fill the front of the trace, and what is still to run gets the rest of it. One
+-- invariant for every loop and every call on the tail of a trace, with its start, next and end. Assumes nothing.
+use Prim.Native.Nat.{ℕ, _+_, _-_, _≤_}
+use mathlib.Core.Path.{_≡_, refl, sym, ap, _∙_}
+use mathlib.Core.Bool.{Bool, true, false, _||_}
+use mathlib.Core.List.{List, [], _∷_, _++_, append-assoc, append-nil}
+use native.Mathlib.Omega.{arith}
+use lib.ListN.{length, take, drop, set, length-append, length-drop, take-append-drop, drop-of-length-le}
+use lib.Seq.{length-take-le, take-all, take-at, drop-at, drop-drop}
+use borrow.Rule.Slice.PartMut.{midOf, putMid}
+use Rattle.rulebook.specs.Lists.{Run, start}
+use Rattle.laws.proofs.Tests.{or-none}
+use Rattle.laws.proofs.Frame.{Framed}
+use Rattle.lists.specs.Runs.{Safe, Ran}
+
+-- the run so far: the state s, and as its words the first `at` of the trace T
+abbrev pub sofar : List ℕ → List ℕ → ℕ → Run
+sofar s T at = record { state = s; words = take at T; deep = false }
+
+-- The whole run is `rest` of the run so far; from `at` on the trace is as it was.
+pub record Along (whole : Run) (rest : Run → Run) (before s T : List ℕ) (at : ℕ) : Type 0 where
+  pub run : whole ≡ rest (sofar s T at)
+  pub kept : drop at T ≡ drop at before
+  pub inside : at ≤ length T
+  pub long : length T ≡ length before
+
+same-run : (x : Run) (s w : List ℕ) → x .state ≡ s → x .words ≡ w → x .deep ≡ false → x ≡ record { state = s; words = w; deep = false }
+same-run x s w a b c = rw (← a, ← b, ← c)
+
+-- a run of which another is the beginning: that one is safe too
+module _ (whole : Run) (rest : Run → Run) (framed : Framed rest) (x : Run) (run : whole ≡ rest x) (before : List ℕ) (safe : Safe whole before) where
+  begin-words : whole .words ≡ x .words ++ rest (start (x .state)) .words
+  begin-words = ap (λ (y : Run). y .words) run ∙ framed .words x
+
+  begin-room : length (x .words) ≤ length before
+  begin-room =
+      let a : length (whole .words) ≤ length before = safe .room in
+      let b : length (whole .words) ≡ length (x .words) + length (rest (start (x .state)) .words) = ap length begin-words ∙ length-append (x .words) (rest (start (x .state)) .words) in
+      omega arith
+
+  begin-shallow : x .deep ≡ false
+  begin-shallow = or-none (x .deep) (rest (start (x .state)) .deep) (sym (framed .deep x) ∙ sym (ap (λ (y : Run). y .deep) run) ∙ safe .shallow) .0
+
+  pub begin-safe : Safe x before
+  begin-safe = record { room = begin-room; shallow = begin-shallow }
+
+-- nothing has run yet
+pub along-none : (whole : Run) (rest : Run → Run) (s T : List ℕ) → whole ≡ rest (start s) → Along whole rest T s T 0
+along-none whole rest s T h = record { run = h; kept = refl; inside = omega arith; long = refl }
+
+-- what is still to run may be said in another way
+pub along-as : (whole : Run) (rest other : Run → Run) (before s T : List ℕ) (at : ℕ) → ((x : Run) → rest x ≡ other x)
+    → Along whole rest before s T at → Along whole other before s T at
+along-as whole rest other before s T at h a =
+    record { run = a .run ∙ h (sofar s T at); kept = a .kept; inside = a .inside; long = a .long }
+
+-- nothing is left to run
+pub along-end : (whole : Run) (rest : Run → Run) (before s T : List ℕ) (at : ℕ) → ((x : Run) → rest x ≡ x) → Along whole rest before s T at
+    → Ran whole s before T at
+along-end whole rest before s T at h a =
+    let e : whole ≡ sofar s T at = a .run ∙ h (sofar s T at) in
+    let n : length (take at T) ≡ at = length-take-le at T (a .inside) in
+    rw e
+    (record {
+      state = refl;
+      words = rw (n, ← a .kept) (sym (take-append-drop at T));
+      count = sym n;
+    })
+
+-- a first part has run on the whole trace
+pub along-ran : (whole : Run) (rest : Run → Run) → Framed rest → (x : Run) → whole ≡ rest x → (before s T : List ℕ) (n : ℕ) → Safe whole before
+    → Ran x s before T n → Along whole rest before s T n
+along-ran whole rest framed x run before s T n safe r =
+    let m : length (x .words) ≡ n = sym (r .count) in
+    let room : length (x .words) ≤ length before = begin-room whole rest framed x run before safe in
+    let e : T ≡ x .words ++ drop n before = r .words ∙ ap (λ (k : ℕ). x .words ++ drop k before) m in
+    let l : length T ≡ length (x .words) + (length before - n) = ap length e ∙ length-append (x .words) (drop n before) ∙ ap (λ (k : ℕ). length (x .words) + k) (length-drop n before) in
+    record {
+      run = run ∙ ap rest (same-run x s (take n T) (sym (r .state)) (sym (ap (take n) e ∙ take-at (x .words) (drop n before) n m)) (begin-shallow whole rest framed x run before safe));
+      kept = ap (drop n) e ∙ drop-at (x .words) (drop n before) n m;
+      inside = omega arith;
+      long = omega arith;
+    }
+
+-- f is next, on the part of the trace from `at` on, and `rest` comes after it
+module _ (whole : Run) (f rest : Run → Run) (ff : Framed f) (fr : Framed rest) (before s T : List ℕ) (at : ℕ)
+    (a : Along whole (λ x. rest (f x)) before s T at) (safe : Safe whole before) where
+  abbrev part : List ℕ
+  part = midOf at (length T - at) T
+
+  part-is : part ≡ drop at T
+  part-is = take-all (length T - at) (drop at T) (let e : length (drop at T) ≡ length T - at = length-drop at T in omega arith)
+
+  none-after : drop (length T - at) (drop at T) ≡ []
+  none-after = drop-of-length-le (drop at T) {i = length T - at} (let e : length (drop at T) ≡ length T - at = length-drop at T in omega arith)
+
+  front : length (take at T) ≡ at
+  front = length-take-le at T (a .inside)
+
+  next-words : f (sofar s T at) .words ≡ take at T ++ f (start s) .words
+  next-words = ff .words (sofar s T at)
+
+  next-shallow : f (start s) .deep ≡ false
+  next-shallow = sym (ff .deep (sofar s T at)) ∙ begin-shallow whole rest fr (f (sofar s T at)) (a .run) before safe
+
+  next-room : at + length (f (start s) .words) ≤ length T
+  next-room =
+      let r : length (f (sofar s T at) .words) ≤ length before = begin-room whole rest fr (f (sofar s T at)) (a .run) before safe in
+      let e : length (f (sofar s T at) .words) ≡ length (take at T) + length (f (start s) .words) = ap length next-words ∙ length-append (take at T) (f (start s) .words) in
+      let k = front in
+      let g = a .long in
+      omega arith
+
+  pub next-safe : Safe (f (start s)) part
+  next-safe =
+      record {
+        room = rw part-is (let e : length (drop at T) ≡ length T - at = length-drop at T in let r = next-room in omega arith);
+        shallow = next-shallow;
+      }
+
+  module _ (s' part' : List ℕ) (n : ℕ) (r : Ran (f (start s)) s' part part' n) where
+    m : length (f (start s) .words) ≡ n
+    m = sym (r .count)
+
+    abbrev done : List ℕ
+    done = take at T ++ f (start s) .words
+
+    whole-again : putMid at (length T - at) T part' ≡ done ++ drop (at + n) T
+    whole-again =
+        rw (none-after, append-nil)
+        (ap (λ (p : List ℕ). take at T ++ p) (r .words)
+        ∙ rw (part-is, m, drop-drop)
+        (sym (append-assoc (take at T) (f (start s) .words) (drop (at + n) T))))
+
+    done-long : length done ≡ at + n
+    done-long = let e : length done ≡ length (take at T) + length (f (start s) .words) = length-append (take at T) (f (start s) .words) in let k = front in let j = m in omega arith
+
+    pub next : Along whole rest before s' (putMid at (length T - at) T part') (at + n)
+    next =
+        let room = next-room in
+        let j = m in
+        let l : length (done ++ drop (at + n) T) ≡ length done + (length T - (at + n)) = length-append done (drop (at + n) T) ∙ ap (λ (k : ℕ). length done + k) (length-drop (at + n) T) in
+        let d = done-long in
+        let g = a .long in
+        rw whole-again
+        (record {
+          run = a .run
+              ∙ ap rest (same-run (f (sofar s T at)) s' (take (at + n) (done ++ drop (at + n) T))
+              (ff .state (sofar s T at) ∙ sym (r .state))
+              (next-words ∙ sym (take-at done (drop (at + n) T) (at + n) done-long))
+              (begin-shallow whole rest fr (f (sofar s T at)) (a .run) before safe));
+          kept = drop-at done (drop (at + n) T) (at + n) done-long ∙ sym (drop-drop n at T) ∙ ap (drop n) (a .kept) ∙ drop-drop n at before;
+          inside = omega arith;
+          long = omega arith;
+        })
+
+    -- the trace has room for what has run
+    pub next-inside : at + n ≤ length T
+    next-inside = let room = next-room in let j = m in omega arith
+
+    -- and is as long as it was
+    pub next-long : length (putMid at (length T - at) T part') ≡ length T
+    next-long = next .long ∙ sym (a .long)

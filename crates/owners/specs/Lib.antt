@@ -1,2 +1,0 @@
--- What the contracts of rule 8 cite beside the rulebook.
-pub mod Strangers

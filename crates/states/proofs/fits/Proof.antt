@@ -1,0 +1,72 @@
+-- `states::fits` meets its contract. The loop's invariant: what the whole walk gives is what the rest of it gives. Assumes nothing.
+use Prim.Native.Nat.{_-_, _≤_}
+use mathlib.Core.Path.{_≡_, sym, _∙_}
+use native.Mathlib.Omega.{arith}
+use borrow.Author.Tests.{not-true, not-false}
+use Rattle.rulebook.specs.Words.{all}
+use Rattle.rulebook.specs.State as State
+use Rattle.walks.proofs.Walks.{all-turn, all-fails, all-end}
+use Rattle.states.proofs.Fitting.{wrong-length, right-length, fits-here}
+use Rattle.states.proofs.fits.Statement.{statement}
+use Rattle.states.proofs.fits.Tie as tie
+
+abbrev Inv-loop : tie.InvT-loop
+Inv-loop t s h end i₀ i = (i ≤ end) × (State.fits t s ≡ all i (end - i) (State.fitsAt t s))
+
+abbrev μ-loop : tie.MeasureT-loop
+μ-loop t s h end i₀ i = end - i
+
+read-layout-requires : tie.Need-read-layout-requires Inv-loop μ-loop
+read-layout-requires c κs = tt
+
+state-length-requires : tie.Need-state-length-requires Inv-loop μ-loop
+state-length-requires c κs = c .read-layout .ensures
+
+returns : tie.Need-returns Inv-loop μ-loop
+returns c = wrong-length _ _ _ (c .before .state-length .ensures) (c .if1 .taken)
+
+loop-holds : tie.Need-loop-holds Inv-loop μ-loop
+loop-holds c = (omega arith, right-length _ _ _ (c .before .state-length .ensures) (c .if1 .left))
+
+thing-at-requires : tie.Need-thing-at-requires Inv-loop μ-loop
+thing-at-requires c κs = (c .before .before .before .before .read-layout .ensures, omega (arith, c .before .before .before .state-length .ensures, c .loop-test .taken))
+
+word-requires : tie.Need-word-requires Inv-loop μ-loop
+word-requires c κs = tt
+
+thing-fits-requires : tie.Need-thing-fits-requires Inv-loop μ-loop
+thing-fits-requires c κs = c .before .before .before .before .before .before .read-layout .ensures
+
+returns-2 : tie.Need-returns-2 Inv-loop μ-loop
+returns-2 c = sym (c .before .before .before .before .before .loop .inv .1 ∙ all-fails _ _ _ (c .before .before .before .before .loop-test .taken) (fits-here _ _ _ _ _ _ (c .before .thing-fits .ensures) (c .before .before .before .thing-at .ensures) (c .before .before .word .ensures) ∙ not-true _ (c .if2 .taken)))
+
+add-i : tie.Need-add-i Inv-loop μ-loop
+add-i c = omega arith
+
+loop-less : tie.Need-loop-less Inv-loop μ-loop
+loop-less c = omega arith
+
+loop-again : tie.Need-loop-again Inv-loop μ-loop
+loop-again c = (omega arith, c .before .before .before .before .before .loop .inv .1 ∙ all-turn _ _ _ (c .before .before .before .before .loop-test .taken) (fits-here _ _ _ _ _ _ (c .before .thing-fits .ensures) (c .before .before .before .thing-at .ensures) (c .before .before .word .ensures) ∙ not-false _ (c .if2 .left)))
+
+returns-3 : tie.Need-returns-3 Inv-loop μ-loop
+returns-3 c = sym (c .before .loop .inv .1 ∙ all-end _ _ _ (c .loop-test .left))
+
+pub fits-spec : {M : Type 1} → statement M
+fits-spec =
+    tie.close
+    (tie.spec
+    Inv-loop
+    μ-loop
+    read-layout-requires
+    state-length-requires
+    returns
+    loop-holds
+    thing-at-requires
+    word-requires
+    thing-fits-requires
+    returns-2
+    add-i
+    loop-less
+    loop-again
+    returns-3)

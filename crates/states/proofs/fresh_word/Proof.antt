@@ -1,0 +1,54 @@
+-- `states::fresh_word` meets its contract, arm by arm. Assumes nothing.
+use Rattle.rulebook.specs.State.{freshThing}
+use borrow.Author.Needs.{needs}
+use Rattle.states.proofs.fresh_word.Statement.{statement}
+use Rattle.states.proofs.fresh_word.Tie as tie
+
+enum-known-thing : tie.Need-enum-known-thing
+enum-known-thing c = search needs
+
+fresh-port-requires : tie.Need-fresh-port-requires
+fresh-port-requires c κs = search needs
+
+enum-known-thing-2 : tie.Need-enum-known-thing-2
+enum-known-thing-2 c = search needs
+
+fresh-rule-requires : tie.Need-fresh-rule-requires
+fresh-rule-requires c κs = search needs
+
+enum-told : tie.Need-enum-told
+enum-told c = search needs
+
+enum-told-2 : tie.Need-enum-told-2
+enum-told-2 c = search needs
+
+returns : tie.Need-returns
+unfolding freshThing
+returns c = rw (c .before .before .thing .given .1) (c .fresh-port .ensures)
+
+returns-2 : tie.Need-returns-2
+unfolding freshThing
+returns-2 c = rw (c .before .before .thing2 .given .1) (c .fresh-rule .ensures)
+
+returns-3 : tie.Need-returns-3
+unfolding freshThing
+returns-3 c = rw (c .enum-told .given .1)
+
+returns-4 : tie.Need-returns-4
+unfolding freshThing
+returns-4 c = rw (c .enum-told2 .given .1)
+
+pub fresh-word-spec : {M : Type 1} → statement M
+fresh-word-spec =
+    tie.close
+    (tie.spec
+    enum-known-thing
+    fresh-port-requires
+    enum-known-thing-2
+    fresh-rule-requires
+    enum-told
+    enum-told-2
+    returns
+    returns-2
+    returns-3
+    returns-4)

@@ -1,0 +1,63 @@
+-- `states::write_fresh` meets its contract. The loop's invariant: the words passed are the fresh state's. Assumes nothing.
+use Prim.Native.Nat.{ℕ, _-_, _≤_, _<_}
+use mathlib.Core.Path.{_≡_, refl, sym, ap, _∙_}
+use native.Mathlib.Omega.{arith}
+use lib.ListN.{length, length-set, getD}
+use Rattle.rulebook.specs.State.{freshAt}
+use Rattle.words.proofs.Fill.{set-more}
+use Rattle.states.proofs.Making.{fresh-here, all-fresh}
+use Rattle.states.proofs.write_fresh.Statement.{statement}
+use Rattle.states.proofs.write_fresh.Tie as tie
+
+abbrev Inv-loop : tie.InvT-loop
+Inv-loop t h s₀ end i₀ s i = (i ≤ end) × (length s ≡ end) × ((k : ℕ) → k < i → getD s k 0 ≡ freshAt t k)
+
+abbrev μ-loop : tie.MeasureT-loop
+μ-loop t h s₀ end i₀ s i = end - i
+
+loop-holds : tie.Need-loop-holds Inv-loop μ-loop
+loop-holds c = (omega arith, refl, λ k h. absurd (omega arith))
+
+thing-at-requires : tie.Need-thing-at-requires Inv-loop μ-loop
+thing-at-requires c κs = (c .before .before .before .before .pre .0, omega (arith, c .before .before .before .before .pre .1, c .loop-test .taken))
+
+fresh-word-requires : tie.Need-fresh-word-requires Inv-loop μ-loop
+fresh-word-requires c κs = c .before .before .before .before .before .pre .0
+
+put-requires : tie.Need-put-requires Inv-loop μ-loop
+put-requires c κs = tt
+
+add-i : tie.Need-add-i Inv-loop μ-loop
+add-i c = omega arith
+
+loop-less : tie.Need-loop-less Inv-loop μ-loop
+loop-less c = omega arith
+
+loop-again : tie.Need-loop-again Inv-loop μ-loop
+loop-again c = (
+  omega arith,
+  ap length (c .before .before .put .ensures) ∙ simp length-set (c .before .before .before .before .before .before .before .loop .inv .1),
+  rw (c .before .before .put .ensures) (set-more (λ k w. w ≡ freshAt (c .before .before .before .before .before .before .before .before .before .before .args .t .now) k) (c .before .before .before .before .before .before .before .loop .s) (c .before .before .before .before .before .before .before .loop .i) (c .before .before .before .before .fresh-word .result) (omega (arith, c .before .before .before .before .before .before .before .loop .inv .1, c .before .before .before .before .before .before .loop-test .taken)) (fresh-here _ _ _ _ (c .before .before .before .before .fresh-word .ensures) (c .before .before .before .before .before .thing-at .ensures)) (c .before .before .before .before .before .before .before .loop .inv .2)),
+)
+
+same-length : tie.Need-same-length Inv-loop μ-loop
+same-length c = c .before .loop .inv .1
+
+returns : tie.Need-returns Inv-loop μ-loop
+returns c = all-fresh _ _ _ (c .before .loop .inv .1) (c .before .before .before .before .pre .1) (λ k h. c .before .loop .inv .2 k (omega arith))
+
+pub write-fresh-spec : {M : Type 1} → statement M
+write-fresh-spec =
+    tie.close
+    (tie.spec
+    Inv-loop
+    μ-loop
+    loop-holds
+    thing-at-requires
+    fresh-word-requires
+    put-requires
+    add-i
+    loop-less
+    loop-again
+    same-length
+    returns)

@@ -1,0 +1,3 @@
+-- What the contracts of the state cite beside the rulebook.
+pub mod Things
+pub mod Made

@@ -1,0 +1,2 @@
+-- What the table check promises.
+pub mod Told

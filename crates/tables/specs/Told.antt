@@ -1,0 +1,30 @@
+-- The table check's answer in document 01's numbers: reason and place, 0 and 0 for an accepted table, and B, 0 for a refused one.
+use Prim.Native.Nat.{ℕ}
+use mathlib.Core.Bool.{cond}
+use mathlib.Core.List.{List}
+use Rattle.rulebook.specs.Reasons.{check, accepted, bound as boundOf}
+use Rattle.tables.specs.declared.Checked.{Checked}
+use Rattle.tables.specs.declared.Checked.the-variants.{Accepted, TooShort, WrongEdition, WrongCounts, WrongLength, Misfit, Misnamed, TooDeep, OwnersClash, TooDear}
+
+pub record Told : Type 0 where
+  pub reason : ℕ
+  pub place : ℕ
+  pub bound : ℕ
+
+abbrev pub refused : ℕ → ℕ → Told
+refused k i = record { reason = k; place = i; bound = 0 }
+
+abbrev pub told : Checked → Told
+told (Accepted b) = record { reason = 0; place = 0; bound = b }
+told TooShort = refused 1 0
+told WrongEdition = refused 2 0
+told WrongCounts = refused 3 0
+told WrongLength = refused 4 0
+told (Misfit i) = refused 5 i
+told (Misnamed i) = refused 6 i
+told (TooDeep i) = refused 7 i
+told (OwnersClash i) = refused 8 i
+told TooDear = refused 9 0
+
+unfoldable pub promised : List ℕ → Told
+promised t = record { reason = check t .reason; place = check t .place; bound = cond (accepted t) (boundOf t) 0 }

@@ -1,0 +1,90 @@
+// The table check: any words, of any number. Accepted with B, or the first reason that holds and its place.
+ghost use mathlib.Core.Path.{_≡_};
+ghost use Rattle.rulebook.specs.Reasons.{countsInside};
+ghost use Rattle.words.specs.Sections.{Laid};
+ghost use Rattle.tables.specs.Told.{told, promised};
+use cost::bound;
+use fields::first_misfit;
+use names::first_misnamed;
+use nesting::first_deep;
+use owners::first_clash;
+use words::sections::Layout;
+use words::sections::read_layout;
+use words::table::edition;
+use words::word;
+
+// A case for each answer: accepted, with B, and the nine reasons in their order, with the place where there is one.
+pub enum Checked {
+    Accepted(u32),
+    TooShort,
+    WrongEdition,
+    WrongCounts,
+    WrongLength,
+    Misfit(usize),
+    Misnamed(usize),
+    TooDeep(usize),
+    OwnersClash(usize),
+    TooDear,
+}
+
+fn counts_inside(t: &[u32], h: Layout) -> bool
+    requires { ⌜ Laid (now t) h ⌝ }
+    ensures { λ r. ⌜ r ≡ countsInside (now (t .entry)) ⌝ }
+{
+    let ports = h.ports;
+    let networks = h.networks;
+    let sources = h.sources;
+    let expressions = h.expressions;
+    let rules = h.rules;
+    let lists = h.lists;
+    let items = h.items;
+    (1 <= ports)
+        & (ports <= 64)
+        & (networks <= 8)
+        & (sources <= 32)
+        & ((1 <= expressions) & (expressions <= 512))
+        & ((1 <= rules) & (rules <= 256))
+        & (lists <= 255)
+        & (items <= 2047)
+}
+
+pub fn check(t: &[u32]) -> Checked
+    ensures { λ r. ⌜ told r ≡ promised (now (t .entry)) ⌝ }
+{
+    if t.len() < 3 {
+        return Checked::TooShort;
+    }
+    let h = read_layout(t);
+    let first = word(t, 0);
+    if edition(first) != 1 {
+        return Checked::WrongEdition;
+    }
+    if !counts_inside(t, h) {
+        return Checked::WrongCounts;
+    }
+    let length = h.length;
+    if t.len() != length {
+        return Checked::WrongLength;
+    }
+    let misfit = first_misfit(t, h);
+    if misfit < length {
+        return Checked::Misfit(misfit);
+    }
+    let misnamed = first_misnamed(t, h);
+    if misnamed < length {
+        return Checked::Misnamed(misnamed);
+    }
+    let deep = first_deep(t, h);
+    if deep < length {
+        return Checked::TooDeep(deep);
+    }
+    let clash = first_clash(t, h);
+    if clash < length {
+        return Checked::OwnersClash(clash);
+    }
+    let b = bound(t, h);
+    if 4096 < b {
+        return Checked::TooDear;
+    }
+    Checked::Accepted(b)
+}
