@@ -3,7 +3,7 @@ use Prim.Native.Nat.{ℕ, zero, suc, _+_, _-_, _<_, _≤_, min, max}
 use mathlib.Core.Path.{_≡_, refl, sym, ap, _∙_}
 use mathlib.Core.Bool.{Bool, true, false, cond}
 use mathlib.Core.List.{List}
-use native.Mathlib.Nat.{zero-add, sub-zero}
+use native.Mathlib.Nat.{zero-add, add-zero, add-suc, sub-zero}
 use native.Mathlib.Numerals.{add-one}
 use native.Mathlib.Omega.{arith}
 use lib.Dec.{ltb, eqb}
@@ -134,6 +134,16 @@ next-level d t below costs old new =
           ∙ held-twice (listCost t (costIn below) l)
           ∙ list-held t (costIn below) (costWithin d t) (λ k. ap capped (old .says k) ∙ held-twice (costWithin d t k)) l);
     }
+
+-- a round that changes nothing: the levels above are all the same
+pub settled : (d : ℕ) (t costs : List ℕ) → Costs d t costs → CostRound t costs costs → (k : ℕ) → Costs (d + k) t costs
+settled d t costs old new zero = rw add-zero old
+settled d t costs old new (suc k) = rw (add-suc, ← add-one) (next-level (d + k) t costs costs (settled d t costs old new k) new)
+
+pub last-round : (d : ℕ) (t costs next : List ℕ) → d ≤ 7 → Costs d t costs → CostRound t costs next → next ≡ costs → Costs 7 t next
+last-round d t costs next few old new same =
+    let seven : d + (7 - d) ≡ 7 = omega arith in
+    rw same (rw seven at (settled d t costs old (rw same at new) (7 - d)))
 
 -- B, where the loop begins
 pub bound-start : (t : List ℕ) (h : Layout) → Laid t h → capped (bound t) ≡ capped (0 + sum 0 (h .lists - 0) (costWithin 7 t))

@@ -9,6 +9,7 @@ ghost use Rattle.rulebook.specs.Reasons.{ruleCost, itemCost, listCost, bound as
 ghost use Rattle.words.specs.Field.{Field};
 ghost use Rattle.words.specs.Sections.{Laid};
 ghost use Rattle.cost.specs.Costs.{capped, costIn, CostRound, Costs};
+use words::same;
 use words::sections;
 use words::sections::Layout;
 use words::table;
@@ -105,7 +106,7 @@ fn cost_round(t: &[u32], h: Layout, below: &[u32]) -> [u32; 256]
     costs
 }
 
-// The costs of the lists down to seven levels.
+// The costs of the lists down to seven levels. A round that changes nothing is the last.
 fn list_costs(t: &[u32], h: Layout) -> [u32; 256]
     requires { ⌜ Laid (now t) h × (h .lists ≤ 256) ⌝ }
     ensures { λ r. ⌜ Costs deepest (now (t .entry)) r ⌝ }
@@ -113,7 +114,11 @@ fn list_costs(t: &[u32], h: Layout) -> [u32; 256]
     let mut costs = [0u32; 256];
     let mut d: u32 = 0;
     while d < 7 {
-        costs = cost_round(t, h, &costs);
+        let next = cost_round(t, h, &costs);
+        if same(&next, &costs) {
+            return next;
+        }
+        costs = next;
         d += 1;
     }
     costs

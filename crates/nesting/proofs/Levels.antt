@@ -1,5 +1,5 @@
 -- One level of lists, by what the code reads. Assumes nothing.
-use Prim.Native.Nat.{ℕ, _+_, _<_, _≤_}
+use Prim.Native.Nat.{ℕ, zero, suc, _+_, _-_, _<_, _≤_}
 use mathlib.Core.Path.{_≡_, refl, sym, ap, fun-ext, _∙_}
 use mathlib.Core.Bool.{Bool, true, false}
 use mathlib.Core.List.{List}
@@ -7,6 +7,7 @@ use native.Mathlib.Omega.{arith}
 use lib.Dec.{ltb}
 use lib.ListN.{length, replicate}
 use borrow.Author.Tests.{lt-ltb, le-ltb, ltb-true, ltb-false, eq-eqb, ne-eqb}
+use native.Mathlib.Nat.{add-zero, add-suc}
 use native.Mathlib.Numerals.{add-one}
 use Rattle.rulebook.specs.Words.{field, all}
 use Rattle.rulebook.specs.Table.{lists, itemWord, listWord, itemKind, itemA}
@@ -72,3 +73,13 @@ pub next-level : (d : ℕ) (t below flags : List ℕ) → Nesting d t below → 
 unfolding listWithin
 next-level d t below flags old new =
     record { long = new .long; says = λ l. rw add-one (new .says l ∙ ap (λ (q : ℕ → Bool). listNests t q l) (fun-ext (old .says))) }
+
+-- a round that changes nothing: the levels above are all the same
+pub settled : (d : ℕ) (t flags : List ℕ) → Nesting d t flags → Round t flags flags → (k : ℕ) → Nesting (d + k) t flags
+settled d t flags old new zero = rw add-zero old
+settled d t flags old new (suc k) = rw (add-suc, ← add-one) (next-level (d + k) t flags flags (settled d t flags old new k) new)
+
+pub last-round : (d : ℕ) (t flags next : List ℕ) → d ≤ 7 → Nesting d t flags → Round t flags next → next ≡ flags → Nesting 7 t next
+last-round d t flags next few old new same =
+    let seven : d + (7 - d) ≡ 7 = omega arith in
+    rw same (rw seven at (settled d t flags old (rw same at new) (7 - d)))

@@ -13,6 +13,7 @@ use words::flag;
 use words::parts::Part;
 use words::parts::part_at;
 use words::raised;
+use words::same;
 use words::sections;
 use words::sections::Layout;
 use words::table;
@@ -85,7 +86,7 @@ fn nest_round(t: &[u32], h: Layout, below: &[u32]) -> [u32; 256]
     flags
 }
 
-// Flags of the lists that are at most seven deep.
+// Flags of the lists that are at most seven deep. A round that changes nothing is the last.
 fn nested_lists(t: &[u32], h: Layout) -> [u32; 256]
     requires { ⌜ Laid (now t) h × (h .lists ≤ 256) ⌝ }
     ensures { λ r. ⌜ Nesting deepest (now (t .entry)) r ⌝ }
@@ -93,7 +94,11 @@ fn nested_lists(t: &[u32], h: Layout) -> [u32; 256]
     let mut flags = [0u32; 256];
     let mut d: u32 = 0;
     while d < 7 {
-        flags = nest_round(t, h, &flags);
+        let next = nest_round(t, h, &flags);
+        if same(&next, &flags) {
+            return next;
+        }
+        flags = next;
         d += 1;
     }
     flags
