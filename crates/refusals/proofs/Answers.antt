@@ -2,33 +2,32 @@
 -- answer. Assumes nothing.
 use Prim.Native.Nat.{ℕ}
 use mathlib.Core.Path.{_≡_, refl, ap, sym, _∙_}
+use mathlib.Core.Bool.{true, false}
 use mathlib.Core.List.{List}
-use native.Mathlib.Omega.{arith}
 use lib.Dec.{eqb}
-use borrow.Author.Tests.{eqb-true}
 use Rattle.rulebook.specs.Events.{happen}
-use Rattle.rulebook.specs.Step.{refusedEvent, refusal, finish, handle}
+use Rattle.rulebook.specs.Step.{wellFormed, known, sentByOwner, refusedEvent, refusal, finish, handle}
 use Rattle.walks.proofs.Walks.{split}
 use Rattle.refusals.specs.Answers.{answerOf, heard}
-use Rattle.refusals.specs.declared.Heard.the-variants.{Taken, Refused}
-
-never : {k : ℕ} → Taken ≡ Refused k → ⊥
-never h = let z : _≡_ {A = ℕ} 0 1 = cc in omega arith
+use Rattle.refusals.specs.declared.Heard.{Heard}
 
 module _ (t : List ℕ) (e : ℕ) where
   pub heard-answer : answerOf (heard t e) ≡ refusedEvent t e
-  unfolding heard
-  heard-answer = split (eqb (refusedEvent t e) 0) (λ y. rw y (sym (eqb-true _ _ y))) (λ y. rw y)
+  unfolding heard refusedEvent
+  heard-answer =
+      split (wellFormed e)
+      (λ a. split (known t e) (λ b. split (sentByOwner t e) (λ c. rw (a, b, c)) (λ c. rw (a, b, c))) (λ b. rw (a, b)))
+      (λ a. rw a)
 
-  pub taken-event : heard t e ≡ Taken → refusedEvent t e ≡ 0
-  taken-event h = sym heard-answer ∙ ap answerOf h
+  -- the answer r is heard
+  module _ (s : List ℕ) (r : Heard) (h : r ≡ heard t e) where
+    number : refusedEvent t e ≡ answerOf r
+    number = sym heard-answer ∙ ap answerOf (sym h)
 
-  pub handle-taken : (s : List ℕ) → heard t e ≡ Taken → handle t s e ≡ finish s (happen t e s)
-  unfolding handle
-  handle-taken s h = rw (taken-event h)
+    pub handle-taken : eqb (answerOf r) 0 ≡ true → handle t s e ≡ finish s (happen t e s)
+    unfolding handle
+    handle-taken z = rw (number, z)
 
-  pub handle-refused : (s : List ℕ) (k : ℕ) → heard t e ≡ Refused k → handle t s e ≡ refusal k s
-  unfolding handle heard
-  handle-refused s k h =
-      split (eqb (refusedEvent t e) 0) (λ y. absurd (never (rw y at h)))
-      (λ y. let same : refusedEvent t e ≡ k = sym heard-answer ∙ ap answerOf h in rw (y, same))
+    pub handle-refused : eqb (answerOf r) 0 ≡ false → handle t s e ≡ refusal (answerOf r) s
+    unfolding handle
+    handle-refused z = rw (number, z)

@@ -2,12 +2,11 @@
 use Prim.Native.Nat.{ℕ}
 use mathlib.Core.Bool.{Bool, true, false, cond}
 use mathlib.Core.List.{List}
-use lib.Dec.{eqb}
-use Rattle.rulebook.specs.Step.{refusedEvent}
+use Rattle.rulebook.specs.Step.{wellFormed, known, sentByOwner}
 use Rattle.refusals.specs.declared.Check.{Check}
 use Rattle.refusals.specs.declared.Check.the-variants.{Passed, Failed}
 use Rattle.refusals.specs.declared.Heard.{Heard}
-use Rattle.refusals.specs.declared.Heard.the-variants.{Taken, Refused}
+use Rattle.refusals.specs.declared.Heard.the-variants.{Taken, Malformed, NoSuchThing, NotItsOwner}
 
 abbrev pub passes : Check → Bool
 passes Passed = true
@@ -16,8 +15,10 @@ passes Failed = false
 -- document 01's number for each answer
 abbrev pub answerOf : Heard → ℕ
 answerOf Taken = 0
-answerOf (Refused k) = k
+answerOf Malformed = 4
+answerOf NoSuchThing = 5
+answerOf NotItsOwner = 6
 
--- taken if no refusal is due, else refused with that number
+-- the first of the three checks that fails
 unfoldable pub heard : List ℕ → ℕ → Heard
-heard t e = cond (eqb (refusedEvent t e) 0) Taken (Refused (refusedEvent t e))
+heard t e = cond (wellFormed e) (cond (known t e) (cond (sentByOwner t e) Taken NotItsOwner) NoSuchThing) Malformed

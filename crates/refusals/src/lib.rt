@@ -4,7 +4,7 @@ ghost use Rattle.rulebook.specs.State.{ownerOf};
 ghost use Rattle.rulebook.specs.Step.{wellFormed, named as namedOf, present as presentOf, suited as suitedOf};
 ghost use Rattle.rulebook.specs.Step.{known as knownOf, sentByOwner};
 ghost use Rattle.words.specs.Sections.{Laid};
-ghost use Rattle.refusals.specs.Answers.{passes, answerOf, heard};
+ghost use Rattle.refusals.specs.Answers.{passes, heard};
 ghost use Rattle.refusals.specs.Things.{thingOf};
 use names::held;
 use words::sections;
@@ -126,38 +126,30 @@ fn sent_by_owner(t: &[u32], h: Layout, e: u32) -> Check
     told((kind == 0) | (sender == owner))
 }
 
-// What the checks of an event come to: it is taken, or refused with document 01's number.
+// What the checks of an event come to: it is taken, or refused, with a case for each answer.
 pub enum Heard {
     Taken,
-    Refused(u32),
+    Malformed,
+    NoSuchThing,
+    NotItsOwner,
 }
 
-// The number of an answer.
-pub fn answer(heard: Heard) -> u32
-    ensures { λ r. ⌜ r ≡ answerOf heard ⌝ }
-{
-    match heard {
-        Heard::Taken => 0,
-        Heard::Refused(k) => k,
-    }
-}
-
-// The first check that fails ends the call with its number.
+// The first check that fails ends the call with its answer.
 pub fn hear(t: &[u32], h: Layout, e: u32) -> Heard
     requires { ⌜ Laid (now t) h ⌝ }
     ensures { λ r. ⌜ r ≡ heard (now (t .entry)) e ⌝ }
 {
     let form = well_formed(e);
     let Check::Passed = form else {
-        return Heard::Refused(4);
+        return Heard::Malformed;
     };
     let thing = known(t, h, e);
     let Check::Passed = thing else {
-        return Heard::Refused(5);
+        return Heard::NoSuchThing;
     };
     let sender = sent_by_owner(t, h, e);
     let Check::Passed = sender else {
-        return Heard::Refused(6);
+        return Heard::NotItsOwner;
     };
     Heard::Taken
 }

@@ -1,5 +1,4 @@
 -- `refusals::hear` meets its contract: one answer for each exit, by what the checks before it said. Assumes nothing.
-use Rattle.rulebook.specs.Step.{refusedEvent}
 use mathlib.Core.Path.{sym, ap, _∙_}
 use Rattle.refusals.specs.Answers.{passes, heard}
 use borrow.Author.Needs.{needs}
@@ -16,7 +15,7 @@ enum-told-2 : tie.Need-enum-told-2
 enum-told-2 c = search needs
 
 returns : tie.Need-returns
-unfolding heard refusedEvent
+unfolding heard
 returns c = rw (sym (c .before .before .well-formed .ensures) ∙ ap passes (c .enum-told2 .given .1))
 
 known-requires : tie.Need-known-requires
@@ -29,7 +28,7 @@ enum-told-4 : tie.Need-enum-told-4
 enum-told-4 c = search needs
 
 returns-2 : tie.Need-returns-2
-unfolding heard refusedEvent
+unfolding heard
 returns-2 c = rw (sym (c .before .before .before .before .before .well-formed .ensures) ∙ ap passes (c .before .before .before .enum-told .given .1), sym (c .before .before .known .ensures) ∙ ap passes (c .enum-told4 .given .1))
 
 sent-by-owner-requires : tie.Need-sent-by-owner-requires
@@ -42,11 +41,11 @@ enum-told-6 : tie.Need-enum-told-6
 enum-told-6 c = search needs
 
 returns-3 : tie.Need-returns-3
-unfolding heard refusedEvent
+unfolding heard
 returns-3 c = rw (sym (c .before .before .before .before .before .before .before .before .well-formed .ensures) ∙ ap passes (c .before .before .before .before .before .before .enum-told .given .1), sym (c .before .before .before .before .before .known .ensures) ∙ ap passes (c .before .before .before .enum-told3 .given .1), sym (c .before .before .sent-by-owner .ensures) ∙ ap passes (c .enum-told6 .given .1))
 
 returns-4 : tie.Need-returns-4
-unfolding heard refusedEvent
+unfolding heard
 returns-4 c = rw (sym (c .before .before .before .before .before .before .before .before .well-formed .ensures) ∙ ap passes (c .before .before .before .before .before .before .enum-told .given .1), sym (c .before .before .before .before .before .known .ensures) ∙ ap passes (c .before .before .before .enum-told3 .given .1), sym (c .before .before .sent-by-owner .ensures) ∙ ap passes (c .enum-told5 .given .1))
 
 pub hear-spec : {M : Type 1} → statement M
