@@ -1,0 +1,2 @@
+-- Laws of the public promises.
+pub mod States

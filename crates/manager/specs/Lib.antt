@@ -1,0 +1,2 @@
+-- What the public entries promise.
+pub mod Answers
