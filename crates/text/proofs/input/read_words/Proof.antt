@@ -1,0 +1,78 @@
+-- `text::input::read_words` meets its contract. The loop's invariant: the first i words stand in front, and the rest is as it was.
+-- The measure is how many are left. Assumes nothing.
+use Prim.Native.Nat.{_≤_, _-_}
+use mathlib.Core.Path.{_≡_}
+use mathlib.Core.List.{_++_}
+use native.Mathlib.Omega.{arith}
+use borrow.Author.Needs.{needs}
+use lib.ListN.{length, take, drop, length-set}
+use Rattle.text.specs.Words.{wordsOf}
+use Rattle.text.proofs.Words.{front-more}
+use Rattle.text.proofs.input.read_words.Statement.{statement}
+use Rattle.text.proofs.input.read_words.Tie as tie
+
+abbrev Inv-loop : tie.InvT-loop
+Inv-loop bytes words₀ n i₀ words i = (i ≤ n) × (length words ≡ length words₀) × (words ≡ take i (wordsOf bytes) ++ drop i words₀)
+
+abbrev μ-loop : tie.MeasureT-loop
+μ-loop bytes words₀ n i₀ words i = n - i
+
+word-count-requires : tie.Need-word-count-requires Inv-loop μ-loop
+word-count-requires c κs = search needs
+
+least-requires : tie.Need-least-requires Inv-loop μ-loop
+least-requires c κs = search needs
+
+loop-holds : tie.Need-loop-holds Inv-loop μ-loop
+loop-holds c = search needs
+
+read-word-requires : tie.Need-read-word-requires Inv-loop μ-loop
+read-word-requires c κs = search needs
+
+mul-words : tie.Need-mul-words Inv-loop μ-loop
+mul-words c = omega arith
+
+slice-write-words : tie.Need-slice-write-words Inv-loop μ-loop
+slice-write-words c = omega arith
+
+add-i : tie.Need-add-i Inv-loop μ-loop
+add-i c = omega arith
+
+loop-less : tie.Need-loop-less Inv-loop μ-loop
+loop-less c = omega arith
+
+loop-again : tie.Need-loop-again Inv-loop μ-loop
+loop-again c =
+    let l = c .before .before .loop in
+    let a = c .before .before .before .before .before .before .before .args in (
+      omega arith,
+      simp length-set (l .inv .1),
+      rw (l .inv .2, c .read-word .ensures) (front-more (wordsOf (a .bytes .now)) (a .words .now) (l .i) (omega arith) (omega arith)),
+    )
+
+same-length : tie.Need-same-length Inv-loop μ-loop
+same-length c = c .before .loop .inv .1
+
+returns : tie.Need-returns Inv-loop μ-loop
+returns c =
+    let l = c .before .loop in
+    let q : l .i ≡ c .before .before .least .result = omega arith in
+    record { count = omega arith; words = rw q at (l .inv .2) }
+
+pub read-words-spec : {M : Type 1} → statement M
+read-words-spec =
+    tie.close
+    (tie.spec
+    Inv-loop
+    μ-loop
+    word-count-requires
+    least-requires
+    loop-holds
+    read-word-requires
+    mul-words
+    slice-write-words
+    add-i
+    loop-less
+    loop-again
+    same-length
+    returns)

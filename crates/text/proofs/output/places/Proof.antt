@@ -1,0 +1,33 @@
+-- `text::output::places` meets its contract. The loop's invariant: the digits counted and those of the rest are one more than those of n.
+-- The measure is the rest. Assumes nothing.
+use Prim.Native.Nat.{_+_, _≤_}
+use mathlib.Core.Path.{_≡_}
+use native.Mathlib.Omega.{arith}
+use Rattle.text.specs.Lines.{places}
+use Rattle.text.proofs.Decimal.{places-one, places-more}
+use Rattle.text.proofs.output.places.Statement.{statement}
+use Rattle.text.proofs.output.places.Tie as tie
+
+abbrev Inv-loop : tie.InvT-loop
+Inv-loop n k₀ rest₀ k rest = (k + rest ≤ n + 1) × (places n + 1 ≡ k + places rest)
+
+abbrev μ-loop : tie.MeasureT-loop
+μ-loop n k₀ rest₀ k rest = rest
+
+loop-holds : tie.Need-loop-holds Inv-loop μ-loop
+loop-holds c = omega arith
+
+add-k : tie.Need-add-k Inv-loop μ-loop
+add-k c = omega arith
+
+loop-less : tie.Need-loop-less Inv-loop μ-loop
+loop-less c = omega arith
+
+loop-again : tie.Need-loop-again Inv-loop μ-loop
+loop-again c = omega (arith, places-more (c .before .loop .rest) (c .loop-test .taken))
+
+returns : tie.Need-returns Inv-loop μ-loop
+returns c = omega (arith, places-one (c .before .loop .rest) (c .loop-test .left))
+
+pub places-spec : {M : Type 1} → statement M
+places-spec = tie.close (tie.spec Inv-loop μ-loop loop-holds add-k loop-less loop-again returns)

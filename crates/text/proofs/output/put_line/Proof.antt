@@ -1,0 +1,101 @@
+-- `text::output::put_line` meets its contract. The loop's invariant: laying the i digits that are left gives what laying all k gives.
+-- The measure is how many are left. Assumes nothing.
+use Prim.Native.Nat.{_≤_}
+use mathlib.Core.Path.{_≡_, _∙_}
+use native.Mathlib.Omega.{arith}
+use borrow.Author.Needs.{needs}
+use lib.ListN.{length, length-set}
+use Rattle.text.specs.Lines.{digits}
+use Rattle.text.specs.Puts.{lay}
+use Rattle.text.proofs.Puts.{digits-turn, digits-full, digits-end}
+use Rattle.text.proofs.output.put_line.Statement.{statement}
+use Rattle.text.proofs.output.put_line.Tie as tie
+
+abbrev Inv-loop : tie.InvT-loop
+Inv-loop out₀ at n base k end i₀ rest₀ out i rest = (i ≤ k) × (length out ≡ length out₀) × (lay out at (digits base i rest) ≡ lay out₀ at (digits base k n))
+
+abbrev μ-loop : tie.MeasureT-loop
+μ-loop out₀ at n base k end i₀ rest₀ out i rest = i
+
+past-requires : tie.Need-past-requires Inv-loop μ-loop
+past-requires c κs = search needs
+
+returns : tie.Need-returns Inv-loop μ-loop
+returns c =
+    let a = c .before .before .before .args in
+    digits-full (a .at) (a .base) (a .out .now) (a .k) (a .n) (omega arith)
+
+add-end : tie.Need-add-end Inv-loop μ-loop
+add-end c = omega arith
+
+slice-write-out : tie.Need-slice-write-out Inv-loop μ-loop
+slice-write-out c = omega arith
+
+loop-holds : tie.Need-loop-holds Inv-loop μ-loop
+loop-holds c = search needs
+
+sub-i : tie.Need-sub-i Inv-loop μ-loop
+sub-i c = omega arith
+
+rem-digit : tie.Need-rem-digit Inv-loop μ-loop
+rem-digit c = search needs
+
+digit-requires : tie.Need-digit-requires Inv-loop μ-loop
+digit-requires c κs = search needs
+
+add-out : tie.Need-add-out Inv-loop μ-loop
+add-out c = omega arith
+
+slice-write-out-2 : tie.Need-slice-write-out-2 Inv-loop μ-loop
+slice-write-out-2 c = omega (arith, simp length-set at (c .before .before .loop .inv .1))
+
+div-rest : tie.Need-div-rest Inv-loop μ-loop
+div-rest c = search needs
+
+loop-less : tie.Need-loop-less Inv-loop μ-loop
+loop-less c = omega arith
+
+loop-again : tie.Need-loop-again Inv-loop μ-loop
+loop-again c =
+    let s = c .before .before .before .before .before .before in
+    let l = c .before .before .loop in
+    let same = simp length-set at (l .inv .1) in
+    let turn =
+    digits-turn (s .args .at) (s .args .base) (l .out) (l .i) (l .rest) (c .digit .result) (c .before .loop-test .taken) (omega arith) (s .pre .0) (s .pre .1) (c .digit .ensures)
+    in
+    (omega arith, simp length-set same, turn ∙ l .inv .2)
+
+add-result : tie.Need-add-result Inv-loop μ-loop
+add-result c = omega arith
+
+same-length : tie.Need-same-length Inv-loop μ-loop
+same-length c = simp length-set at (c .before .loop .inv .1)
+
+returns-2 : tie.Need-returns-2 Inv-loop μ-loop
+returns-2 c =
+    let a = c .before .before .before .before .before .args in
+    let l = c .before .loop in
+    digits-end (a .at) (a .base) (a .out .now) (l .out) (a .k) (a .n) (l .i) (l .rest) (omega arith) (c .loop-test .left) (l .inv .2)
+
+pub put-line-spec : {M : Type 1} → statement M
+put-line-spec =
+    tie.close
+    (tie.spec
+    Inv-loop
+    μ-loop
+    past-requires
+    returns
+    add-end
+    slice-write-out
+    loop-holds
+    sub-i
+    rem-digit
+    digit-requires
+    add-out
+    slice-write-out-2
+    div-rest
+    loop-less
+    loop-again
+    add-result
+    same-length
+    returns-2)

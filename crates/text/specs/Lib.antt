@@ -1,0 +1,4 @@
+-- What the contracts of the text cite.
+pub mod Words
+pub mod Lines
+pub mod Puts
