@@ -1,0 +1,104 @@
+-- Which ports are arbitrated: one port, the marked ports, none. Assumes nothing.
+use Prim.Native.Nat.{ℕ, zero, suc, _<_, _≤_}
+use mathlib.Core.Path.{_≡_, refl, sym, ap, fun-ext, _∙_}
+use mathlib.Core.Bool.{Bool, true, false, _&&_, _||_, and-false, or-false}
+use mathlib.Core.List.{List, [], _∷_}
+use native.Mathlib.Omega.{arith}
+use lib.ListN.{length, set, replicate}
+use lib.Dec.{eqb, ltb}
+use borrow.Author.Tests.{eq-eqb, ne-eqb, eqb-true, eqb-false, ltb-true, le-ltb}
+use Rattle.rulebook.specs.Words.{word, field, any, each}
+use Rattle.rulebook.specs.Table.{ports, rules, left, right, ruleExpression}
+use Rattle.rulebook.specs.Expressions.{deepest, operator, expressionMentions, mentions}
+use Rattle.rulebook.specs.Lists.{Run, start}
+use Rattle.rulebook.specs.Arbitration.{unmarkPort, unmarkPorts, evaluated, storeResult, storeResults, chooses, chosen, order, runChosen, decide, arbitrate}
+use Rattle.rulebook.specs.Events.{only, markedIn}
+use Rattle.words.specs.Flags.{flagged}
+use Rattle.words.proofs.Fill.{none-past, none-of-zeros}
+use Rattle.laws.proofs.Tests.{split}
+use Rattle.laws.proofs.Walks.{any-at}
+use Rattle.laws.proofs.Order.{each-weaker, order-there}
+use Rattle.lists.specs.Runs.{Ran}
+use Rattle.arbitration.specs.Outcomes.{Marked}
+use Rattle.arbitration.proofs.Passes.{raised-flag}
+use Rattle.arbitration.proofs.Picking.{none-chosen}
+
+-- one port
+same-test : (a b : ℕ) → eqb a b ≡ eqb b a
+same-test a b = split (eqb b a) (λ e. rw (e, eq-eqb a b (sym (eqb-true b a e)))) (λ e. rw (e, ne-eqb a b (λ z. eqb-false b a e (sym z))))
+
+pub only-one : (p : ℕ) → p < 256 → only p ≡ flagged (set (replicate 256 0) p 1)
+unfolding only
+only-one p h = fun-ext (λ x. same-test x p ∙ sym (raised-flag (replicate 256 0) p x h ∙ rw (none-of-zeros 256 x)))
+
+-- the marked ports
+pub marked-by : (t s : List ℕ) (p n m w : ℕ) → n ≡ ports t → w ≡ word s p → m ≡ field 1 1 w → (ltb p n && eqb m 1) ≡ markedIn t s p
+unfolding markedIn
+marked-by t s p n m w hn hw hm = rw (hn, hm, hw)
+
+pub all-marked : (t s flags : List ℕ) → ports t < 256 → length flags ≡ 256 → ((k : ℕ) → k < 256 → flagged flags k ≡ markedIn t s k) → Marked t s flags
+unfolding markedIn
+all-marked t s flags small long h =
+    record {
+      long = long;
+      says = λ p. split (ltb p 256) (λ e. h p (ltb-true _ _ e))
+          (λ e. let z : 256 ≤ p = past p e in none-past flags p (omega arith) ∙ rw (le-ltb p (ports t) (omega arith)));
+    }
+  where
+    past : (p : ℕ) → ltb p 256 ≡ false → 256 ≤ p
+    past p e = borrow.Author.Tests.ltb-false p 256 e
+
+pub marked-are : (t s flags : List ℕ) → Marked t s flags → flagged flags ≡ markedIn t s
+marked-are t s flags m = fun-ext (m .says)
+
+-- no port: nothing is done
+
+each-none : {A : Type 0} (f : ℕ → A → A) (i n : ℕ) (a : A) → ((j : ℕ) (x : A) → f j x ≡ x) → each i n f a ≡ a
+unfolding each
+each-none f i zero a h = refl
+each-none f i (suc n) a h = ap (each (suc i) n f) (h i a) ∙ each-none f (suc i) n a h
+
+any-none : (p : ℕ → Bool) (i n : ℕ) → ((j : ℕ) → p j ≡ false) → any i n p ≡ false
+unfolding any
+any-none p i zero h = refl
+any-none p i (suc n) h = rw (h i) (any-none p (suc i) n h)
+
+module _ (t : List ℕ) (q : ℕ → Bool) (none : (p : ℕ) → q p ≡ false) where
+  level-none : (below : ℕ → Bool) → ((e : ℕ) → below e ≡ false) → (e : ℕ) → expressionMentions t q below e ≡ false
+  unfolding expressionMentions
+  level-none below h e = split (operator t e) (λ y. rw (y, expressionMentions) (rw (h (left t e), h (right t e), and-false))) (λ y. rw (y, expressionMentions) (none _))
+
+  mentions-none : (d e : ℕ) → mentions d t q e ≡ false
+  unfolding mentions
+  mentions-none zero e = refl
+  mentions-none (suc d) e = level-none (mentions d t q) (mentions-none d) e
+
+  evaluated-none : (s : List ℕ) (r : ℕ) → evaluated t q s r ≡ false
+  unfolding evaluated
+  evaluated-none s r = rw (mentions-none deepest (ruleExpression t r), and-false)
+
+  unmark-none : (s : List ℕ) → unmarkPorts t q s ≡ s
+  unfolding unmarkPorts unmarkPort
+  unmark-none s = each-none (unmarkPort q) 0 (ports t) s (λ p x. rw (none p))
+
+  store-none : (s : List ℕ) → storeResults t q s ≡ s
+  unfolding storeResults storeResult
+  store-none s = each-none (storeResult t q s) 0 (rules t) s (λ r x. rw (evaluated-none s r))
+
+  chosen-none : (s : List ℕ) (l : ℕ) → chosen t q s l ≡ false
+  unfolding chosen chooses
+  chosen-none s l = any-none (chooses t q s l) 0 (rules t) (λ r. rw (evaluated-none s r))
+
+  arbitrate-none : (s : List ℕ) → arbitrate t q s ≡ start s
+  unfolding arbitrate decide
+  arbitrate-none s =
+      rw (unmark-none s, store-none s)
+      (none-chosen t (chosen t q s) (order t) (start s) (each-weaker _ (λ l. chosen t q s l ≡ false) (order t) (λ l z. chosen-none s l) (order-there t)))
+
+none-marked : (t s : List ℕ) → any 0 (ports t) (markedIn t s) ≡ false → (p : ℕ) → markedIn t s p ≡ false
+unfolding markedIn
+none-marked t s h p =
+    split (ltb p (ports t)) (λ e. any-at (markedIn t s) 0 (ports t) p h (omega arith) (let z : p < ports t = ltb-true _ _ e in omega arith)) (λ e. rw e)
+
+pub nothing-marked : (t s T : List ℕ) → any 0 (ports t) (markedIn t s) ≡ false → Ran (arbitrate t (markedIn t s) s) s T T 0
+nothing-marked t s T h = rw (arbitrate-none t (markedIn t s) (none-marked t s h) s) (record { state = refl; words = refl; count = refl })

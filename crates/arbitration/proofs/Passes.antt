@@ -1,0 +1,182 @@
+-- The passes over the rules make up the rulebook's arbitration. Assumes nothing.
+use Prim.Native.Nat.{ℕ, zero, suc, _+_, _-_, _<_, _≤_}
+use mathlib.Core.Path.{_≡_, refl, sym, ap, ap₂, fun-ext, _∙_}
+use mathlib.Core.Bool.{Bool, true, false, cond, _&&_, _||_, not, or-false, or-true, or-assoc}
+use mathlib.Core.List.{List}
+use native.Mathlib.Omega.{arith}
+use native.Mathlib.Numerals.{add-one}
+use native.Mathlib.Nat.{sub-zero}
+use lib.ListN.{length, set, replicate}
+use lib.Seq.{set-out, getD-set-same, getD-set-other}
+use lib.Dec.{eqb}
+use borrow.Author.Tests.{eq-eqb, ne-eqb, eqb-true, eqb-false, not-true, not-false}
+use Rattle.rulebook.specs.Words.{word, field, digit, any, each}
+use Rattle.rulebook.specs.Table.{rules, ruleWord, nestedOnly, ruleExpression, noList, triggered}
+use Rattle.rulebook.specs.Expressions.{deepest, mentions}
+use Rattle.rulebook.specs.State.{undefinedResult, packPort}
+use Rattle.rulebook.specs.Lists.{Run, start, unready, resultIn, previousIn, listFor, choice, choiceIn, setResult}
+use Rattle.rulebook.specs.Arbitration.{unmarkPort, unmarkPorts, evaluated, storeResult, storeResults, chooses, chosen, order, runChosen, decide, arbitrate}
+use Rattle.words.specs.Flags.{flagged}
+use Rattle.words.proofs.Fill.{none-of-zeros}
+use Rattle.walks.proofs.Walks.{any-end}
+use Rattle.laws.proofs.Tests.{split}
+use Rattle.laws.proofs.Fields.{digit-small}
+use Rattle.laws.proofs.Items.{result-small}
+use Rattle.arbitration.specs.Outcomes.{outcome, Outcomes, storeBy, choosesBy, pickBy, Chosen}
+
+-- a port, by what is read of its word
+module _ (flags s : List ℕ) (p : ℕ) (b : Bool) (hb : b ≡ flagged flags p) where
+  pub unmarked-port : b ≡ true → (w d v r u : ℕ) → w ≡ word s p → d ≡ field 0 1 w → v ≡ field 2 8 w → r ≡ field 16 16 w → u ≡ packPort d 0 v r
+      → set s p u ≡ unmarkPort (flagged flags) p s
+  unfolding unmarkPort
+  unmarked-port up w d v r u hw hd hv hr hu = rw (hu, hd, hv, hr, hw, sym hb ∙ up)
+
+  pub left-port : b ≡ false → s ≡ unmarkPort (flagged flags) p s
+  unfolding unmarkPort
+  left-port down = rw (sym hb ∙ down)
+
+-- a rule has the word w, and by it is nested-only or not, and has the expression e
+module _ (t : List ℕ) (q : ℕ → Bool) (s : List ℕ) (r w n : ℕ) (hw : w ≡ ruleWord t r) (hn : n ≡ field 6 1 w) where
+  is-nested : n ≡ nestedOnly t r
+  is-nested = hn ∙ ap (field 6 1) hw
+
+  pub outcome-nested : (n ≡ 0 → ⊥) → 2 ≡ outcome t q s r
+  unfolding outcome evaluated
+  outcome-nested h = rw (ne-eqb (nestedOnly t r) 0 (λ z. h (is-nested ∙ z)))
+
+  module _ (h : n ≡ 0) (e : ℕ) (he : e ≡ field 7 9 w) (m : Bool) (hm : m ≡ mentions deepest t q e) where
+    outer : eqb (nestedOnly t r) 0 ≡ true
+    outer = eq-eqb _ 0 (sym is-nested ∙ h)
+
+    mentioned : m ≡ mentions deepest t q (ruleExpression t r)
+    mentioned = hm ∙ ap (mentions deepest t q) (he ∙ ap (field 7 9) hw)
+
+    pub outcome-unmentioned : not m ≡ true → 2 ≡ outcome t q s r
+    unfolding outcome evaluated
+    outcome-unmentioned none = rw (outer, sym mentioned ∙ not-true m none)
+
+    module _ (some : not m ≡ false) (u : Bool) (hu : u ≡ unready t s r) where
+      pub outcome-unready : u ≡ true → 2 ≡ outcome t q s r
+      unfolding outcome evaluated
+      outcome-unready y = rw (outer, sym mentioned ∙ not-false m some, sym hu ∙ y)
+
+      pub outcome-result : u ≡ false → (x : ℕ) → x ≡ resultIn t s r → x ≡ outcome t q s r
+      unfolding outcome evaluated
+      outcome-result y x hx = hx ∙ rw (outer, sym mentioned ∙ not-false m some, sym hu ∙ y)
+
+-- what the rule picks, by its outcome x
+module _ (t results s : List ℕ) (r x : ℕ) (hx : x ≡ word results r) where
+  pub picks-none : x ≡ 2 → 256 ≡ pickBy t results s r
+  unfolding pickBy
+  picks-none h = rw (eq-eqb (word results r) 2 (sym hx ∙ h))
+
+  pub picks : (x ≡ 2 → ⊥) → (previous l : ℕ) → previous ≡ previousIn t s r → l ≡ choice t r previous x → l ≡ pickBy t results s r
+  unfolding pickBy
+  picks h previous l hp hl = hl ∙ rw (hp, hx, ne-eqb (word results r) 2 (λ e. h (hx ∙ e)))
+
+  pub stores-none : x ≡ 2 → s ≡ storeBy t results r s
+  unfolding storeBy
+  stores-none h = rw (eq-eqb (word results r) 2 (sym hx ∙ h))
+
+  pub stores : (x ≡ 2 → ⊥) → (s' : List ℕ) → s' ≡ setResult t r x s → s' ≡ storeBy t results r s
+  unfolding storeBy
+  stores h s' hs = hs ∙ rw (hx, ne-eqb (word results r) 2 (λ e. h (hx ∙ e)))
+
+list-small : (t : List ℕ) (r result : ℕ) → listFor t r result < 256
+list-small t r result = split (eqb result 1) (λ e. rw e (digit-small _ 256 _ (omega arith))) (λ e. rw e (digit-small _ 256 _ (omega arith)))
+
+small : (b : Bool) (l : ℕ) → l < 256 → cond b l noList < 256
+small true l h = h
+small false l h = omega arith
+
+choice-small : (t : List ℕ) (r previous result : ℕ) → choice t r previous result < 256
+unfolding choice
+choice-small t r previous result =
+    small (eqb (triggered t (listFor t r result)) 0 || not (eqb result previous)) (listFor t r result) (list-small t r result)
+
+-- a flag put up
+pub raised-flag : (flags : List ℕ) (l k : ℕ) → l < length flags → flagged (set flags l 1) k ≡ (flagged flags k || eqb l k)
+unfolding flagged
+raised-flag flags l k h =
+    split (eqb l k)
+    (λ e. let s : l ≡ k = eqb-true l k e in rw (e, or-true) (rw (← s, getD-set-same flags l 1 0 h)))
+    (λ e. rw (e, or-false, getD-set-other flags l k 1 0 (λ z. eqb-false l k e (sym z))))
+
+-- a turn of the loop that chooses
+any-step : (i e : ℕ) (p : ℕ → Bool) → i < e → any i (e - i) p ≡ (p i || any (i + 1) (e - (i + 1)) p)
+unfolding any
+any-step i e p h = let m : e - i ≡ suc (e - (i + 1)) = omega arith in rw (m, add-one)
+
+module _ (t results s flags : List ℕ) (r l : ℕ) (long : length flags ≡ 256) (hl : l ≡ pickBy t results s r) where
+  pub chose-one : (k : ℕ) → flagged (set flags l 1) k ≡ (flagged flags k || choosesBy t results s k r)
+  unfolding pickBy choosesBy
+  chose-one k =
+      split (eqb (word results r) 2)
+      (λ e. let z : l ≡ 256 = hl ∙ rw e in rw (e, z, or-false, set-out flags 256 1 (omega arith)))
+      (λ e. let z : l ≡ choice t r (previousIn t s r) (word results r) = hl ∙ rw e in
+      let b : choice t r (previousIn t s r) (word results r) < 256 = choice-small t r (previousIn t s r) (word results r) in
+      rw (e, ← z) (raised-flag flags l k (omega arith)))
+
+  pub chose-more : (e k : ℕ) → r < e → any 0 e (choosesBy t results s k) ≡ (flagged flags k || any r (e - r) (choosesBy t results s k))
+      → any 0 e (choosesBy t results s k) ≡ (flagged (set flags l 1) k || any (r + 1) (e - (r + 1)) (choosesBy t results s k))
+  chose-more e k h before =
+      before ∙ rw (any-step r e (choosesBy t results s k) h, chose-one k) (sym (or-assoc (flagged flags k) _ _))
+
+pub chose-none : (t results s : List ℕ) (e k : ℕ) → any 0 e (choosesBy t results s k) ≡ (flagged (replicate 256 0) k || any 0 (e - 0) (choosesBy t results s k))
+chose-none t results s e k = rw (none-of-zeros 256 k, sub-zero)
+
+pub chose-all : (t results s flags : List ℕ) (r : ℕ) → length flags ≡ 256 → rules t ≤ r
+    → ((k : ℕ) → any 0 (rules t) (choosesBy t results s k) ≡ (flagged flags k || any r (rules t - r) (choosesBy t results s k))) → Chosen t results s flags
+chose-all t results s flags r long h says =
+    record { long = long; says = λ k. sym (says k ∙ rw (any-end r (rules t) (choosesBy t results s k) h, or-false)) }
+
+-- Walks of two functions that agree on the range.
+
+each-same : {A : Type 0} (f g : ℕ → A → A) (i n : ℕ) (a : A) → ((j : ℕ) (x : A) → i ≤ j → j < i + n → f j x ≡ g j x) → each i n f a ≡ each i n g a
+unfolding each
+each-same f g i zero a h = refl
+each-same f g i (suc n) a h =
+    ap (each (suc i) n f) (h i a (omega arith) (omega arith)) ∙ each-same f g (suc i) n (g i a) (λ j x b c. h j x (omega arith) (omega arith))
+
+any-same : (p q : ℕ → Bool) (i n : ℕ) → ((j : ℕ) → i ≤ j → j < i + n → p j ≡ q j) → any i n p ≡ any i n q
+unfolding any
+any-same p q i zero h = refl
+any-same p q i (suc n) h = ap₂ _||_ (h i (omega arith) (omega arith)) (any-same p q (suc i) n (λ j b c. h j (omega arith) (omega arith)))
+
+-- The outcomes are right: then so are what is stored and what is chosen.
+module _ (t : List ℕ) (q : ℕ → Bool) (s results : List ℕ) (o : Outcomes t q s results) where
+  is-result : (r : ℕ) → r < rules t → evaluated t q s r ≡ true → word results r ≡ resultIn t s r
+  unfolding outcome
+  is-result r h e = o .says r h ∙ rw e
+
+  is-none : (r : ℕ) → r < rules t → evaluated t q s r ≡ false → word results r ≡ 2
+  unfolding outcome
+  is-none r h e = o .says r h ∙ rw e
+
+  no-two : (r : ℕ) → resultIn t s r ≡ 2 → ⊥
+  no-two r e = let b = result-small t s r in omega arith
+
+  store-at : (r : ℕ) (x : List ℕ) → r < rules t → storeBy t results r x ≡ storeResult t q s r x
+  unfolding storeBy storeResult
+  store-at r x h =
+      split (evaluated t q s r) (λ e. rw (e, is-result r h e, ne-eqb (resultIn t s r) 2 (no-two r)))
+      (λ e. rw (e, is-none r h e))
+
+  choose-at : (l r : ℕ) → r < rules t → choosesBy t results s l r ≡ chooses t q s l r
+  unfolding choosesBy chooses choiceIn
+  choose-at l r h =
+      split (evaluated t q s r) (λ e. rw (e, is-result r h e, ne-eqb (resultIn t s r) 2 (no-two r)))
+      (λ e. rw (e, is-none r h e))
+
+  stored : each 0 (rules t) (storeBy t results) s ≡ storeResults t q s
+  unfolding storeResults
+  stored = each-same (storeBy t results) (storeResult t q s) 0 (rules t) s (λ r x a b. store-at r x (omega arith))
+
+  chose : (flags : List ℕ) → Chosen t results s flags → flagged flags ≡ chosen t q s
+  unfolding chosen
+  chose flags c = fun-ext (λ l. c .says l ∙ any-same _ _ 0 (rules t) (λ r a b. choose-at l r (omega arith)))
+
+  pub arbitrated : (s₀ s₂ flags : List ℕ) → s ≡ unmarkPorts t q s₀ → Chosen t results s flags → s₂ ≡ each 0 (rules t) (storeBy t results) s
+      → arbitrate t q s₀ ≡ runChosen t (flagged flags) (order t) (start s₂)
+  unfolding arbitrate decide
+  arbitrated s₀ s₂ flags hs c h₂ = rw (← hs, h₂, stored, chose flags c)

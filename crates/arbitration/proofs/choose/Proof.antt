@@ -1,0 +1,68 @@
+-- `arbitration::choose` meets its contract. The loop's invariant: what all rules choose is what those passed choose, or the rest. Assumes nothing.
+use Prim.Native.Nat.{ℕ, _-_, _≤_}
+use mathlib.Core.Path.{_≡_, refl, sym, _∙_}
+use mathlib.Core.Bool.{_||_}
+use native.Mathlib.Omega.{arith}
+use borrow.Author.Needs.{needs}
+use lib.ListN.{length}
+use Rattle.rulebook.specs.Words.{any}
+use Rattle.rulebook.specs.Table as Table
+use Rattle.words.specs.Flags.{flagged}
+use Rattle.arbitration.specs.Outcomes.{choosesBy}
+use Rattle.arbitration.proofs.Passes.{chose-none, chose-more, chose-all}
+use Rattle.arbitration.proofs.choose.Statement.{statement}
+use Rattle.arbitration.proofs.choose.Tie as tie
+
+abbrev Inv-loop : tie.InvT-loop
+Inv-loop t h results s rules flags₀ r₀ flags r = (r ≤ rules) × (length flags ≡ 256)
+    × ((k : ℕ) → any 0 (Table.rules t) (choosesBy t results s k) ≡ (flagged flags k || any r (Table.rules t - r) (choosesBy t results s k)))
+
+abbrev μ-loop : tie.MeasureT-loop
+μ-loop t h results s rules flags₀ r₀ flags r = rules - r
+
+loop-holds : tie.Need-loop-holds Inv-loop μ-loop
+loop-holds c = (omega arith, refl, λ k. chose-none _ _ _ _ k)
+
+pick-requires : tie.Need-pick-requires Inv-loop μ-loop
+pick-requires c κs = c .before .before .before .before .before .pre
+
+slice-aggregate-put : tie.Need-slice-aggregate-put Inv-loop μ-loop
+slice-aggregate-put c = sym (c .before .before .before .loop .inv .1)
+
+cast-put : tie.Need-cast-put Inv-loop μ-loop
+cast-put c = search needs
+
+put-requires : tie.Need-put-requires Inv-loop μ-loop
+put-requires c κs = search needs
+
+add-r : tie.Need-add-r Inv-loop μ-loop
+add-r c = omega (arith, c .before .before .before .before .loop-test .taken, c .before .before .before .before .before .before .before .before .before .pre .rules .small)
+
+loop-less : tie.Need-loop-less Inv-loop μ-loop
+loop-less c = omega (arith, c .before .before .before .before .loop-test .taken)
+
+loop-again : tie.Need-loop-again Inv-loop μ-loop
+loop-again c = (
+  omega (arith, c .before .before .before .before .loop-test .taken),
+  c .before .put .kept .0 ∙ c .before .before .before .before .before .loop .inv .1,
+  λ k. rw (c .before .put .ensures) (chose-more _ _ _ _ _ _ (c .before .before .before .before .before .loop .inv .1) (c .before .before .before .pick .ensures) _ k (omega (arith, c .before .before .before .before .loop-test .taken, c .before .before .before .before .before .before .before .before .before .pre .rules .value)) (c .before .before .before .before .before .loop .inv .2 k)),
+)
+
+returns : tie.Need-returns Inv-loop μ-loop
+returns c = chose-all _ _ _ _ _ (c .before .loop .inv .1) (omega (arith, c .loop-test .left, c .before .before .before .before .before .pre .rules .value)) (c .before .loop .inv .2)
+
+pub choose-spec : {M : Type 1} → statement M
+choose-spec =
+    tie.close
+    (tie.spec
+    Inv-loop
+    μ-loop
+    loop-holds
+    pick-requires
+    slice-aggregate-put
+    cast-put
+    put-requires
+    add-r
+    loop-less
+    loop-again
+    returns)

@@ -1,0 +1,68 @@
+-- `arbitration::marked_ports` meets its contract. The loop's invariant: the flags of the ports passed are right. Assumes nothing.
+use Prim.Native.Nat.{ℕ, _-_, _≤_, _<_}
+use mathlib.Core.Path.{_≡_, refl}
+use native.Mathlib.Omega.{arith}
+use lib.ListN.{length, length-set}
+use Rattle.rulebook.specs.Events.{markedIn}
+use Rattle.words.specs.Flags.{flagged}
+use Rattle.words.proofs.Fill.{raise-more}
+use Rattle.arbitration.proofs.Marks.{all-marked}
+use Rattle.arbitration.proofs.marked_ports.Statement.{statement}
+use Rattle.arbitration.proofs.marked_ports.Tie as tie
+
+abbrev Inv-loop : tie.InvT-loop
+Inv-loop t h s flags₀ p₀ flags p = (p ≤ 256) × (length flags ≡ 256) × ((k : ℕ) → k < p → flagged flags k ≡ markedIn t s k)
+
+abbrev μ-loop : tie.MeasureT-loop
+μ-loop t h s flags₀ p₀ flags p = 256 - p
+
+loop-holds : tie.Need-loop-holds Inv-loop μ-loop
+loop-holds c = (omega arith, refl, λ k h. absurd (omega arith))
+
+is-marked-requires : tie.Need-is-marked-requires Inv-loop μ-loop
+is-marked-requires c κs = c .before .before .before .before .pre
+
+raised-requires : tie.Need-raised-requires Inv-loop μ-loop
+raised-requires c κs = tt
+
+cast-flags : tie.Need-cast-flags Inv-loop μ-loop
+cast-flags c = omega arith
+
+mul-flags : tie.Need-mul-flags Inv-loop μ-loop
+mul-flags c = omega arith
+
+array-write-flags : tie.Need-array-write-flags Inv-loop μ-loop
+array-write-flags c = c .before .before .loop-test .taken
+
+add-p : tie.Need-add-p Inv-loop μ-loop
+add-p c = omega arith
+
+loop-less : tie.Need-loop-less Inv-loop μ-loop
+loop-less c = omega arith
+
+loop-again : tie.Need-loop-again Inv-loop μ-loop
+loop-again c = (
+  omega arith,
+  simp length-set (c .before .before .before .loop .inv .1),
+  raise-more (markedIn (c .before .before .before .before .before .before .args .t .now) (c .before .before .before .before .before .before .args .s .now)) _ _ _ _ (omega (arith, c .before .before .before .loop .inv .1, c .before .before .loop-test .taken)) (c .raised .ensures) (c .before .is-marked .ensures) (c .before .before .before .loop .inv .2),
+)
+
+returns : tie.Need-returns Inv-loop μ-loop
+returns c = all-marked _ _ _ (omega (arith, c .before .before .before .before .pre .ports .value, c .before .before .before .before .pre .ports .small)) (c .before .loop .inv .1) (λ k h. c .before .loop .inv .2 k (omega (arith, c .loop-test .left)))
+
+pub marked-ports-spec : {M : Type 1} → statement M
+marked-ports-spec =
+    tie.close
+    (tie.spec
+    Inv-loop
+    μ-loop
+    loop-holds
+    is-marked-requires
+    raised-requires
+    cast-flags
+    mul-flags
+    array-write-flags
+    add-p
+    loop-less
+    loop-again
+    returns)

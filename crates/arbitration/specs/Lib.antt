@@ -1,0 +1,3 @@
+-- What the contracts of the arbitration cite beside the rulebook.
+pub mod Outcomes
+pub mod Picking

@@ -1,0 +1,261 @@
+// Arbitration: the marks of the arbitrated ports are cleared, every rule that is to be evaluated is evaluated before any list runs,
+// and the chosen lists run once each, larger priority first, then lower number.
+ghost use mathlib.Core.Path.{_≡_};
+ghost use Prim.Native.Nat.{_≤_, _<_};
+ghost use Rattle.rulebook.specs.Words.{any, each};
+ghost use Rattle.rulebook.specs.Table.{ports as portsOf, rules as rulesOf, lists as listsOf};
+ghost use Rattle.rulebook.specs.Lists.{start};
+ghost use Rattle.rulebook.specs.Arbitration.{unmarkPort, unmarkPorts, order, runChosen, arbitrate as arbitrateOf};
+ghost use Rattle.rulebook.specs.Events.{only, markedIn, arbitrateMarked};
+ghost use Rattle.words.specs.Flags.{flagged};
+ghost use Rattle.words.specs.Sections.{Laid};
+ghost use Rattle.lists.specs.Runs.{Safe, Ran};
+ghost use Rattle.arbitration.specs.Outcomes.{outcome as outcomeOf, Outcomes, storeBy, pickBy, Chosen, Marked};
+ghost use Rattle.arbitration.specs.Picking.{better as betterOf, Best};
+use evaluation;
+use expression::mentions;
+use lists;
+use words::flag;
+use words::put;
+use words::raised;
+use words::sections;
+use words::sections::Layout;
+use words::state;
+use words::table;
+use words::word;
+
+// Clears port p's mark, if its flag is up.
+fn unmark_port(flags: &[u32], s: &mut [u32], p: u32)
+    ensures { λ _. ⌜ now (s .exit) ≡ unmarkPort (flagged (now (flags .entry))) p (now (s .entry)) ⌝ }
+{
+    if flag(flags, p) {
+        let w = word(s, p as usize);
+        let unmarked = state::pack_port(state::defined(w), 0, state::value(w), state::remaining(w));
+        put(s, p as usize, unmarked);
+    }
+}
+
+// Clears the marks of the ports whose flags are up, and no others.
+fn unmark(t: &[u32], h: Layout, flags: &[u32], s: &mut [u32])
+    requires { ⌜ Laid (now t) h ⌝ }
+    ensures { λ _. ⌜ now (s .exit) ≡ unmarkPorts (now (t .entry)) (flagged (now (flags .entry))) (now (s .entry)) ⌝ }
+{
+    let ports = h.ports;
+    let mut p: u32 = 0;
+    while p < ports {
+        unmark_port(flags, s, p);
+        p += 1;
+    }
+}
+
+// Rule r's result, if it is to be evaluated: it is not nested-only, mentions a port whose flag is up, and no undefined one. Else 2.
+fn outcome(t: &[u32], h: Layout, flags: &[u32], s: &[u32], r: u32) -> u32
+    requires { ⌜ Laid (now t) h ⌝ }
+    ensures { λ n. ⌜ n ≡ outcomeOf (now (t .entry)) (flagged (now (flags .entry))) (now (s .entry)) r ⌝ }
+{
+    let w = sections::rule_word(t, h, r);
+    let nested = table::nested_only(w);
+    if nested != 0 {
+        return 2;
+    }
+    if !mentions(t, h, flags, table::rule_expression(w), 7) {
+        return 2;
+    }
+    if evaluation::unready(t, h, s, r) {
+        return 2;
+    }
+    evaluation::result(t, h, s, r)
+}
+
+// The outcomes of all rules, all from the one state.
+fn outcomes(t: &[u32], h: Layout, flags: &[u32], s: &[u32]) -> [u32; 256]
+    requires { ⌜ Laid (now t) h × (h .rules ≤ 256) ⌝ }
+    ensures { λ results. ⌜ Outcomes (now (t .entry)) (flagged (now (flags .entry))) (now (s .entry)) results ⌝ }
+{
+    let rules = h.rules;
+    let mut results = [0u32; 256];
+    let mut r: u32 = 0;
+    while r < rules {
+        let found = outcome(t, h, flags, s, r);
+        results[r as usize] = found;
+        r += 1;
+    }
+    results
+}
+
+// The list that rule r starts by its outcome; 256 where it has no result.
+fn pick(t: &[u32], h: Layout, results: &[u32], s: &[u32], r: u32) -> u32
+    requires { ⌜ Laid (now t) h ⌝ }
+    ensures { λ l. ⌜ l ≡ pickBy (now (t .entry)) (now (results .entry)) (now (s .entry)) r ⌝ }
+{
+    let result = word(results, r as usize);
+    if result == 2 {
+        return 256;
+    }
+    evaluation::choice(t, h, r, lists::previous(t, h, s, r), result)
+}
+
+// Flags of the lists that the rules choose, from the state before the results are stored. Flag 255 means nothing: no list has that
+// number.
+fn choose(t: &[u32], h: Layout, results: &[u32], s: &[u32]) -> [u32; 256]
+    requires { ⌜ Laid (now t) h ⌝ }
+    ensures { λ flags. ⌜ Chosen (now (t .entry)) (now (results .entry)) (now (s .entry)) flags ⌝ }
+{
+    let rules = h.rules;
+    let mut flags = [0u32; 256];
+    let mut r: u32 = 0;
+    while r < rules {
+        let l = pick(t, h, results, s, r);
+        put(&mut flags, l as usize, 1);
+        r += 1;
+    }
+    flags
+}
+
+// Stores rule r's result, if it has one.
+fn store_result(t: &[u32], h: Layout, results: &[u32], s: &mut [u32], r: u32)
+    requires { ⌜ Laid (now t) h ⌝ }
+    ensures { λ _. ⌜ now (s .exit) ≡ storeBy (now (t .entry)) (now (results .entry)) r (now (s .entry)) ⌝ }
+{
+    let result = word(results, r as usize);
+    if result == 2 {
+        return;
+    }
+    lists::set_result(t, h, s, r, result);
+}
+
+// Stores the results.
+fn store(t: &[u32], h: Layout, results: &[u32], s: &mut [u32])
+    requires { ⌜ Laid (now t) h ⌝ }
+    ensures { λ _. ⌜ now (s .exit) ≡ each 0 (rulesOf (now (t .entry))) (storeBy (now (t .entry)) (now (results .entry))) (now (s .entry)) ⌝ }
+{
+    let rules = h.rules;
+    let mut r: u32 = 0;
+    while r < rules {
+        store_result(t, h, results, s, r);
+        r += 1;
+    }
+}
+
+// List k or the best so far, whichever runs before the other.
+fn better(t: &[u32], h: Layout, flags: &[u32], k: u32, best: u32) -> u32
+    requires { ⌜ Laid (now t) h ⌝ }
+    ensures { λ l. ⌜ l ≡ betterOf (now (t .entry)) (now (flags .entry)) k best ⌝ }
+{
+    let lists = h.lists;
+    let up = flag(flags, k);
+    let priority = table::list_priority(sections::list_word(t, h, k));
+    let best_priority = table::list_priority(sections::list_word(t, h, best));
+    let takes = up & ((lists <= best) | (best_priority < priority));
+    if takes {
+        return k;
+    }
+    best
+}
+
+// The list that runs before all others whose flags are up; the number of lists where there are none.
+fn best(t: &[u32], h: Layout, flags: &[u32]) -> u32
+    requires { ⌜ Laid (now t) h ⌝ }
+    ensures { λ l. ⌜ Best (now (t .entry)) (now (flags .entry)) (listsOf (now (t .entry))) l ⌝ }
+{
+    let lists = h.lists;
+    let mut l = lists;
+    let mut k: u32 = 0;
+    while k < lists {
+        l = better(t, h, flags, k, l);
+        k += 1;
+    }
+    l
+}
+
+// Runs the lists whose flags are up, once each; each gets the trace from the first free word on.
+fn run_chosen(t: &[u32], h: Layout, flags: &mut [u32], s: &mut [u32], trace: &mut [u32]) -> usize
+    requires { ⌜ Laid (now t) h × Safe (runChosen (now t) (flagged (now flags)) (order (now t)) (start (now s))) (now trace) ⌝ }
+    ensures { λ n. ⌜ Ran (runChosen (now (t .entry)) (flagged (now (flags .entry))) (order (now (t .entry))) (start (now (s .entry)))) (now (s .exit)) (now (trace .entry)) (now (trace .exit)) n ⌝ }
+{
+    let lists = h.lists;
+    let mut at: usize = 0;
+    let mut l = best(t, h, flags);
+    while l < lists {
+        put(flags, l as usize, 0);
+        let n = lists::run_list(t, h, l, 7, s, &mut trace[at..]);
+        at += n;
+        l = best(t, h, flags);
+    }
+    at
+}
+
+// Arbitrates the ports whose flags are up.
+pub fn arbitrate(t: &[u32], h: Layout, flags: &[u32], s: &mut [u32], trace: &mut [u32]) -> usize
+    requires { ⌜ Laid (now t) h × (h .rules ≤ 256) × Safe (arbitrateOf (now t) (flagged (now flags)) (now s)) (now trace) ⌝ }
+    ensures { λ n. ⌜ Ran (arbitrateOf (now (t .entry)) (flagged (now (flags .entry))) (now (s .entry))) (now (s .exit)) (now (trace .entry)) (now (trace .exit)) n ⌝ }
+{
+    unmark(t, h, flags, s);
+    let results = outcomes(t, h, flags, s);
+    let mut chosen = choose(t, h, &results, s);
+    store(t, h, &results, s);
+    run_chosen(t, h, &mut chosen, s, trace)
+}
+
+// Arbitrates port p alone.
+pub fn arbitrate_one(t: &[u32], h: Layout, p: u32, s: &mut [u32], trace: &mut [u32]) -> usize
+    requires { ⌜ Laid (now t) h × (h .rules ≤ 256) × (p < 256) × Safe (arbitrateOf (now t) (only p) (now s)) (now trace) ⌝ }
+    ensures { λ n. ⌜ Ran (arbitrateOf (now (t .entry)) (only p) (now (s .entry))) (now (s .exit)) (now (trace .entry)) (now (trace .exit)) n ⌝ }
+{
+    let mut flags = [0u32; 256];
+    flags[p as usize] = 1;
+    arbitrate(t, h, &flags, s, trace)
+}
+
+// Whether port p is there and marked.
+fn is_marked(t: &[u32], h: Layout, s: &[u32], p: u32) -> bool
+    requires { ⌜ Laid (now t) h ⌝ }
+    ensures { λ r. ⌜ r ≡ markedIn (now (t .entry)) (now (s .entry)) p ⌝ }
+{
+    let ports = h.ports;
+    let marked = state::marked(word(s, p as usize));
+    (p < ports) & (marked == 1)
+}
+
+// Whether any port is marked.
+fn any_marked(t: &[u32], h: Layout, s: &[u32]) -> bool
+    requires { ⌜ Laid (now t) h ⌝ }
+    ensures { λ r. ⌜ r ≡ any 0 (portsOf (now (t .entry))) (markedIn (now (t .entry)) (now (s .entry))) ⌝ }
+{
+    let ports = h.ports;
+    let mut p: u32 = 0;
+    while p < ports {
+        if is_marked(t, h, s, p) {
+            return true;
+        }
+        p += 1;
+    }
+    false
+}
+
+// Flags of the marked ports.
+fn marked_ports(t: &[u32], h: Layout, s: &[u32]) -> [u32; 256]
+    requires { ⌜ Laid (now t) h ⌝ }
+    ensures { λ flags. ⌜ Marked (now (t .entry)) (now (s .entry)) flags ⌝ }
+{
+    let mut flags = [0u32; 256];
+    let mut p: u32 = 0;
+    while p < 256 {
+        let up = raised(is_marked(t, h, s, p));
+        flags[p as usize] = up;
+        p += 1;
+    }
+    flags
+}
+
+// Arbitrates all marked ports. Where none is marked no rule is looked at.
+pub fn arbitrate_marked(t: &[u32], h: Layout, s: &mut [u32], trace: &mut [u32]) -> usize
+    requires { ⌜ Laid (now t) h × (h .rules ≤ 256) × Safe (arbitrateMarked (now t) (now s)) (now trace) ⌝ }
+    ensures { λ n. ⌜ Ran (arbitrateMarked (now (t .entry)) (now (s .entry))) (now (s .exit)) (now (trace .entry)) (now (trace .exit)) n ⌝ }
+{
+    if !any_marked(t, h, s) {
+        return 0;
+    }
+    let flags = marked_ports(t, h, s);
+    arbitrate(t, h, &flags, s, trace)
+}
