@@ -12,7 +12,9 @@ same-length c = search needs
 
 returns : tie.Need-returns
 unfolding hexLine
-returns c = c .before .before .put-digits .ensures
+returns c =
+    let e = c .before .before .put-digits .ensures in
+    record { place = e .place; bytes = e .bytes; within = e .within }
 
 pub put-hex-line-spec : {M : Type 1} → statement M
 put-hex-line-spec = tie.close (tie.spec put-digits-requires same-length returns)
