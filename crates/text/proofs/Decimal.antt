@@ -2,7 +2,7 @@
 use Prim.Native.Nat.{ℕ, zero, suc, _+_, _/_, _%_, _^_, _*_, _<_, _≤_}
 use mathlib.Core.Path.{_≡_, refl, sym, ap, _∙_}
 use mathlib.Core.Bool.{Bool, true, false}
-use mathlib.Core.List.{List, [], _∷_, _++_}
+use mathlib.Core.List.{[], _∷_, _++_}
 use native.Mathlib.Nat.{pow-suc, mod-eq-of-lt}
 use native.Mathlib.Omega.{arith}
 use lib.ListN.{length, getD, List·getD-append}
@@ -84,7 +84,7 @@ places-some n = below n 10 (λ h. omega (arith, places-one n h)) (λ h. omega (a
 
 first-digit : (n : ℕ) → 10 ≤ n → getD (decimal n) 0 0 ≡ getD (decimal (n / 10)) 0 0
 unfolding decimal
-first-digit n h = rw decimal-more (List·getD-append (decimal (n / 10)) _ 0 0 (rw length-digits (places-some (n / 10))))
+first-digit n h = rw (decimal-more n h) (List·getD-append (decimal (n / 10)) _ 0 0 (rw length-digits (places-some (n / 10))))
 
 -- no number but 0 begins with a zero
 no-zero : (k n : ℕ) → n ≤ k → 0 < n → getD (decimal n) 0 0 ≡ 48 → ⊥

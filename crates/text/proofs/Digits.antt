@@ -1,6 +1,6 @@
 -- Digits: how many there are, and that they say the number. Assumes nothing.
 use Prim.Native.Nat.{ℕ, zero, suc, _+_, _-_, _*_, _/_, _%_, _^_, _<_, _≤_}
-use mathlib.Core.Path.{_≡_, refl, sym, ap, _∙_}
+use mathlib.Core.Path.{_≡_, refl}
 use mathlib.Core.Bool.{Bool, true, false, cond}
 use mathlib.Core.List.{List, [], _∷_, _++_}
 use native.Mathlib.Nat.{pow-zero, pow-suc, div-lt-iff-lt-mul, div-add-mod'}
@@ -47,7 +47,9 @@ value base xs = valueFrom base 0 xs
 
 worth-digit : (d : ℕ) → worth (hexDigit d) ≡ d
 unfolding hexDigit worth
-worth-digit d = below d 10 (λ h. rw (lt-ltb d 10 h, lt-ltb (48 + d) 58 (omega arith)) (omega arith)) (λ h. rw (le-ltb d 10 h, le-ltb (55 + d) 58 (omega arith)) (omega arith))
+worth-digit d =
+    below d 10 (λ h. rw (lt-ltb d 10 h, lt-ltb (48 + d) 58 (omega arith)) (omega arith))
+    (λ h. rw (le-ltb d 10 h, le-ltb (55 + d) 58 (omega arith)) (omega arith))
 
 value-last : (base so-far : ℕ) (xs : List ℕ) (x : ℕ) → valueFrom base so-far (xs ++ x ∷ []) ≡ valueFrom base so-far xs * base + worth x
 unfolding valueFrom

@@ -1,7 +1,7 @@
 -- A word of the marked table from a file with three bytes too many, its line, and two numbers: computed on the definitions.
 -- Assumes nothing.
 use mathlib.Core.Path.{_≡_, refl}
-use mathlib.Core.List.{List, [], _∷_}
+use mathlib.Core.List.{[], _∷_}
 use Rattle.text.specs.Words.{wordsOf}
 use Rattle.text.specs.Lines.{hexDigit, digits, placesIn, places, decimal, decimalLine, hexLine}
 

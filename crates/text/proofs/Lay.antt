@@ -1,11 +1,10 @@
 -- Bytes laid into others: none, one more at the back, more behind. Assumes nothing.
-use Prim.Native.Nat.{ℕ, zero, suc, _+_, _*_, _<_, _≤_}
-use mathlib.Core.Path.{_≡_, refl, sym, ap, _∙_}
+use Prim.Native.Nat.{ℕ, suc, _+_, _<_, _≤_}
+use mathlib.Core.Path.{_≡_, _∙_}
 use mathlib.Core.List.{List, [], _∷_, _++_, append-assoc, append-nil}
 use native.Mathlib.Nat.{add-zero}
-use native.Mathlib.Numerals.{add-one}
 use native.Mathlib.Omega.{arith}
-use lib.ListN.{length, getD, set, take, drop, length-append, length-set, take-append-drop}
+use lib.ListN.{length, set, take, drop, length-append, length-set, length-drop, take-append-drop}
 use lib.Seq.{take-set-le, drop-set-lt, drop-cons, getD-set-same, length-take-le, take-at, drop-append-add, drop-drop}
 use Rattle.text.specs.Puts.{lay}
 
@@ -26,6 +25,10 @@ module _ (out : List ℕ) (at : ℕ) (xs : List ℕ) where
       rw (q, e, take-set-le at out (at + k) g (omega arith), behind (at + k) g h)
       (simp append-assoc)
 
+  pub length-lay : at + length xs ≤ length out → length (lay out at xs) ≡ length out
+  unfolding lay
+  length-lay h = simp (length-append, length-drop) (rw (length-take-le at out (omega arith)) (omega arith))
+
   front : at + length xs ≤ length out → length (take at out ++ xs) ≡ at + length xs
   front h = simp length-append (rw (length-take-le at out (omega arith)))
 
@@ -35,6 +38,8 @@ module _ (out : List ℕ) (at : ℕ) (xs : List ℕ) where
       let p = front h in
       let q : at + length (xs ++ ys) ≡ at + length xs + length ys = simp length-append (omega arith) in
       let r : drop (at + length xs + length ys) (take at out ++ xs ++ drop (at + length xs) out) ≡ drop (at + length xs + length ys) out =
-      rw (← p) (drop-append-add (take at out ++ xs) (drop (length (take at out ++ xs)) out) (length ys) ∙ drop-drop (length ys) (length (take at out ++ xs)) out)
+      rw (← p)
+      (drop-append-add (take at out ++ xs) (drop (length (take at out ++ xs)) out) (length ys)
+      ∙ drop-drop (length ys) (length (take at out ++ xs)) out)
       in
       rw (q, take-at (take at out ++ xs) (drop (at + length xs) out) (at + length xs) p, r) (simp append-assoc)

@@ -1,33 +1,49 @@
 -- A line put where it has room and where it has none, and the turns of the loops that put one. Assumes nothing.
-use Prim.Native.Nat.{ℕ, zero, suc, _+_, _-_, _*_, _/_, _%_, _<_, _≤_}
-use mathlib.Core.Path.{_≡_, refl, sym, ap, _∙_}
+use Prim.Native.Nat.{ℕ, zero, suc, _+_, _-_, _/_, _%_, _<_, _≤_}
+use mathlib.Core.Path.{_≡_, sym, _∙_}
 use mathlib.Core.List.{List, [], _∷_, _++_}
 use native.Mathlib.Nat.{mod-lt, mod-eq-of-lt}
 use native.Mathlib.Omega.{arith}
 use lib.ListN.{length, set, length-append}
 use borrow.Author.Tests.{le-leb, lt-leb}
-use Rattle.text.specs.Lines.{hexDigit, digits, newline}
+use Rattle.text.specs.Lines.{hexDigit, digits}
 use Rattle.text.specs.Puts.{lay, Put}
-use Rattle.text.proofs.Digits.{length-digits}
+use Rattle.text.proofs.Digits.{below, length-digits}
 use Rattle.text.proofs.Lay.{lay-none, lay-back}
 
 module _ (line out : List ℕ) (at : ℕ) where
   pub no-room : length out < at + length line → Put line out at at out
   no-room h =
       let q = lt-leb (at + length line) (length out) h in
-      record { place = rw q; bytes = rw q }
+      record { place = rw q; bytes = rw q; within = λ h. h }
 
   pub room : (next : ℕ) (after : List ℕ) → at + length line ≤ length out → next ≡ at + length line → after ≡ lay out at line
       → Put line out at next after
   room next after h n b =
       let q = le-leb (at + length line) (length out) h in
-      record { place = rw q n; bytes = rw q b }
+      record { place = rw q n; bytes = rw q b; within = λ _. omega arith }
+
+-- What Put says of a line that has room, and of one that has none; and the answer tells which.
+
+module _ (line out : List ℕ) (at next : ℕ) (after : List ℕ) (put : Put line out at next after) where
+  pub laid : at + length line ≤ length out → (next ≡ at + length line) × (after ≡ lay out at line)
+  laid h =
+      let q = le-leb (at + length line) (length out) h in
+      (rw q at (put .place), rw q at (put .bytes))
+
+  pub refused : length out < at + length line → (next ≡ at) × (after ≡ out)
+  refused h =
+      let q = lt-leb (at + length line) (length out) h in
+      (rw q at (put .place), rw q at (put .bytes))
+
+  pub told : next ≡ at → 0 < length line → length out < at + length line
+  told e some = below (length out) (at + length line) (λ h. h) (λ h. absurd (omega (arith, laid h .0)))
 
 -- a loop that stores the digits of n from the last to the first
 
 module _ (at base : ℕ) where
-  length-line : (k n : ℕ) → at + length (digits base k n ++ newline) ≡ at + k + 1
-  length-line k n = simp (length-append, length-digits) (omega arith)
+  length-line : (k n end : ℕ) → at + length (digits base k n ++ end ∷ []) ≡ at + k + 1
+  length-line k n end = simp (length-append, length-digits) (omega arith)
 
   pub digits-turn : (out : List ℕ) (i rest v : ℕ) → 0 < i → at + i ≤ length out → 0 < base → base ≤ 16 → v ≡ hexDigit (rest % base % 16)
       → lay (set out (at + (i - 1)) v) at (digits base (i - 1) (rest / base)) ≡ lay out at (digits base i rest)
@@ -39,14 +55,14 @@ module _ (at base : ℕ) where
       let r : rest % base % 16 ≡ rest % base = mod-eq-of-lt (omega arith) in
       rw (q, e, r) (lay-back out at (digits base j (rest / base)) j (hexDigit (rest % base)) (length-digits base j (rest / base)) (omega arith))
 
-  pub digits-full : (out : List ℕ) (k n : ℕ) → length out - at ≤ k → Put (digits base k n ++ newline) out at at out
-  digits-full out k n h = no-room (digits base k n ++ newline) out at (rw length-line (omega arith))
+  pub digits-full : (out : List ℕ) (k n end : ℕ) → length out - at ≤ k → Put (digits base k n ++ end ∷ []) out at at out
+  digits-full out k n end h = no-room (digits base k n ++ end ∷ []) out at (rw length-line (omega arith))
 
-  pub digits-end : (before out : List ℕ) (k n i rest : ℕ) → k < length before - at → i ≤ 0
-      → lay out at (digits base i rest) ≡ lay (set before (at + k) 10) at (digits base k n)
-      → Put (digits base k n ++ newline) before at (at + k + 1) out
+  pub digits-end : (before out : List ℕ) (k n end i rest : ℕ) → k < length before - at → i ≤ 0
+      → lay out at (digits base i rest) ≡ lay (set before (at + k) end) at (digits base k n)
+      → Put (digits base k n ++ end ∷ []) before at (at + k + 1) out
   unfolding digits
-  digits-end before out k n zero rest h z e =
-      room (digits base k n ++ newline) before at (at + k + 1) out (rw length-line (omega arith)) (sym (length-line k n))
-      (sym (lay-none out at) ∙ e ∙ lay-back before at (digits base k n) k 10 (length-digits base k n) (omega arith))
-  digits-end before out k n (suc i) rest h z e = absurd (omega arith)
+  digits-end before out k n end zero rest h z e =
+      room (digits base k n ++ end ∷ []) before at (at + k + 1) out (rw length-line (omega arith)) (sym (length-line k n end))
+      (sym (lay-none out at) ∙ e ∙ lay-back before at (digits base k n) k end (length-digits base k n) (omega arith))
+  digits-end before out k n end (suc i) rest h z e = absurd (omega arith)

@@ -1,18 +1,16 @@
 -- The lines of a run of words, laid one by one. Assumes nothing.
-use Prim.Native.Nat.{ℕ, zero, suc, _+_, _-_, _*_, _<_, _≤_, min}
-use mathlib.Core.Path.{_≡_, refl, sym, ap, _∙_}
+use Prim.Native.Nat.{ℕ, _+_, _-_, _*_, _<_, _≤_, min}
+use mathlib.Core.Path.{_≡_, sym, ap, _∙_}
 use mathlib.Core.List.{List, [], _∷_, _++_, append-assoc, append-nil}
 use native.Mathlib.Numerals.{add-one}
 use native.Mathlib.Omega.{arith}
-use lib.ListN.{length, getD, take, drop, length-take, length-drop}
+use lib.ListN.{length, getD, take, length-take, length-drop}
 use lib.Seq.{getD-take, getD-drop, take-suc, length-take-le}
-use lib.Dec.{leb}
-use mathlib.Core.Bool.{true}
-use borrow.Author.Tests.{le-leb}
 use Rattle.text.specs.Lines.{hexLine, hexLines}
 use Rattle.text.specs.Puts.{lay, Put, run}
 use Rattle.text.proofs.Digits.{length-hex, length-hexes}
 use Rattle.text.proofs.Lay.{lay-none, lay-more}
+use Rattle.text.proofs.Puts.{laid}
 
 pub length-run : (ws : List ℕ) (from to : ℕ) → length (run ws from to) ≡ min to (length ws) - from
 length-run ws from to = simp (length-drop, length-take)
@@ -33,16 +31,16 @@ module _ (before : List ℕ) (at : ℕ) (ws : List ℕ) where
   -- the line of the i-th word is put after those of the words before it
   module _ (i : ℕ) (inside : i < length ws) (room : at + 9 * (i + 1) ≤ length before) (out : List ℕ) (same : length out ≡ length before)
       (next : ℕ) (after : List ℕ) (put : Put (hexLine (getD ws i 0)) out (at + 9 * i) next after) where
-    roomy : leb (at + 9 * i + length (hexLine (getD ws i 0))) (length out) ≡ true
-    roomy = le-leb (at + 9 * i + length (hexLine (getD ws i 0))) (length out) (rw length-hex (omega arith))
+    this : (next ≡ at + 9 * i + length (hexLine (getD ws i 0))) × (after ≡ lay out (at + 9 * i) (hexLine (getD ws i 0)))
+    this = laid (hexLine (getD ws i 0)) out (at + 9 * i) next after put (rw length-hex (omega arith))
 
     pub next-laid : next ≡ at + 9 * (i + 1)
-    next-laid = omega (arith, rw roomy at (put .place), length-hex (getD ws i 0))
+    next-laid = omega (arith, this .0, length-hex (getD ws i 0))
 
-    laid : length (hexLines (take i ws)) ≡ 9 * i
-    laid = length-hexes (take i ws) ∙ ap (λ (n : ℕ). 9 * n) (length-take-le i ws (omega arith))
+    length-laid : length (hexLines (take i ws)) ≡ 9 * i
+    length-laid = length-hexes (take i ws) ∙ ap (λ (n : ℕ). 9 * n) (length-take-le i ws (omega arith))
 
     pub one-laid : out ≡ lay before at (hexLines (take i ws)) → after ≡ lay before at (hexLines (take (i + 1) ws))
     one-laid e =
-        let m = lay-more before at (hexLines (take i ws)) (hexLine (getD ws i 0)) (rw laid (omega arith)) in
-        rw (add-one, take-suc ws i 0 inside, hexes-last (take i ws) (getD ws i 0)) (rw roomy at (put .bytes) ∙ rw (laid, ← e) at m)
+        let m = lay-more before at (hexLines (take i ws)) (hexLine (getD ws i 0)) (rw length-laid (omega arith)) in
+        rw (add-one, take-suc ws i 0 inside, hexes-last (take i ws) (getD ws i 0)) (this .1 ∙ rw (length-laid, ← e) at m)

@@ -1,5 +1,5 @@
 -- Bytes laid into lent bytes, and what the functions that lay them promise.
-use Prim.Native.Nat.{ℕ, _+_, _-_, _*_, _/_, min}
+use Prim.Native.Nat.{ℕ, _+_, _-_, _*_, _/_, _≤_, min}
 use mathlib.Core.Path.{_≡_}
 use mathlib.Core.Bool.{Bool, cond}
 use mathlib.Core.List.{List, _++_}
@@ -19,6 +19,8 @@ hasRoom out at xs = leb (at + length xs) (length out)
 pub record Put (line out : List ℕ) (at next : ℕ) (after : List ℕ) : Type 0 where
   pub place : next ≡ cond (hasRoom out at line) (at + length line) at
   pub bytes : after ≡ cond (hasRoom out at line) (lay out at line) out
+  -- follows from `place`; here for callers that lend the part up to `next`
+  pub within : at ≤ length out → next ≤ length out
 
 -- the elements from `from` up to, not including, `to`
 abbrev pub run : List ℕ → ℕ → ℕ → List ℕ
@@ -26,6 +28,6 @@ run ws from to = drop from (take to ws)
 
 -- as many of the run's lines were laid as fit past `at`, nine bytes each
 pub record PutWords (out : List ℕ) (at : ℕ) (ws : List ℕ) (from to : ℕ) (r : Laid) (after : List ℕ) : Type 0 where
-  pub count : r .words ≡ min (length (run ws from to)) ((length out - at) / 9)
+  pub count : r .words ≡ min (min to (length ws) - from) ((length out - at) / 9)
   pub place : r .next ≡ at + 9 * r .words
   pub bytes : after ≡ lay out at (hexLines (take (r .words) (run ws from to)))

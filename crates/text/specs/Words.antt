@@ -1,11 +1,11 @@
 -- "In files each word is four bytes, high byte first"; "bytes past the last whole word of a file are ignored".
-use Prim.Native.Nat.{ℕ, _+_, _*_, min}
+use Prim.Native.Nat.{ℕ, _+_, _*_, _^_, min}
 use mathlib.Core.Path.{_≡_}
 use mathlib.Core.List.{List, [], _∷_, _++_}
 use lib.ListN.{length, getD, take, drop}
 
 abbrev pub wordOf : ℕ → ℕ → ℕ → ℕ → ℕ
-wordOf a b c d = a * 16777216 + b * 65536 + c * 256 + d
+wordOf a b c d = a * 2 ^ 24 + b * 2 ^ 16 + c * 2 ^ 8 + d
 
 unfoldable pub wordsOf : List ℕ → List ℕ
 wordsOf (a ∷ b ∷ c ∷ d ∷ rest) = wordOf a b c d ∷ wordsOf rest

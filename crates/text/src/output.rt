@@ -1,9 +1,9 @@
 // Lines of text laid into lent bytes. A line that has no room is not begun: the answer is then the place that was asked for,
 // and every line has at least two bytes, so a caller can tell.
 ghost use mathlib.Core.Path.{_≡_};
-ghost use mathlib.Core.List.{_++_};
+ghost use mathlib.Core.List.{[], _∷_, _++_};
 ghost use Prim.Native.Nat.{_%_, _<_, _≤_};
-ghost use Rattle.text.specs.Lines.{hexDigit, digits, places as placesOf, newline, hexLine, decimalLine};
+ghost use Rattle.text.specs.Lines.{hexDigit, digits, places as placesOf, hexLine, decimalLine};
 ghost use Rattle.text.specs.Puts.{Put, PutWords};
 use crate::number::least;
 use crate::number::past;
@@ -29,16 +29,16 @@ fn places(n: u32) -> usize
     k
 }
 
-// The last k digits of n in a base, with a newline, from the last byte to the first.
-fn put_line(out: &mut [u8], at: usize, n: u32, base: u32, k: usize) -> usize
+// Lays the last k digits of n in a base, and a byte that ends them, from the last to the first.
+fn put_digits(out: &mut [u8], at: usize, n: u32, base: u32, k: usize, end: u8) -> usize
     requires { ⌜ (0 < base) × (base ≤ 16) ⌝ }
-    ensures { λ r. ⌜ Put (digits base k n ++ newline) (now (out .entry)) at r (now (out .exit)) ⌝ }
+    ensures { λ r. ⌜ Put (digits base k n ++ end ∷ []) (now (out .entry)) at r (now (out .exit)) ⌝ }
 {
     if past(out.len(), at) <= k {
         return at;
     }
-    let end = at + k;
-    out[end] = b'\n';
+    let last = at + k;
+    out[last] = end;
     let mut i = k;
     let mut rest = n;
     while 0 < i {
@@ -46,21 +46,21 @@ fn put_line(out: &mut [u8], at: usize, n: u32, base: u32, k: usize) -> usize
         out[at + i] = digit(rest % base);
         rest /= base;
     }
-    end + 1
+    last + 1
 }
 
 // Lays a word's eight capital hex digits and a newline at a place, and answers the place after them.
 pub fn put_hex_line(out: &mut [u8], at: usize, w: u32) -> usize
     ensures { λ r. ⌜ Put (hexLine w) (now (out .entry)) at r (now (out .exit)) ⌝ }
 {
-    put_line(out, at, w, 16, 8)
+    put_digits(out, at, w, 16, 8, b'\n')
 }
 
 // Lays a number's decimal digits and a newline at a place, and answers the place after them.
 pub fn put_decimal_line(out: &mut [u8], at: usize, n: u32) -> usize
     ensures { λ r. ⌜ Put (decimalLine n) (now (out .entry)) at r (now (out .exit)) ⌝ }
 {
-    put_line(out, at, n, 10, places(n))
+    put_digits(out, at, n, 10, places(n), b'\n')
 }
 
 // How many words were laid, and the place after their lines.

@@ -9,7 +9,7 @@ use Rattle.text.proofs.output.places.Statement.{statement}
 use Rattle.text.proofs.output.places.Tie as tie
 
 abbrev Inv-loop : tie.InvT-loop
-Inv-loop n k₀ rest₀ k rest = (k + rest ≤ n + 1) × (places n + 1 ≡ k + places rest)
+Inv-loop n k₀ rest₀ k rest = (places n + 1 ≡ k + places rest) × (k + rest ≤ n + 1)
 
 abbrev μ-loop : tie.MeasureT-loop
 μ-loop n k₀ rest₀ k rest = rest

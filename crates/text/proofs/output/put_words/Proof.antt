@@ -12,7 +12,8 @@ use Rattle.text.proofs.output.put_words.Statement.{statement}
 use Rattle.text.proofs.output.put_words.Tie as tie
 
 abbrev Inv-loop : tie.InvT-loop
-Inv-loop out₀ at words from to n next₀ i₀ out next i = (i ≤ n) × (length out ≡ length out₀) × (next ≡ at + 9 * i) × (out ≡ lay out₀ at (hexLines (take i (run words from to))))
+Inv-loop out₀ at words from to n next₀ i₀ out next i =
+    (i ≤ n) × (length out ≡ length out₀) × (next ≡ at + 9 * i) × (out ≡ lay out₀ at (hexLines (take i (run words from to))))
 
 abbrev μ-loop : tie.MeasureT-loop
 μ-loop out₀ at words from to n next₀ i₀ out next i = n - i
@@ -30,7 +31,9 @@ least-requires-2 : tie.Need-least-requires-2 Inv-loop μ-loop
 least-requires-2 c κs = search needs
 
 loop-holds : tie.Need-loop-holds Inv-loop μ-loop
-loop-holds c = (omega arith, refl, omega arith, none-laid (c .before .before .before .before .before .before .args .out .now) (c .before .before .before .before .before .before .args .at) (c .before .before .before .before .before .before .args .words .now))
+loop-holds c =
+    let a = c .before .before .before .before .before .before .args in
+    (omega arith, refl, omega arith, none-laid (a .out .now) (a .at) (run (a .words .now) (a .from) (a .to)))
 
 add-put-hex-line : tie.Need-add-put-hex-line Inv-loop μ-loop
 add-put-hex-line c = omega arith
@@ -73,7 +76,7 @@ returns c =
     let l = c .before .loop in
     let a = c .before .before .before .before .before .before .before .before .args in
     let q : l .i ≡ c .before .before .least2 .result = omega arith in
-    record { count = omega (arith, length-run (a .words .now) (a .from) (a .to)); place = omega arith; bytes = rw q at (l .inv .3) }
+    record { count = omega arith; place = omega arith; bytes = rw q at (l .inv .3) }
 
 pub put-words-spec : {M : Type 1} → statement M
 put-words-spec =

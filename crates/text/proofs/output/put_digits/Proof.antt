@@ -1,4 +1,4 @@
--- `text::output::put_line` meets its contract. The loop's invariant: laying the i digits that are left gives what laying all k gives.
+-- `text::output::put_digits` meets its contract. The loop's invariant: laying the i digits that are left gives what laying all k gives.
 -- The measure is how many are left. Assumes nothing.
 use Prim.Native.Nat.{_≤_}
 use mathlib.Core.Path.{_≡_, _∙_}
@@ -8,14 +8,15 @@ use lib.ListN.{length, length-set}
 use Rattle.text.specs.Lines.{digits}
 use Rattle.text.specs.Puts.{lay}
 use Rattle.text.proofs.Puts.{digits-turn, digits-full, digits-end}
-use Rattle.text.proofs.output.put_line.Statement.{statement}
-use Rattle.text.proofs.output.put_line.Tie as tie
+use Rattle.text.proofs.output.put_digits.Statement.{statement}
+use Rattle.text.proofs.output.put_digits.Tie as tie
 
 abbrev Inv-loop : tie.InvT-loop
-Inv-loop out₀ at n base k end i₀ rest₀ out i rest = (i ≤ k) × (length out ≡ length out₀) × (lay out at (digits base i rest) ≡ lay out₀ at (digits base k n))
+Inv-loop out₀ at n base k end last i₀ rest₀ out i rest =
+    (i ≤ k) × (length out ≡ length out₀) × (lay out at (digits base i rest) ≡ lay out₀ at (digits base k n))
 
 abbrev μ-loop : tie.MeasureT-loop
-μ-loop out₀ at n base k end i₀ rest₀ out i rest = i
+μ-loop out₀ at n base k end last i₀ rest₀ out i rest = i
 
 past-requires : tie.Need-past-requires Inv-loop μ-loop
 past-requires c κs = search needs
@@ -23,10 +24,10 @@ past-requires c κs = search needs
 returns : tie.Need-returns Inv-loop μ-loop
 returns c =
     let a = c .before .before .before .args in
-    digits-full (a .at) (a .base) (a .out .now) (a .k) (a .n) (omega arith)
+    digits-full (a .at) (a .base) (a .out .now) (a .k) (a .n) (a .end) (omega arith)
 
-add-end : tie.Need-add-end Inv-loop μ-loop
-add-end c = omega arith
+add-last : tie.Need-add-last Inv-loop μ-loop
+add-last c = omega arith
 
 slice-write-out : tie.Need-slice-write-out Inv-loop μ-loop
 slice-write-out c = omega arith
@@ -61,7 +62,8 @@ loop-again c =
     let l = c .before .before .loop in
     let same = simp length-set at (l .inv .1) in
     let turn =
-    digits-turn (s .args .at) (s .args .base) (l .out) (l .i) (l .rest) (c .digit .result) (c .before .loop-test .taken) (omega arith) (s .pre .0) (s .pre .1) (c .digit .ensures)
+    digits-turn (s .args .at) (s .args .base) (l .out) (l .i) (l .rest) (c .digit .result)
+    (c .before .loop-test .taken) (omega arith) (s .pre .0) (s .pre .1) (c .digit .ensures)
     in
     (omega arith, simp length-set same, turn ∙ l .inv .2)
 
@@ -75,17 +77,17 @@ returns-2 : tie.Need-returns-2 Inv-loop μ-loop
 returns-2 c =
     let a = c .before .before .before .before .before .args in
     let l = c .before .loop in
-    digits-end (a .at) (a .base) (a .out .now) (l .out) (a .k) (a .n) (l .i) (l .rest) (omega arith) (c .loop-test .left) (l .inv .2)
+    digits-end (a .at) (a .base) (a .out .now) (l .out) (a .k) (a .n) (a .end) (l .i) (l .rest) (omega arith) (c .loop-test .left) (l .inv .2)
 
-pub put-line-spec : {M : Type 1} → statement M
-put-line-spec =
+pub put-digits-spec : {M : Type 1} → statement M
+put-digits-spec =
     tie.close
     (tie.spec
     Inv-loop
     μ-loop
     past-requires
     returns
-    add-end
+    add-last
     slice-write-out
     loop-holds
     sub-i
