@@ -1,2 +1,3 @@
 -- Laws of the public promises.
 pub mod States
+pub mod Steps

@@ -3,7 +3,12 @@ ghost use mathlib.Core.Path.{_≡_};
 ghost use Rattle.rulebook.specs.Step.{refusedState};
 ghost use Rattle.tables.specs.Told.{told, promised};
 ghost use Rattle.states.specs.Made.{Fresh};
+ghost use Rattle.rulebook.specs.Step.{step};
+ghost use Rattle.events.specs.Answers.{Told};
+ghost use lib.ListN.{length};
 ghost use Rattle.manager.specs.Answers.{stateNumber};
+use events::Answer;
+use refusals::Check;
 use states::Made;
 use tables::Checked;
 
@@ -40,4 +45,24 @@ pub fn check_state(t: &[u32], s: &[u32]) -> Fit
         return Fit::Fits;
     }
     Fit::Unfit
+}
+
+// Takes one event. The state and the trace are written in place; a refusal changes no word of either.
+pub fn take_event(t: &[u32], s: &mut [u32], trace: &mut [u32], e: u32) -> Answer
+    ensures { λ r. ⌜ Told (step (now (t .entry)) (now (s .entry)) (length (now (trace .entry))) e) (now (trace .entry)) r (now (s .exit)) (now (trace .exit)) ⌝ }
+{
+    let checked = tables::check(t);
+    let Checked::Accepted(b) = checked else {
+        return Answer::BadTable;
+    };
+    let state = refusals::told(states::fits(t, s));
+    let Check::Passed = state else {
+        return Answer::UnfitState;
+    };
+    let room = refusals::told(b as usize <= trace.len());
+    let Check::Passed = room else {
+        return Answer::ShortTrace;
+    };
+    let h = words::sections::read_layout(t);
+    events::handle(t, h, e, s, trace)
 }

@@ -84,7 +84,7 @@ pub enum Check {
     Failed,
 }
 
-fn told(ok: bool) -> Check
+pub fn told(ok: bool) -> Check
     ensures { λ r. ⌜ passes r ≡ ok ⌝ }
 {
     if ok { Check::Passed } else { Check::Failed }

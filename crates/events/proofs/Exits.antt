@@ -1,0 +1,82 @@
+-- The exits of one event. Assumes nothing.
+use Prim.Native.Nat.{ℕ}
+use mathlib.Core.Path.{_≡_, refl, sym, _∙_, ap}
+use mathlib.Core.Bool.{Bool, true, false, cond}
+use mathlib.Core.List.{List, [], _∷_, _++_}
+use lib.ListN.{length, drop}
+use lib.Dec.{eqb}
+use types.Run.{OneOf, miss}
+use denote.Enum.Declared.{tagOf}
+use borrow.Author.Tests.{eq-eqb, ne-eqb}
+use Rattle.rulebook.specs.Lists.{Run, start}
+use Rattle.rulebook.specs.Arbitration.{arbitrate}
+use Rattle.rulebook.specs.Events.{eventKind, eventIndex, eventValue, tickKind, modeKind, requestKind, only, request, tick, happen, arbitrateMarked, tickThings}
+use Rattle.rulebook.specs.Step.{Result, refusal, finish, handle}
+use Rattle.lists.specs.Runs.{Safe, Ran}
+use Rattle.things.specs.Requests.{Requested}
+use Rattle.things.proofs.Requests.{request-goes}
+use Rattle.things.proofs.Changes.{change-goes}
+use Rattle.things.specs.Changes.{changed}
+use Rattle.refusals.specs.Answers.{answerOf, heard}
+use Rattle.refusals.proofs.Answers.{handle-taken, handle-refused}
+use Rattle.refusals.specs.declared.Heard.{Heard}
+use Rattle.refusals.specs.declared.Heard.the-variants.{Taken, Malformed, NoSuchThing, NotItsOwner}
+use Rattle.refusals.proofs.Heard.{the-type}
+use Rattle.events.specs.declared.Answer.{Answer}
+use Rattle.events.specs.declared.Answer.the-variants.{Done}
+use Rattle.events.specs.Answers.{numberOf, countOf, Told}
+
+-- a run that only changes the state
+pub ran-start : (s trace : List ℕ) → Ran (start s) s trace trace 0
+ran-start s trace = record { state = refl; words = refl; count = refl }
+
+-- Requests.
+
+module _ (t : List ℕ) (p value : ℕ) (s after : List ℕ) (immediate : Bool) (r : Requested t p value s after immediate) where
+  pub request-now : immediate ≡ true → request t p value s ≡ arbitrate t (only p) after
+  request-now e = request-goes t p value s after immediate r ∙ rw e
+
+  pub request-late : immediate ≡ false → request t p value s ≡ start after
+  request-late e = request-goes t p value s after immediate r ∙ rw e
+
+-- The dispatch.
+
+module _ (t : List ℕ) (e k : ℕ) (s : List ℕ) (is : k ≡ eventKind e) where
+  pub happens-tick : k ≡ 0 → happen t e s ≡ tick t s
+  unfolding happen
+  happens-tick z = rw (sym is ∙ z)
+
+  pub happens-mode : (i v : ℕ) → i ≡ eventIndex e → v ≡ eventValue e → k ≡ 1 → happen t e s ≡ request t i v s
+  unfolding happen
+  happens-mode i v hi hv z = rw (sym is ∙ z, hi, hv)
+
+  pub happens-request : (i : ℕ) → i ≡ eventIndex e → k ≡ 2 → happen t e s ≡ request t i 1 s
+  unfolding happen
+  happens-request i hi z = rw (sym is ∙ z, hi)
+
+  pub happens-change : (i : ℕ) → i ≡ eventIndex e → (k ≡ 0 → ⊥) → (k ≡ 1 → ⊥) → (k ≡ 2 → ⊥) → happen t e s ≡ start (changed t k i s)
+  happens-change i hi a b c =
+      change-goes t e s (ne-eqb _ _ (rw is at a)) (ne-eqb _ _ (rw is at b)) (ne-eqb _ _ (rw is at c)) ∙ rw (is, hi)
+
+-- The answers.
+
+module _ (t s trace : List ℕ) (e : ℕ) (h : Heard) (is : h ≡ heard t e) where
+  pub told-refused : (r : Answer) → eqb (answerOf h) 0 ≡ false → numberOf r ≡ answerOf h → countOf r ≡ 0 → Told (handle t s e) trace r s trace
+  told-refused r z a c = rw (handle-refused t e s h is z) (record { answer = a; count = c; state = refl; words = refl })
+
+  pub told-done : (n : ℕ) (s′ trace′ : List ℕ) → eqb (answerOf h) 0 ≡ true → happen t e s .deep ≡ false → Ran (happen t e s) s′ trace trace′ n → Told (handle t s e) trace (Done (record { count = n })) s′ trace′
+  unfolding finish
+  told-done n s′ trace′ z d r = rw (handle-taken t e s h is z, d) (record { answer = refl; count = r .count; state = r .state; words = r .words })
+
+-- what `let .. else` knows of an answer that is not `Taken`: its variant is one of the others
+abbrev others : List ℕ
+others = 1 ∷ 2 ∷ 3 ∷ []
+
+pub not-taken : (h : Heard) → OneOf others (tagOf the-type h) → eqb (answerOf h) 0 ≡ false
+not-taken Taken other = absurd (miss others 0 tt other)
+not-taken Malformed other = refl
+not-taken NoSuchThing other = refl
+not-taken NotItsOwner other = refl
+
+pub is-taken : (h : Heard) → h ≡ Taken → eqb (answerOf h) 0 ≡ true
+is-taken h e = rw e

@@ -1,0 +1,3 @@
+-- Laws of the answers.
+pub mod Unique
+pub mod Exits

@@ -1,0 +1,37 @@
+-- Two answers, states and traces that a promise allows are equal. Assumes nothing.
+use Prim.Native.Nat.{ℕ}
+use mathlib.Core.Path.{_≡_, refl, sym, _∙_, ap, ap₂}
+use mathlib.Core.Bool.{cond}
+use mathlib.Core.List.{List}
+use lib.Dec.{eqb}
+use Rattle.rulebook.specs.Step.{Result}
+use Rattle.events.specs.declared.Answer.{Answer}
+use Rattle.events.specs.declared.Answer.the-variants.{Done, BadTable, UnfitState, ShortTrace, Malformed, NoSuchThing, NotItsOwner}
+use Rattle.events.specs.Answers.{numberOf, countOf, Told}
+
+-- the answer that a number and a count stand for
+abbrev answering : ℕ → ℕ → Answer
+answering k n =
+    cond (eqb k 0) (Done (record { count = n }))
+    (cond (eqb k 1) BadTable
+    (cond (eqb k 2) UnfitState
+    (cond (eqb k 3) ShortTrace
+    (cond (eqb k 4) Malformed
+    (cond (eqb k 5) NoSuchThing
+    NotItsOwner)))))
+
+back : (r : Answer) → answering (numberOf r) (countOf r) ≡ r
+back (Done w) = refl
+back BadTable = refl
+back UnfitState = refl
+back ShortTrace = refl
+back Malformed = refl
+back NoSuchThing = refl
+back NotItsOwner = refl
+
+pub one-answer : (x : Result) (trace : List ℕ) (r₁ r₂ : Answer) (s₁ s₂ w₁ w₂ : List ℕ) → Told x trace r₁ s₁ w₁ → Told x trace r₂ s₂ w₂ → (r₁ ≡ r₂) × (s₁ ≡ s₂) × (w₁ ≡ w₂)
+one-answer x trace r₁ r₂ s₁ s₂ w₁ w₂ a b = (
+  sym (back r₁) ∙ ap₂ answering (a .answer ∙ sym (b .answer)) (a .count ∙ sym (b .count)) ∙ back r₂,
+  a .state ∙ sym (b .state),
+  a .words ∙ sym (b .words),
+)

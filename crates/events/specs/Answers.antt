@@ -1,0 +1,35 @@
+-- The answers of an event call in document 01's numbers, and what a call promises of a result of the rulebook.
+use Prim.Native.Nat.{ℕ}
+use mathlib.Core.Path.{_≡_}
+use mathlib.Core.List.{List, _++_}
+use lib.ListN.{length, drop}
+use Rattle.rulebook.specs.Step.{Result}
+use Rattle.events.specs.declared.Answer.{Answer}
+use Rattle.events.specs.declared.Answer.the-variants.{Done, BadTable, UnfitState, ShortTrace, Malformed, NoSuchThing, NotItsOwner}
+
+abbrev pub numberOf : Answer → ℕ
+numberOf (Done w) = 0
+numberOf BadTable = 1
+numberOf UnfitState = 2
+numberOf ShortTrace = 3
+numberOf Malformed = 4
+numberOf NoSuchThing = 5
+numberOf NotItsOwner = 6
+
+-- the reported count; a refusal's is 0
+abbrev pub countOf : Answer → ℕ
+countOf (Done w) = w .count
+countOf BadTable = 0
+countOf UnfitState = 0
+countOf ShortTrace = 0
+countOf Malformed = 0
+countOf NoSuchThing = 0
+countOf NotItsOwner = 0
+
+-- The call tells result x: its answer, and the number of its words as the count; the state is x's; x's words stand at the front of
+-- the trace, and its other words are unchanged.
+pub record Told (x : Result) (trace : List ℕ) (r : Answer) (s′ trace′ : List ℕ) : Type 0 where
+  pub answer : numberOf r ≡ x .answer
+  pub count : countOf r ≡ length (x .words)
+  pub state : s′ ≡ x .state
+  pub words : trace′ ≡ x .words ++ drop (length (x .words)) trace

@@ -1,0 +1,2 @@
+-- What an event call promises.
+pub mod Answers

@@ -1,0 +1,102 @@
+// One event on a lent state and trace, for a table and a state that have been checked: refused, or done with the count of words
+// written. A run of many events may check table and state once and call `handle` for each.
+ghost use mathlib.Core.Path.{_≡_};
+ghost use Prim.Native.Nat.{_≤_, _<_};
+ghost use Rattle.rulebook.specs.Events.{request as requestOf, tick as tickOf, happen as happenOf};
+ghost use Rattle.rulebook.specs.Step.{refusedEvent, handle as handleOf};
+ghost use Rattle.words.specs.Sections.{Laid};
+ghost use Rattle.lists.specs.Runs.{Safe, Ran};
+ghost use Rattle.refusals.specs.Answers.{answerOf};
+ghost use Rattle.events.specs.Answers.{numberOf, countOf, Told};
+use arbitration::arbitrate_marked;
+use arbitration::arbitrate_one;
+use refusals::Heard;
+use refusals::event;
+use refusals::hear;
+use things::change;
+use things::ports::request_port;
+use things::tick_things;
+use words::sections::Layout;
+
+// A request: the port is written, and arbitrated now if it is immediate.
+fn request(t: &[u32], h: Layout, p: u32, value: u32, s: &mut [u32], trace: &mut [u32]) -> usize
+    requires { ⌜ Laid (now t) h × (h .rules ≤ 256) × (p < 256) × Safe (requestOf (now t) p value (now s)) (now trace) ⌝ }
+    ensures { λ n. ⌜ Ran (requestOf (now (t .entry)) p value (now (s .entry))) (now (s .exit)) (now (trace .entry)) (now (trace .exit)) n ⌝ }
+{
+    let immediate = request_port(t, s, p, value);
+    if immediate {
+        return arbitrate_one(t, h, p, s, trace);
+    }
+    0
+}
+
+// A tick: networks, sources and timers count, then all marked ports are arbitrated.
+fn tick(t: &[u32], h: Layout, s: &mut [u32], trace: &mut [u32]) -> usize
+    requires { ⌜ Laid (now t) h × (h .rules ≤ 256) × Safe (tickOf (now t) (now s)) (now trace) ⌝ }
+    ensures { λ n. ⌜ Ran (tickOf (now (t .entry)) (now (s .entry))) (now (s .exit)) (now (trace .entry)) (now (trace .exit)) n ⌝ }
+{
+    tick_things(t, h, s);
+    arbitrate_marked(t, h, s, trace)
+}
+
+// What an event that is not refused does.
+fn happen(t: &[u32], h: Layout, e: u32, s: &mut [u32], trace: &mut [u32]) -> usize
+    requires { ⌜ Laid (now t) h × (h .rules ≤ 256) × Safe (happenOf (now t) e (now s)) (now trace) ⌝ }
+    ensures { λ n. ⌜ Ran (happenOf (now (t .entry)) e (now (s .entry))) (now (s .exit)) (now (trace .entry)) (now (trace .exit)) n ⌝ }
+{
+    let kind = event::kind(e);
+    let index = event::index(e);
+    let value = event::value(e);
+    if kind == 0 {
+        return tick(t, h, s, trace);
+    }
+    if kind == 1 {
+        return request(t, h, index, value, s, trace);
+    }
+    if kind == 2 {
+        return request(t, h, index, 1, s, trace);
+    }
+    change(t, h, s, kind, index);
+    0
+}
+
+// What a call that is done reports.
+pub struct Written {
+    pub count: usize,
+}
+
+// A case for each answer of an event call.
+pub enum Answer {
+    Done(Written),
+    BadTable,
+    UnfitState,
+    ShortTrace,
+    Malformed,
+    NoSuchThing,
+    NotItsOwner,
+}
+
+// The answer of an event that is not taken.
+fn refused(heard: Heard) -> Answer
+    ensures { λ r. ⌜ (numberOf r ≡ answerOf heard) × (countOf r ≡ 0) ⌝ }
+{
+    match heard {
+        Heard::Taken => Answer::Done(Written { count: 0 }),
+        Heard::Malformed => Answer::Malformed,
+        Heard::NoSuchThing => Answer::NoSuchThing,
+        Heard::NotItsOwner => Answer::NotItsOwner,
+    }
+}
+
+// What comes after the checks of table, state and room.
+pub fn handle(t: &[u32], h: Layout, e: u32, s: &mut [u32], trace: &mut [u32]) -> Answer
+    requires { ⌜ Laid (now t) h × (h .rules ≤ 256) × Safe (happenOf (now t) e (now s)) (now trace) ⌝ }
+    ensures { λ r. ⌜ Told (handleOf (now (t .entry)) (now (s .entry)) e) (now (trace .entry)) r (now (s .exit)) (now (trace .exit)) ⌝ }
+{
+    let heard = hear(t, h, e);
+    let Heard::Taken = heard else {
+        return refused(heard);
+    };
+    let count = happen(t, h, e, s, trace);
+    Answer::Done(Written { count })
+}
