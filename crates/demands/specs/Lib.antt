@@ -1,0 +1,4 @@
+-- The user's three demands, over what the public entries promise.
+pub mod Calls
+pub mod Demands
+pub mod Idle
