@@ -1,26 +1,25 @@
 -- The three demands hold of whatever the promises of the public entries allow. Assumes nothing.
 use mathlib.Core.Path.{_≡_, refl, sym, _∙_, ap}
-use mathlib.Core.Bool.{Bool, true, false, cond, not}
+use mathlib.Core.Bool.{true}
 use mathlib.Core.Logic.{_↔_}
 use mathlib.Core.List.{List, [], _∷_, _++_}
-use Prim.Native.Nat.{ℕ, suc, _≤_, _<_}
+use Prim.Native.Nat.{ℕ}
 use native.Mathlib.Omega.{arith}
-use lib.ListN.{length, take, drop}
+use lib.ListN.{length, drop}
 use lib.Seq.{take-append-seam, drop-append-seam}
-use lib.Dec.{eqb, ltb}
+use lib.Dec.{ltb}
 use borrow.Author.Tests.{eqb-true, eq-eqb}
 use Rattle.rulebook.specs.Reasons.{bound, accepted, check}
 use Rattle.rulebook.specs.State.{fits, fresh, freshAnswer, freshState}
 use Rattle.rulebook.specs.Events.{happen}
 use Rattle.rulebook.specs.Step.{refusedState, refusedCall, wellFormed, known, sentByOwner, refusedEvent, Result, finish, handle, step}
 use Rattle.laws.specs.Acceptance.{Rules}
-use Rattle.laws.proofs.Tests.{split, clash}
+use Rattle.laws.proofs.Tests.{split}
 use Rattle.laws.proofs.Acceptance.{accepted-exactly}
 use Rattle.laws.proofs.Order.{in-order, once}
 use Rattle.laws.proofs.Facts.{facts}
 use Rattle.laws.proofs.Steps.{Stepped, refused, done, stepped, refusal-changes-nothing, happen-shallow, happen-paid}
-use Rattle.stranger.specs.Calls.{Call, called, after, struckOut}
-use Rattle.stranger.specs.View.{SameView}
+use Rattle.stranger.specs.Calls.{Call, called, after}
 use Rattle.stranger.specs.Statements.{reached, then}
 use Rattle.stranger.proofs.Strangers.{strangers-after}
 use Rattle.stranger.proofs.Demand3.{recovers, expires, no-stranger}
@@ -32,7 +31,7 @@ use Rattle.states.specs.Made as made
 use Rattle.events.specs.declared.Answer.{Answer}
 use Rattle.events.specs.Answers.{numberOf, countOf, Told}
 use Rattle.demands.specs.Calls.{Played, none, more}
-use Rattle.demands.specs.Demands.{firstFault, Refuses, Demand1, Steps, Demand2, Demand3, Demand3OfCalls}
+use Rattle.demands.specs.Demands.{firstFault, Demand1, Steps, Demand2, Demand3, Demand3OfCalls}
 
 -- Demand 1.
 
@@ -105,32 +104,29 @@ one-call t s c s′ p = played t s (c ∷ []) s′ p
 
 -- Demand 3.
 
--- the states of a run from fresh: before call c, after it, after the calls cs, after call d
-record Through (t : List ℕ) (before cs : List Call) (c d : Call) (s₀ s₁ s₂ s₃ : List ℕ) : Type 0 where
+-- the states of a run from fresh: before call c, after it, after the calls cs
+record Through (t : List ℕ) (before cs : List Call) (c : Call) (s₀ s₁ s₂ : List ℕ) : Type 0 where
   zeroth : s₀ ≡ reached t before
   first : s₁ ≡ then t before c
   second : s₂ ≡ after t (then t before c) cs
-  third : s₃ ≡ called t (after t (then t before c) cs) d .state
 
-through : (t : List ℕ) (before cs : List Call) (c d : Call) (s₀ s₁ s₂ s₃ : List ℕ)
-    → Played t (fresh t) before s₀ → Played t s₀ (c ∷ []) s₁ → Played t s₁ cs s₂ → Played t s₂ (d ∷ []) s₃ → Through t before cs c d s₀ s₁ s₂ s₃
-through t before cs c d s₀ s₁ s₂ s₃ p₀ p₁ p₂ p₃ =
+through : (t : List ℕ) (before cs : List Call) (c : Call) (s₀ s₁ s₂ : List ℕ) → Played t (fresh t) before s₀ → Played t s₀ (c ∷ []) s₁ → Played t s₁ cs s₂ → Through t before cs c s₀ s₁ s₂
+through t before cs c s₀ s₁ s₂ p₀ p₁ p₂ =
     let e₀ : s₀ ≡ reached t before = played t (fresh t) before s₀ p₀ in
     let e₁ : s₁ ≡ then t before c = rw e₀ at (one-call t s₀ c s₁ p₁) in
-    let e₂ : s₂ ≡ after t (then t before c) cs = rw e₁ at (played t s₁ cs s₂ p₂) in
-    record { zeroth = e₀; first = e₁; second = e₂; third = rw e₂ at (one-call t s₂ d s₃ p₃) }
+    record { zeroth = e₀; first = e₁; second = rw e₁ at (played t s₁ cs s₂ p₂) }
 
 from-fresh : (t : List ℕ) → accepted t ≡ true → (s : List ℕ) → s ≡ fresh t → Demand3 t s
 from-fresh t h s is = rw is
     record {
-      recovers = λ n before cs c d s₀ s₁ s₂ s₃ p₀ p₁ p₂ p₃ taken full alone.
-          let e = through t before cs c d s₀ s₁ s₂ s₃ p₀ p₁ p₂ p₃ in
+      recovers = λ n before cs c s₀ s₁ s₂ p₀ p₁ p₂ taken full alone.
+          let e = through t before cs c s₀ s₁ s₂ p₀ p₁ p₂ in
           let r = recovers t h n before c cs (rw (e .zeroth) at taken) (rw (e .zeroth) at full) (rw (e .first) at alone) in
-          rw (e .third, e .second, e .first, e .zeroth) (r .0, r .1 d);
-      expires = λ k before cs c d s₀ s₁ s₂ s₃ p₀ p₁ p₂ p₃ woken unended early.
-          let e = through t before cs c d s₀ s₁ s₂ s₃ p₀ p₁ p₂ p₃ in
+          rw (e .second, e .first, e .zeroth) (r .0, λ d s₃ p₃ z. rw (one-call t _ d s₃ p₃) (r .1 d z));
+      expires = λ k before cs c s₀ s₁ s₂ p₀ p₁ p₂ woken unended early.
+          let e = through t before cs c s₀ s₁ s₂ p₀ p₁ p₂ in
           let r = expires t h k before c cs (rw (e .zeroth) at woken) (rw (e .first) at unended) (rw (e .first) at early) in
-          rw (e .third, e .second, e .first) (r .0, r .1 d);
+          rw (e .second, e .first) (r .0, λ d s₃ p₃ z. rw (one-call t _ d s₃ p₃) (r .1 d z));
       same = λ o cs₁ cs₂ s₁ s₂ p₁ p₂ e. rw (played t (fresh t) cs₁ s₁ p₁, played t (fresh t) cs₂ s₂ p₂) (strangers-after t h o cs₁ cs₂ e);
       strangers = no-stranger t h;
     }

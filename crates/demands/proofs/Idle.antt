@@ -1,6 +1,6 @@
 -- No idle program meets the promise of the event call: each by one or two cases of the marked run. Assumes nothing.
 use mathlib.Core.Path.{_≡_, refl, sym, _∙_, ap}
-use mathlib.Core.Bool.{Bool, true, false, _&&_, and-false}
+use mathlib.Core.Bool.{true, _&&_, and-false}
 use mathlib.Core.List.{List, [], _∷_}
 use Prim.Native.Nat.{ℕ}
 use native.Mathlib.Omega.{arith}
@@ -8,11 +8,11 @@ use lib.ListN.{length}
 use lib.Dec.{eqb}
 use borrow.Author.Tests.{eqb-true}
 use Rattle.rulebook.specs.Words.{word}
-use Rattle.rulebook.specs.Step.{Result, step}
-use Rattle.rulebook.specs.Marked.{table, marked, after, same, gives, refuses, atFresh, afterRequest, afterTick, afterBusOff, afterThree, afterFive, markedRun}
+use Rattle.rulebook.specs.Step.{Result}
+use Rattle.rulebook.specs.Marked.{table, marked, after, same, gives, refuses, atFresh, afterRequest, afterBusOff, afterThree, afterFive, markedRun}
 use Rattle.rulebook.proofs.Marked.{claim}
 use Rattle.laws.proofs.Tests.{clash, part-of, and-left, and-right}
-use Rattle.events.specs.Answers.{numberOf, countOf, Told}
+use Rattle.events.specs.Answers.{numberOf, countOf}
 use Rattle.demands.specs.Idle.{Program, Meets, RefusesAll, AnswersAlike, DoesNothing, OnlyFirstTick, InventsCount}
 
 -- What is read off the claim.

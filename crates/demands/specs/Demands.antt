@@ -1,7 +1,7 @@
 -- The three demands. `Told (step ..) trace r s′ trace′` is what `take_event` promises of its answer r and of every word afterwards,
 -- `Fresh t s₀ m s` what `make_fresh` promises, `told c ≡ promised t` what `check_table` promises.
 use mathlib.Core.Path.{_≡_}
-use mathlib.Core.Bool.{Bool, true, false, cond, not}
+use mathlib.Core.Bool.{true, cond, not}
 use mathlib.Core.Logic.{_↔_}
 use mathlib.Core.List.{List, [], _∷_}
 use Prim.Native.Nat.{ℕ, suc, _≤_, _<_}
@@ -72,15 +72,15 @@ pub record Demand2 : Type 0 where
 
 pub record Demand3 (t s : List ℕ) : Type 0 where
   -- the network: s₀ the state in which the bus-off c is taken, s₁ the state after it, s₂ after the calls cs, s₃ after one tick more
-  pub recovers : (n : ℕ) (before cs : List Call) (c d : Call) (s₀ s₁ s₂ s₃ : List ℕ)
-      → Played t s before s₀ → Played t s₀ (c ∷ []) s₁ → Played t s₁ cs s₂ → Played t s₂ (d ∷ []) s₃
+  pub recovers : (n : ℕ) (before cs : List Call) (c : Call) (s₀ s₁ s₂ : List ℕ)
+      → Played t s before s₀ → Played t s₀ (c ∷ []) s₁ → Played t s₁ cs s₂
       → busOffTaken t n s₀ c ≡ true → networkIn t n s₀ .asked ≡ askedFull → leftAlone t n s₁ cs ≡ true
-      → Phase t n (loaded t n s₀) (tickCount t s₁ cs) s₂ × (ticks t s₂ d ≡ true → Phase t n (loaded t n s₀) (suc (tickCount t s₁ cs)) s₃)
+      → Phase t n (loaded t n s₀) (tickCount t s₁ cs) s₂ × ((d : Call) (s₃ : List ℕ) → Played t s₂ (d ∷ []) s₃ → ticks t s₂ d ≡ true → Phase t n (loaded t n s₀) (suc (tickCount t s₁ cs)) s₃)
   -- the source
-  pub expires : (k : ℕ) (before cs : List Call) (c d : Call) (s₀ s₁ s₂ s₃ : List ℕ)
-      → Played t s before s₀ → Played t s₀ (c ∷ []) s₁ → Played t s₁ cs s₂ → Played t s₂ (d ∷ []) s₃
+  pub expires : (k : ℕ) (before cs : List Call) (c : Call) (s₀ s₁ s₂ : List ℕ)
+      → Played t s before s₀ → Played t s₀ (c ∷ []) s₁ → Played t s₁ cs s₂
       → becomesPending t k s₀ c ≡ true → notEnded t k s₁ cs ≡ true → tickCount t s₁ cs < timeout t k
-      → Waiting t k (tickCount t s₁ cs) s₂ × (ticks t s₂ d ≡ true → Waiting t k (suc (tickCount t s₁ cs)) s₃)
+      → Waiting t k (tickCount t s₁ cs) s₂ × ((d : Call) (s₃ : List ℕ) → Played t s₂ (d ∷ []) s₃ → ticks t s₂ d ≡ true → Waiting t k (suc (tickCount t s₁ cs)) s₃)
   -- the strangers: two sequences that agree once the strangers' calls are struck out end in states that o cannot tell apart
   pub same : (o : ℕ) (cs₁ cs₂ : List Call) (s₁ s₂ : List ℕ) → Played t s cs₁ s₁ → Played t s cs₂ s₂ → struckOut o cs₁ ≡ struckOut o cs₂ → SameView t o s₁ s₂
   -- and no stranger alters a tick or brings about an exception
