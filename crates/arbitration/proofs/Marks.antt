@@ -1,8 +1,8 @@
 -- Which ports are arbitrated: one port, the marked ports, none. Assumes nothing.
 use Prim.Native.Nat.{ℕ, zero, suc, _<_, _≤_}
 use mathlib.Core.Path.{_≡_, refl, sym, ap, fun-ext, _∙_}
-use mathlib.Core.Bool.{Bool, true, false, _&&_, _||_, and-false, or-false}
-use mathlib.Core.List.{List, [], _∷_}
+use mathlib.Core.Bool.{Bool, false, _&&_, and-false}
+use mathlib.Core.List.{List}
 use native.Mathlib.Omega.{arith}
 use lib.ListN.{length, set, replicate}
 use lib.Dec.{eqb, ltb}
@@ -10,8 +10,8 @@ use borrow.Author.Tests.{eq-eqb, ne-eqb, eqb-true, eqb-false, ltb-true, le-ltb}
 use Rattle.rulebook.specs.Words.{word, field, any, each}
 use Rattle.rulebook.specs.Table.{ports, rules, left, right, ruleExpression}
 use Rattle.rulebook.specs.Expressions.{deepest, operator, expressionMentions, mentions}
-use Rattle.rulebook.specs.Lists.{Run, start}
-use Rattle.rulebook.specs.Arbitration.{unmarkPort, unmarkPorts, evaluated, storeResult, storeResults, chooses, chosen, order, runChosen, decide, arbitrate}
+use Rattle.rulebook.specs.Lists.{start}
+use Rattle.rulebook.specs.Arbitration.{unmarkPort, unmarkPorts, evaluated, storeResult, storeResults, chooses, chosen, order, decide, arbitrate}
 use Rattle.rulebook.specs.Events.{only, markedIn}
 use Rattle.words.specs.Flags.{flagged}
 use Rattle.words.proofs.Fill.{none-past, none-of-zeros}

@@ -1,7 +1,7 @@
 -- The passes over the rules make up the rulebook's arbitration. Assumes nothing.
 use Prim.Native.Nat.{ℕ, zero, suc, _+_, _-_, _<_, _≤_}
 use mathlib.Core.Path.{_≡_, refl, sym, ap, ap₂, fun-ext, _∙_}
-use mathlib.Core.Bool.{Bool, true, false, cond, _&&_, _||_, not, or-false, or-true, or-assoc}
+use mathlib.Core.Bool.{Bool, true, false, cond, _||_, not, or-false, or-true, or-assoc}
 use mathlib.Core.List.{List}
 use native.Mathlib.Omega.{arith}
 use native.Mathlib.Numerals.{add-one}
@@ -10,11 +10,11 @@ use lib.ListN.{length, set, replicate}
 use lib.Seq.{set-out, getD-set-same, getD-set-other}
 use lib.Dec.{eqb}
 use borrow.Author.Tests.{eq-eqb, ne-eqb, eqb-true, eqb-false, not-true, not-false}
-use Rattle.rulebook.specs.Words.{word, field, digit, any, each}
+use Rattle.rulebook.specs.Words.{word, field, any, each}
 use Rattle.rulebook.specs.Table.{rules, ruleWord, nestedOnly, ruleExpression, noList, triggered}
 use Rattle.rulebook.specs.Expressions.{deepest, mentions}
-use Rattle.rulebook.specs.State.{undefinedResult, packPort}
-use Rattle.rulebook.specs.Lists.{Run, start, unready, resultIn, previousIn, listFor, choice, choiceIn, setResult}
+use Rattle.rulebook.specs.State.{packPort}
+use Rattle.rulebook.specs.Lists.{start, unready, resultIn, previousIn, listFor, choice, choiceIn, setResult}
 use Rattle.rulebook.specs.Arbitration.{unmarkPort, unmarkPorts, evaluated, storeResult, storeResults, chooses, chosen, order, runChosen, decide, arbitrate}
 use Rattle.words.specs.Flags.{flagged}
 use Rattle.words.proofs.Fill.{none-of-zeros}

@@ -8,14 +8,13 @@ use native.Mathlib.Omega.{arith}
 use lib.ListN.{length, set, List·getD-eq-default}
 use lib.Seq.{set-out, getD-set-same, getD-set-other}
 use lib.Dec.{leb, ltb, eqb}
-use borrow.Author.Tests.{eq-eqb, ne-eqb, eqb-true, eqb-false, leb-true, leb-false, ltb-true, ltb-false}
+use borrow.Author.Tests.{eqb-true, eqb-false, leb-true, leb-false, ltb-true, ltb-false}
 use Rattle.rulebook.specs.Words.{sum}
 use Rattle.rulebook.specs.Table.{lists, priority}
 use Rattle.rulebook.specs.Expressions.{deepest}
 use Rattle.rulebook.specs.Lists.{Run, runList}
 use Rattle.rulebook.specs.Arbitration.{order, runIf, runChosen}
 use Rattle.words.specs.Flags.{flagged}
-use Rattle.words.proofs.Fill.{none-past}
 use Rattle.laws.specs.Sequence.{Before, Each, InOrder, times}
 use Rattle.laws.proofs.Tests.{split, clash}
 use Rattle.laws.proofs.Walks.{here-or-later, sum-same}

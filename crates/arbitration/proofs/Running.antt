@@ -1,6 +1,6 @@
 -- The chosen lists along a lent trace: the next one, and the end. Assumes nothing.
 use Prim.Native.Nat.{ℕ, _+_, _-_, _<_, _≤_}
-use mathlib.Core.Path.{_≡_, sym, ap, _∙_}
+use mathlib.Core.Path.{_≡_}
 use mathlib.Core.List.{List}
 use lib.ListN.{length, set}
 use borrow.Rule.Slice.PartMut.{midOf, putMid}

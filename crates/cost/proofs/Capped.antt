@@ -1,7 +1,7 @@
 -- Costs held at 4,097: holding what is below changes nothing of what is held above. Assumes nothing.
-use Prim.Native.Nat.{ℕ, zero, suc, _+_, _-_, _<_, _≤_, min, max}
+use Prim.Native.Nat.{ℕ, zero, suc, _+_, _-_, _<_, _≤_, max}
 use mathlib.Core.Path.{_≡_, refl, sym, ap, _∙_}
-use mathlib.Core.Bool.{Bool, true, false, cond}
+use mathlib.Core.Bool.{cond}
 use mathlib.Core.List.{List}
 use native.Mathlib.Nat.{zero-add, add-zero, add-suc, sub-zero}
 use native.Mathlib.Numerals.{add-one}
@@ -9,7 +9,7 @@ use native.Mathlib.Omega.{arith}
 use lib.Dec.{ltb, eqb}
 use lib.ListN.{length, getD, replicate, List·getD-eq-default}
 use borrow.Author.Tests.{lt-ltb, le-ltb, ltb-true, ltb-false, eq-eqb, ne-eqb}
-use Rattle.rulebook.specs.Words.{field, word, sum}
+use Rattle.rulebook.specs.Words.{field, sum}
 use Rattle.rulebook.specs.Table.{lists, itemWord, listWord, itemKind, itemA, trueList, falseList, noList}
 use Rattle.rulebook.specs.Reasons.{ruleCost, itemCost, listCost, costWithin, bound}
 use Rattle.words.specs.declared.sections.Layout.{Layout}

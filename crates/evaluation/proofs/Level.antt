@@ -5,7 +5,7 @@ use mathlib.Core.Bool.{Bool, true, false, _&&_, _||_, not}
 use mathlib.Core.List.{List}
 use native.Mathlib.Omega.{arith}
 use lib.Dec.{leb, eqb}
-use borrow.Author.Tests.{not-true, not-false, eq-eqb, ne-eqb}
+use borrow.Author.Tests.{not-true, not-false}
 use Rattle.rulebook.specs.Words.{field}
 use Rattle.rulebook.specs.Table.{expressionWord, expressionKind, left, right, noList, listWord, triggered}
 use Rattle.rulebook.specs.Expressions as Expressions

@@ -1,18 +1,17 @@
 -- The exits of one event. Assumes nothing.
 use Prim.Native.Nat.{ℕ}
-use mathlib.Core.Path.{_≡_, refl, sym, _∙_, ap}
-use mathlib.Core.Bool.{Bool, true, false, cond}
-use mathlib.Core.List.{List, [], _∷_, _++_}
-use lib.ListN.{length, drop}
+use mathlib.Core.Path.{_≡_, refl, sym, _∙_}
+use mathlib.Core.Bool.{Bool, true, false}
+use mathlib.Core.List.{List, [], _∷_}
 use lib.Dec.{eqb}
 use types.Run.{OneOf, miss}
 use denote.Enum.Declared.{tagOf}
-use borrow.Author.Tests.{eq-eqb, ne-eqb}
-use Rattle.rulebook.specs.Lists.{Run, start}
+use borrow.Author.Tests.{ne-eqb}
+use Rattle.rulebook.specs.Lists.{start}
 use Rattle.rulebook.specs.Arbitration.{arbitrate}
-use Rattle.rulebook.specs.Events.{eventKind, eventIndex, eventValue, tickKind, modeKind, requestKind, only, request, tick, happen, arbitrateMarked, tickThings}
-use Rattle.rulebook.specs.Step.{Result, refusal, finish, handle}
-use Rattle.lists.specs.Runs.{Safe, Ran}
+use Rattle.rulebook.specs.Events.{eventKind, eventIndex, eventValue, only, request, tick, happen}
+use Rattle.rulebook.specs.Step.{finish, handle}
+use Rattle.lists.specs.Runs.{Ran}
 use Rattle.things.specs.Requests.{Requested}
 use Rattle.things.proofs.Requests.{request-goes}
 use Rattle.things.proofs.Changes.{change-goes}

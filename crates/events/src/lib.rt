@@ -3,7 +3,7 @@
 ghost use mathlib.Core.Path.{_≡_};
 ghost use Prim.Native.Nat.{_≤_, _<_};
 ghost use Rattle.rulebook.specs.Events.{request as requestOf, tick as tickOf, happen as happenOf};
-ghost use Rattle.rulebook.specs.Step.{refusedEvent, handle as handleOf};
+ghost use Rattle.rulebook.specs.Step.{handle as handleOf};
 ghost use Rattle.words.specs.Sections.{Laid};
 ghost use Rattle.lists.specs.Runs.{Safe, Ran};
 ghost use Rattle.refusals.specs.Answers.{answerOf};

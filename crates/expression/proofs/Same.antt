@@ -1,12 +1,12 @@
 -- Mention goes only by the ports that a condition's field can name, 0 to 255. Assumes nothing.
 use Prim.Native.Nat.{ℕ, zero, suc, _<_}
-use mathlib.Core.Path.{_≡_, refl, sym, ap, _∙_}
-use mathlib.Core.Bool.{Bool, true, false, _||_, _&&_, not}
+use mathlib.Core.Path.{_≡_, refl}
+use mathlib.Core.Bool.{Bool}
 use mathlib.Core.List.{List}
 use native.Mathlib.Omega.{arith}
 use Rattle.rulebook.specs.Words.{digit}
 use Rattle.rulebook.specs.Table.{conditionPort, left, right}
-use Rattle.rulebook.specs.Expressions.{operator, isNot, expressionMentions, mentions}
+use Rattle.rulebook.specs.Expressions.{operator, expressionMentions, mentions}
 use Rattle.walks.proofs.Walks.{split}
 
 port-small : (t : List ℕ) (e : ℕ) → conditionPort t e < 256

@@ -1,21 +1,20 @@
 -- The check gives 0 exactly if all nine rules hold, and reason k at place p exactly if no earlier reason holds and p is the lowest
 -- word that breaks rule k. Assumes nothing.
 use mathlib.Core.Path.{_≡_, refl, sym, _∙_, ap}
-use mathlib.Core.Bool.{Bool, true, false, _&&_, not}
+use mathlib.Core.Bool.{Bool, true, false}
 use mathlib.Core.Logic.{_↔_}
 use mathlib.Core.List.{List}
 use Prim.Native.Nat.{ℕ, zero, suc, _≤_, _<_}
 use native.Mathlib.Omega.{arith}
-use native.Mathlib.Decide.{decLt}
 use lib.ListN.{length}
 use lib.Dec.{ltb, eqb}
-use borrow.Author.Tests.{ltb-true, ltb-false, lt-ltb, le-ltb, eqb-true, eq-eqb, not-true, not-false}
+use borrow.Author.Tests.{ltb-true, ltb-false, lt-ltb, eqb-true, eq-eqb, not-false}
 use Rattle.rulebook.specs.Words.{first}
 use Rattle.rulebook.specs.Table.{Part, part}
 use Rattle.rulebook.specs.Reasons.{Verdict, verdict, hasHeader, knownEdition, countsInside, exactLength, ownFields, names, nesting, owners, affordable, breaks, lowest, wholly, wordwise, check, accepted}
 use Rattle.laws.specs.Acceptance.{Everywhere, Rules, brokenWhole, brokenAt, broken, KeptBefore, Given}
-use Rattle.laws.proofs.Tests.{split, clash, and-left, and-right, and-both}
-use Rattle.laws.proofs.Walks.{first-most, first-holds, first-before}
+use Rattle.laws.proofs.Tests.{split, clash, and-both}
+use Rattle.laws.proofs.Walks.{first-holds, first-before}
 
 -- what a verdict is: all kept and 0, or a reason given
 pub data Exact (t : List ℕ) (v : Verdict) : Type 0 where
@@ -124,10 +123,6 @@ whole-kept false h = clash refl h
 everywhere-kept : (rule : List ℕ → Part → Bool) (t : List ℕ) → ((i : ℕ) → brokenAt rule t i ≡ false) → Everywhere rule t
 unfolding breaks
 everywhere-kept rule t h i lt = not-false (rule t (part t i)) (rw (lt-ltb i (length t) lt) at (h i))
-
-not-broken : (rule : List ℕ → Part → Bool) (t : List ℕ) → Everywhere rule t → (i : ℕ) → brokenAt rule t i ≡ false
-unfolding breaks
-not-broken rule t h i = word-kept rule t i (λ d. rw (h i (ltb-true i (length t) d)))
 
 rules-of : (t : List ℕ) → KeptBefore 10 t → Rules t
 unfolding broken

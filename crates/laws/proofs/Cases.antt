@@ -1,5 +1,5 @@
 -- The cycle of lists, case by case: one law for each way an item, a rule item, a choice and a chosen list can go. Assumes nothing.
-use mathlib.Core.Path.{_≡_, refl}
+use mathlib.Core.Path.{_≡_}
 use mathlib.Core.Bool.{Bool, true, false}
 use mathlib.Core.List.{List}
 use Prim.Native.Nat.{ℕ}

@@ -1,13 +1,13 @@
 -- Reason 7 holds of a word exactly if a chain of eight nested names starts there, rings included. Assumes nothing.
-use mathlib.Core.Path.{_≡_, refl, sym, _∙_, ap}
-use mathlib.Core.Bool.{Bool, true, false, _&&_, _||_, not, and-false}
+use mathlib.Core.Path.{_≡_, refl, sym, _∙_}
+use mathlib.Core.Bool.{Bool, true, false, _&&_, _||_, and-false}
 use mathlib.Core.Logic.{_⊎_, inl, inr, ⊎-elim, _↔_}
 use mathlib.Core.List.{List}
 use Prim.Native.Nat.{ℕ, zero, suc, _+_, _≤_, _<_}
 use native.Mathlib.Omega.{arith}
 use lib.ListN.{length}
 use lib.Dec.{ltb, eqb}
-use borrow.Author.Tests.{eqb-true, eq-eqb, ne-eqb, lt-ltb, ltb-true, leb-true}
+use borrow.Author.Tests.{eqb-true, eq-eqb, lt-ltb, leb-true}
 use Rattle.rulebook.specs.Words.{all}
 use Rattle.rulebook.specs.Table.{tableLength, atExpression, atList, left, right, expressions, rules, ruleExpression, lists, items, trueList, falseList, noList, firstItem, itemCount, itemKind, itemA, kindList, kindRule}
 use Rattle.rulebook.specs.Expressions.{operator, isNot, expressionNests, expressionWithin}

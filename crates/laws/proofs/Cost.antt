@@ -1,17 +1,17 @@
 -- A list writes at most as many trace words as it costs; an arbitration at most B. Assumes nothing.
-use mathlib.Core.Path.{_≡_, refl, sym, _∙_, ap}
-use mathlib.Core.Bool.{Bool, true, false}
-use mathlib.Core.List.{List, [], _∷_, _++_}
+use mathlib.Core.Path.{_≡_, refl}
+use mathlib.Core.Bool.{Bool, true}
+use mathlib.Core.List.{List, [], _∷_}
 use Prim.Native.Nat.{ℕ, zero, suc, _+_, _≤_, _<_}
 use native.Mathlib.Omega.{arith}
 use lib.ListN.{length, length-append}
 use lib.Dec.{eqb}
 use Rattle.rulebook.specs.Words.{sum, each}
-use Rattle.rulebook.specs.Table.{lists, noList, listOwner, firstItem, itemCount, itemKind, itemA}
+use Rattle.rulebook.specs.Table.{lists, noList, listOwner, firstItem, itemCount, itemA}
 use Rattle.rulebook.specs.Expressions.{deepest}
 use Rattle.rulebook.specs.Reasons.{ruleNests, itemNests, listWithin, ruleCost, itemCost, costWithin, bound}
-use Rattle.rulebook.specs.Lists.{Run, start, emit, traceWord, kindListStart, act, unready, choice, choiceIn, judge, runChoice, runRule, runItem, runItems, runList}
-use Rattle.rulebook.specs.Arbitration.{storeResults, unmarkPorts, chosen, order, runIf, runChosen, decide, arbitrate}
+use Rattle.rulebook.specs.Lists.{Run, emit, traceWord, kindListStart, act, unready, choiceIn, judge, runRule, runItem, runItems, runList}
+use Rattle.rulebook.specs.Arbitration.{unmarkPorts, chosen, order, runIf, runChosen, decide, arbitrate}
 use Rattle.laws.specs.Facts.{Facts}
 use Rattle.laws.proofs.Tests.{split, clash}
 use Rattle.laws.proofs.Cases.{item-list, item-rule, item-act, item-cases, rule-unready, rule-ready, choice-none, choice-some, if-chosen, if-not}

@@ -1,14 +1,14 @@
 -- A list that nests within d levels never runs out of d levels; so on an accepted table no run is deep. Assumes nothing.
-use mathlib.Core.Path.{_≡_, refl, sym, _∙_, ap}
+use mathlib.Core.Path.{_≡_, refl, _∙_}
 use mathlib.Core.Bool.{Bool, true, false}
 use mathlib.Core.List.{List, [], _∷_}
-use Prim.Native.Nat.{ℕ, zero, suc, _+_, _≤_, _<_}
+use Prim.Native.Nat.{ℕ, zero, suc, _<_}
 use lib.Dec.{eqb}
-use Rattle.rulebook.specs.Table.{lists, noList, listOwner, firstItem, itemCount, itemKind, itemA}
+use Rattle.rulebook.specs.Table.{lists, noList, listOwner, firstItem, itemCount, itemA}
 use Rattle.rulebook.specs.Expressions.{deepest}
 use Rattle.rulebook.specs.Reasons.{ruleNests, itemNests, listWithin}
-use Rattle.rulebook.specs.Lists.{Run, start, emit, act, unready, choice, choiceIn, judge, runChoice, runRule, runItem, runItems, runList}
-use Rattle.rulebook.specs.Arbitration.{storeResults, chosen, order, runIf, runChosen, decide, arbitrate}
+use Rattle.rulebook.specs.Lists.{Run, act, unready, choiceIn, judge, runRule, runItem, runItems, runList}
+use Rattle.rulebook.specs.Arbitration.{order, runIf, runChosen, decide, arbitrate}
 use Rattle.laws.specs.Facts.{Facts}
 use Rattle.laws.proofs.Tests.{split, clash}
 use Rattle.laws.proofs.Walks.{each-keeps}

@@ -1,18 +1,18 @@
 -- The record of facts of an accepted table. Assumes nothing.
-use mathlib.Core.Path.{_≡_, refl, sym, _∙_, ap}
-use mathlib.Core.Bool.{Bool, true, false, _&&_, not, and-false}
+use mathlib.Core.Path.{_≡_}
+use mathlib.Core.Bool.{Bool, true, _&&_, not, and-false}
 use mathlib.Core.List.{List}
-use Prim.Native.Nat.{ℕ, _+_, _*_, _≤_, _<_}
+use Prim.Native.Nat.{ℕ, _+_, _*_, _<_}
 use native.Mathlib.Omega.{arith}
 use lib.ListN.{length}
-use lib.Dec.{leb, ltb, eqb}
+use lib.Dec.{leb, ltb}
 use borrow.Author.Tests.{ltb-true, leb-true, eqb-true, not-true}
-use Rattle.rulebook.specs.Words.{between, all}
+use Rattle.rulebook.specs.Words.{between}
 use Rattle.rulebook.specs.Table.{ports, networks, sources, expressions, rules, lists, items, tableLength, portsFrom, networksFrom, sourcesFrom, expressionsFrom, rulesFrom, listsFrom, itemsFrom}
-use Rattle.rulebook.specs.Table.{Part, atPort, atNetwork, atWaits, atSource, atExpression, atRule, atList, atItem, part}
-use Rattle.rulebook.specs.Table.{portOwner, networkOwner, networkPort, shortWait, longWait, eTicks, sourceOwner, sourcePort}
-use Rattle.rulebook.specs.Table.{firstResult, ruleExpression, trueList, falseList, listOwner, firstItem, itemCount}
-use Rattle.rulebook.specs.Reasons.{countsInside, exactLength, ownFields, held, mayShow, names, listOrNone, nesting, owners, itemOwned, affordable, bound, accepted}
+use Rattle.rulebook.specs.Table.{Part, atPort, atNetwork, atWaits, atSource, atExpression, atRule, atList, atItem}
+use Rattle.rulebook.specs.Table.{networkOwner, networkPort, sourceOwner, sourcePort}
+use Rattle.rulebook.specs.Table.{ruleExpression, trueList, listOwner, firstItem, itemCount}
+use Rattle.rulebook.specs.Reasons.{countsInside, exactLength, ownFields, held, mayShow, names, listOrNone, nesting, owners, itemOwned, affordable, accepted}
 use Rattle.laws.specs.Acceptance.{Everywhere, Rules}
 use Rattle.laws.specs.Facts.{Counts, Waits, Shows, RuleFacts, ListFacts, Facts}
 use Rattle.laws.proofs.Tests.{part-of, and-left, and-right}

@@ -1,17 +1,17 @@
 -- Which words fit, as statements; one write of a word that fits keeps the whole state's fit. Assumes nothing.
-use mathlib.Core.Path.{_≡_, refl, sym, _∙_, ap}
-use mathlib.Core.Bool.{Bool, true, false, _&&_, _||_, not, and-false}
+use mathlib.Core.Path.{_≡_, _∙_}
+use mathlib.Core.Bool.{Bool, true, _&&_, _||_, and-false}
 use mathlib.Core.List.{List}
-use Prim.Native.Nat.{ℕ, zero, suc, _+_, _%_, _≤_, _<_, max}
+use Prim.Native.Nat.{ℕ, _≤_, _<_, max}
 use native.Mathlib.Omega.{arith}
 use native.Mathlib.Nat.{mod-eq-of-lt}
 use lib.ListN.{length, set, length-set}
 use lib.Seq.{getD-set-same, getD-set-other}
-use lib.Dec.{leb, ltb, eqb}
-use borrow.Author.Tests.{ltb-true, ltb-false, leb-true, le-leb, eqb-true, eqb-false, eq-eqb, ne-eqb}
+use lib.Dec.{leb, eqb}
+use borrow.Author.Tests.{leb-true, le-leb, eqb-true, eqb-false, eq-eqb, ne-eqb}
 use Rattle.rulebook.specs.Words.{word, field, implies, between, all}
 use Rattle.rulebook.specs.Table.{portKind, kindMode, kindEvent, kindTimer, deferred, reload, shortWait, longWait, eTicks, timeout}
-use Rattle.rulebook.specs.State.{stateLength, Thing, aPort, aRule, aNetwork, aSource, thing, definedOf, markedOf, valueOf, remainingOf, timerStarted, timerExpired, resultOf, Network, networkOf, askedFull, stateCheck, stateRecover, statusOf, statusPending, packPort, packRule, packNetwork, packSource, portFits, ruleFits, networkFits, sourceFits, thingFits, fitsAt, fits}
+use Rattle.rulebook.specs.State.{stateLength, thing, definedOf, markedOf, valueOf, remainingOf, timerStarted, timerExpired, resultOf, Network, networkOf, askedFull, stateCheck, stateRecover, statusOf, statusPending, packPort, packRule, packNetwork, packSource, portFits, ruleFits, networkFits, sourceFits, thingFits, fitsAt, fits}
 use Rattle.laws.proofs.Tests.{split, clash, part-of, and-left, and-right, and-both, implies-elim, implies-intro, or-intro, or-elim, and-one-false}
 use Rattle.laws.proofs.Walks.{all-at, all-from}
 use Rattle.laws.proofs.Fields.{digit-small, port-defined, port-marked, port-value, port-zero, port-remaining, rule-result, rule-zero, network-asked, network-state, network-counter, network-zero, network-remaining, source-status, source-zero, source-remaining}

@@ -1,25 +1,23 @@
 -- States stay fit: each event keeps the fit, and the fresh state fits. Assumes nothing.
-use mathlib.Core.Path.{_≡_, refl, sym, _∙_, ap}
-use mathlib.Core.Bool.{Bool, true, false, cond, _&&_, _||_, not, and-false}
-use mathlib.Core.Logic.{⊎-elim}
+use mathlib.Core.Path.{_≡_, refl}
+use mathlib.Core.Bool.{true, cond, _&&_, _||_, not, and-false}
 use mathlib.Core.List.{List}
-use Prim.Native.Nat.{ℕ, zero, suc, _+_, _-_, _≤_, _<_, min, max}
+use Prim.Native.Nat.{ℕ, _-_, _≤_, _<_, max}
 use native.Mathlib.Omega.{arith}
-use lib.ListN.{length, set}
-use lib.Dec.{leb, ltb, eqb}
-use borrow.Author.Tests.{ltb-true, leb-true, leb-false, eqb-true, eqb-false, eq-eqb, ne-eqb}
-use Rattle.rulebook.specs.Words.{word, each}
-use Rattle.rulebook.specs.Table.{ports, networks, sources, rules, portKind, kindMode, kindEvent, kindTimer, deferred, hasInitial, initial, reload, networkPort, sourcePort, threshold, shortWait, longWait, eTicks, timeout, firstResult}
+use lib.Dec.{leb, eqb}
+use borrow.Author.Tests.{ltb-true, leb-false, eqb-true, eqb-false}
+use Rattle.rulebook.specs.Words.{word}
+use Rattle.rulebook.specs.Table.{ports, networks, sources, portKind, kindMode, kindEvent, kindTimer, deferred, hasInitial, networkPort, sourcePort, threshold, shortWait, longWait, eTicks, timeout}
 use Rattle.rulebook.specs.Reasons.{mayShow}
-use Rattle.rulebook.specs.State.{sourceIndex, stateLength, Thing, aPort, aRule, aNetwork, aSource, thing, markedOf, valueOf, remainingOf, timerStarted, timerExpired, Network, networkOf, askedNone, askedSilent, askedFull, stateNone, stateSilent, stateCheck, stateFull, stateRecover, statusOf, statusNone, statusPending, statusValidated, statusExpired, packPort, packRule, portFits, thingFits, fits, freshPort, freshThing, freshAt, fresh}
-use Rattle.rulebook.specs.Lists.{Run, start, setPort, networkIn, setNetwork}
+use Rattle.rulebook.specs.State.{sourceIndex, valueOf, timerStarted, timerExpired, Network, askedNone, askedSilent, askedFull, stateNone, stateSilent, stateCheck, stateFull, stateRecover, statusNone, statusPending, statusValidated, statusExpired}
+use Rattle.rulebook.specs.Lists.{Run, start, setPort, networkIn}
 use Rattle.rulebook.specs.Arbitration.{arbitrate}
-use Rattle.rulebook.specs.Events.{eventKind, eventIndex, eventValue, only, request, statusIn, setSource, moveSource, wake, validate, clear, shown, moved, moveNetwork, takes, wait, offBus, busOff, countedNetwork, tickedNetwork, tickNetwork, remainingIn, tickSource, tickTimer, tickThings, markedIn, arbitrateMarked, tick, happen}
-use Rattle.laws.specs.Facts.{Facts, Shows, Waits}
-use Rattle.laws.proofs.Tests.{split, clash, part-of, and-left, and-right, or-some}
+use Rattle.rulebook.specs.Events.{eventIndex, eventValue, only, request, statusIn, setSource, moveSource, wake, validate, clear, shown, moved, moveNetwork, takes, wait, offBus, busOff, countedNetwork, tickedNetwork, tickNetwork, remainingIn, tickSource, tickTimer, tickThings, arbitrateMarked, tick, happen}
+use Rattle.laws.specs.Facts.{Facts}
+use Rattle.laws.proofs.Tests.{split, part-of, and-left, and-right}
 use Rattle.laws.proofs.Walks.{each-keeps}
 use Rattle.laws.proofs.Fields.{digit-small}
-use Rattle.laws.proofs.Fit.{PortOk, NetworkOk, SourceOk}
+use Rattle.laws.proofs.Fit.{NetworkOk, SourceOk}
 use Rattle.laws.proofs.FitKept.{Fits, port-in, network-in, source-in, port-put, network-put, source-put, timer-deferred, plain-ok, timer-ok, arbitrate-fits}
 use Rattle.laws.proofs.Happen.{Taken, happen-cases, mode-index, mode-kind, request-index, request-kind, bus-off-index, source-index}
 

@@ -1,20 +1,20 @@
 -- States stay fit: the fresh state fits, and what arbitration and events write keeps the fit. Assumes nothing.
-use mathlib.Core.Path.{_≡_, refl, sym, _∙_, ap}
-use mathlib.Core.Bool.{Bool, true, false, cond, _&&_, _||_, not, and-false}
+use mathlib.Core.Path.{_≡_, refl}
+use mathlib.Core.Bool.{Bool, true, and-false}
 use mathlib.Core.List.{List}
-use Prim.Native.Nat.{ℕ, zero, suc, _+_, _-_, _≤_, _<_, min, max}
+use Prim.Native.Nat.{ℕ, _-_, _≤_, _<_}
 use native.Mathlib.Omega.{arith}
-use lib.ListN.{length, set}
-use lib.Dec.{leb, ltb, eqb}
-use borrow.Author.Tests.{ltb-true, leb-true, leb-false, eqb-true, eqb-false, eq-eqb}
-use Rattle.rulebook.specs.Words.{word, implies}
-use Rattle.rulebook.specs.Table.{ports, networks, sources, rules, portKind, kindMode, kindEvent, kindTimer, deferred, reload, networkPort, sourcePort, shortWait, longWait, eTicks, timeout}
-use Rattle.rulebook.specs.Reasons.{portFields, mayShow}
-use Rattle.rulebook.specs.State.{ruleIndex, networkIndex, sourceIndex, stateLength, Thing, aPort, aRule, aNetwork, aSource, thing, definedOf, markedOf, valueOf, remainingOf, timerStopped, timerStarted, timerExpired, Network, networkOf, askedFull, stateNone, stateSilent, stateCheck, stateFull, stateRecover, statusOf, statusPending, packPort, packRule, packNetwork, packSource, portFits, thingFits, fits}
+use lib.ListN.{set}
+use lib.Dec.{leb, eqb}
+use borrow.Author.Tests.{leb-true, eqb-true, eq-eqb}
+use Rattle.rulebook.specs.Words.{word}
+use Rattle.rulebook.specs.Table.{ports, networks, sources, rules, portKind, kindEvent, kindTimer, deferred, reload}
+use Rattle.rulebook.specs.Reasons.{portFields}
+use Rattle.rulebook.specs.State.{ruleIndex, networkIndex, sourceIndex, definedOf, markedOf, valueOf, remainingOf, timerStopped, timerStarted, timerExpired, Network, statusOf, packPort, packSource, thingFits, fits}
 use Rattle.rulebook.specs.Lists.{setPort, networkIn, asking, setNetwork, setResult}
-use Rattle.rulebook.specs.Arbitration.{unmarked, arbitrate}
-use Rattle.laws.specs.Facts.{Facts, Shows, Waits}
-use Rattle.laws.proofs.Tests.{split, clash, part-of, implies-elim}
+use Rattle.rulebook.specs.Arbitration.{arbitrate}
+use Rattle.laws.specs.Facts.{Facts}
+use Rattle.laws.proofs.Tests.{part-of, implies-elim}
 use Rattle.laws.proofs.Parts.{thing-port, thing-rule, thing-network, thing-source}
 use Rattle.laws.proofs.Fields.{digit-small}
 use Rattle.laws.proofs.Runs.{KeptByWrites, arbitrate-keeps}

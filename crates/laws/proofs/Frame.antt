@@ -1,7 +1,7 @@
 -- The frame of a run: a run from x is x's words followed by the words of the run from x's state alone, and likewise for the state
 -- and for being deep. Room and depth of each part of a run follow from it. Assumes nothing.
 use mathlib.Core.Path.{_≡_, refl, sym, _∙_, ap}
-use mathlib.Core.Bool.{Bool, true, false, _||_, or-false, or-true, or-assoc}
+use mathlib.Core.Bool.{Bool, _||_, or-false, or-true, or-assoc}
 use mathlib.Core.List.{List, [], _∷_, _++_, append-nil, append-assoc}
 use Prim.Native.Nat.{ℕ, zero, suc}
 use lib.Dec.{eqb}

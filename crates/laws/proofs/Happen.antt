@@ -1,20 +1,19 @@
 -- The dispatch on events, once: a statement of runs holds of what an event does if it holds of each kind's; and what an event that
 -- is not refused says of its kind, its index and its owner. Assumes nothing.
-use mathlib.Core.Path.{_≡_, refl, sym, _∙_, ap}
-use mathlib.Core.Bool.{Bool, true, false, cond, _&&_, _||_, not, and-false}
+use mathlib.Core.Path.{_≡_}
+use mathlib.Core.Bool.{true, false, _&&_, not, and-false}
 use mathlib.Core.List.{List}
-use Prim.Native.Nat.{ℕ, zero, suc, _+_, _≤_, _<_}
+use Prim.Native.Nat.{ℕ, _≤_, _<_}
 use native.Mathlib.Omega.{arith}
-use lib.Dec.{leb, ltb, eqb}
-use borrow.Author.Tests.{ltb-true, leb-true, eqb-true, eqb-false, eq-eqb, ne-eqb, not-true, not-false}
-use Rattle.rulebook.specs.Words.{implies, field}
+use lib.Dec.{eqb}
+use borrow.Author.Tests.{ltb-true, leb-true, eqb-true, eqb-false, eq-eqb, ne-eqb, not-true}
 use Rattle.rulebook.specs.Table.{ports, networks, sources, portKind, kindMode, kindEvent}
 use Rattle.rulebook.specs.Reasons.{held}
-use Rattle.rulebook.specs.State.{Thing, aPort, aRule, aNetwork, aSource, ownerOf}
+use Rattle.rulebook.specs.State.{aPort, aNetwork, aSource, ownerOf}
 use Rattle.rulebook.specs.Lists.{Run, start}
-use Rattle.rulebook.specs.Events.{eventKind, eventOwner, eventIndex, eventValue, tickKind, modeKind, requestKind, wakeupKind, validKind, busOffKind, clearKind, highestKind, request, wake, validate, clear, busOff, tick, happen}
+use Rattle.rulebook.specs.Events.{eventKind, eventOwner, eventIndex, eventValue, tickKind, modeKind, requestKind, wakeupKind, validKind, busOffKind, highestKind, request, wake, validate, clear, busOff, tick, happen}
 use Rattle.rulebook.specs.Step.{wellFormed, named, present, suited, known, sentByOwner, refusedEvent}
-use Rattle.laws.proofs.Tests.{split, clash, part-of, and-left, and-right, implies-elim, or-elim}
+use Rattle.laws.proofs.Tests.{split, part-of, and-left, and-right, implies-elim, or-elim}
 
 pub happen-cases : (P : Run → Type 0) (t : List ℕ) (e : ℕ) (s : List ℕ)
     → (eventKind e ≡ tickKind → P (tick t s))

@@ -1,19 +1,18 @@
 -- What the facts of an accepted table say of an item by its kind, and of the list that a rule starts. Assumes nothing.
-use mathlib.Core.Path.{_≡_, refl, sym, _∙_, ap}
-use mathlib.Core.Bool.{Bool, true, false, cond, _&&_, _||_, not, and-false}
-use mathlib.Core.Logic.{⊎-elim}
+use mathlib.Core.Path.{_≡_}
+use mathlib.Core.Bool.{Bool, true, false, cond, _||_, not, and-false}
 use mathlib.Core.List.{List}
-use Prim.Native.Nat.{ℕ, _+_, _≤_, _<_}
+use Prim.Native.Nat.{ℕ, _≤_, _<_}
 use native.Mathlib.Omega.{arith}
 use lib.Dec.{leb, ltb, eqb}
-use borrow.Author.Tests.{ltb-true, leb-true, eqb-true, eq-eqb, ne-eqb}
+use borrow.Author.Tests.{ltb-true, leb-true, eqb-true, eq-eqb}
 use Rattle.rulebook.specs.Words.{implies, between}
 use Rattle.rulebook.specs.Table.{ports, networks, rules, lists, portKind, kindEvent, kindTimer, trueList, falseList, noList, triggered, itemKind, itemA, itemB, kindClear, kindStart, kindStop, kindAsk, kindList, kindRule}
 use Rattle.rulebook.specs.Expressions.{deepest, holds}
 use Rattle.rulebook.specs.Reasons.{itemFields, itemNames, portOfKind, listOrNone}
 use Rattle.rulebook.specs.Lists.{valueIn, resultIn, listFor, choice}
 use Rattle.laws.specs.Facts.{RuleFacts}
-use Rattle.laws.proofs.Tests.{split, clash, part-of, and-left, and-right, or-some}
+use Rattle.laws.proofs.Tests.{split, clash, part-of, and-left, and-right}
 
 module _ (t : List ℕ) (i : ℕ) (h : itemNames t i ≡ true) where
   pub clear-there : itemKind t i ≡ kindClear → portOfKind t kindEvent (itemA t i) ≡ true

@@ -1,8 +1,8 @@
 -- Depth and cost of lists, case by case, in the order in which a run goes: one law for each kind of item. Assumes nothing.
-use mathlib.Core.Path.{_≡_, refl, sym, _∙_, ap}
-use mathlib.Core.Bool.{Bool, true, false, cond, _&&_, _||_}
+use mathlib.Core.Path.{_≡_, refl}
+use mathlib.Core.Bool.{Bool, true, false, _||_}
 use mathlib.Core.List.{List}
-use Prim.Native.Nat.{ℕ, zero, suc, _+_, _≤_, _<_, max}
+use Prim.Native.Nat.{ℕ, suc, _+_, _≤_, _<_}
 use native.Mathlib.Omega.{arith}
 use lib.Dec.{eqb, ltb}
 use borrow.Author.Tests.{ltb-true, lt-ltb}
@@ -10,7 +10,7 @@ use Rattle.rulebook.specs.Words.{all, sum}
 use Rattle.rulebook.specs.Table.{lists, trueList, falseList, noList, firstItem, itemCount, itemKind, itemA, kindList, kindRule}
 use Rattle.rulebook.specs.Reasons.{ruleNests, itemNests, listNests, listWithin, ruleCost, itemCost, listCost, costWithin}
 use Rattle.rulebook.specs.Lists.{choice}
-use Rattle.laws.proofs.Tests.{split, clash, and-left, and-right}
+use Rattle.laws.proofs.Tests.{clash, and-left, and-right}
 use Rattle.laws.proofs.Walks.{all-at}
 use Rattle.laws.proofs.Items.{choice-cases}
 

@@ -1,18 +1,18 @@
 -- The order in which chosen lists run: each list number once, larger priority first, then lower number. Assumes nothing.
 use mathlib.Core.Path.{_≡_, refl, sym, _∙_, ap, ap₂}
-use mathlib.Core.Bool.{Bool, true, false, cond}
-use mathlib.Core.Logic.{_⊎_, inl, inr}
+use mathlib.Core.Bool.{cond}
+use mathlib.Core.Logic.{inl, inr}
 use mathlib.Core.List.{List, [], _∷_, _++_}
 use Prim.Native.Nat.{ℕ, zero, suc, _+_, _≤_, _<_}
 use native.Mathlib.Omega.{arith}
 use native.Mathlib.Nat.{zero-add, add-zero}
 use lib.Dec.{eqb, ltb}
 use borrow.Author.Tests.{eqb-true, eqb-false, eq-eqb, ne-eqb, lt-ltb, le-ltb, ltb-true, ltb-false}
-use Rattle.rulebook.specs.Words.{digit, sum}
+use Rattle.rulebook.specs.Words.{sum}
 use Rattle.rulebook.specs.Table.{lists, priority}
 use Rattle.rulebook.specs.Arbitration.{ofPriority, orderBelow, order}
 use Rattle.laws.specs.Sequence.{Before, Each, InOrder, times}
-use Rattle.laws.proofs.Tests.{split, clash}
+use Rattle.laws.proofs.Tests.{split}
 use Rattle.laws.proofs.Walks.{here-or-later, sum-same}
 use Rattle.laws.proofs.Fields.{digit-small}
 

@@ -1,15 +1,15 @@
 -- Where each word stands: the part of the table at a named word's place, and the thing of the state at a thing's index. Assumes
 -- nothing.
-use mathlib.Core.Path.{_≡_, refl, ap, _∙_}
-use mathlib.Core.Bool.{Bool, true, false, cond}
+use mathlib.Core.Path.{_≡_, ap, _∙_}
+use mathlib.Core.Bool.{cond}
 use mathlib.Core.List.{List}
-use Prim.Native.Nat.{ℕ, suc, _+_, _-_, _*_, _/_, _%_, _≤_, _<_}
+use Prim.Native.Nat.{ℕ, _+_, _-_, _*_, _/_, _%_, _≤_, _<_}
 use native.Mathlib.Omega.{arith}
-use lib.Dec.{ltb, eqb}
+use lib.Dec.{ltb}
 use borrow.Author.Tests.{lt-ltb, le-ltb}
 use Rattle.rulebook.specs.Table.{ports, networks, sources, expressions, rules, lists, items, portsFrom, networksFrom, sourcesFrom, expressionsFrom, rulesFrom, listsFrom, itemsFrom}
-use Rattle.rulebook.specs.Table.{Part, atPort, atNetwork, atWaits, atSource, atExpression, atRule, atList, atItem, ofPair, part}
-use Rattle.rulebook.specs.State.{ruleIndex, networkIndex, sourceIndex, Thing, aPort, aRule, aNetwork, aSource, thing}
+use Rattle.rulebook.specs.Table.{atPort, atNetwork, atWaits, atSource, atExpression, atRule, atList, atItem, ofPair, part}
+use Rattle.rulebook.specs.State.{ruleIndex, networkIndex, sourceIndex, aPort, aRule, aNetwork, aSource, thing}
 
 -- a section that starts at b has been passed, or holds i
 past : {A : Type 0} (i b : ℕ) (x y : A) → b ≤ i → cond (ltb i b) x y ≡ y

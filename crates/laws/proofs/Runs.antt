@@ -1,19 +1,18 @@
 -- What every single act of a run keeps, a whole run keeps: once for statements of runs, and once for statements of states, kind of
 -- write by kind of write. Assumes nothing.
-use mathlib.Core.Path.{_≡_, refl, sym, _∙_, ap}
-use mathlib.Core.Bool.{Bool, true, false, cond}
+use mathlib.Core.Path.{_≡_}
+use mathlib.Core.Bool.{Bool, false}
 use mathlib.Core.List.{List, [], _∷_}
 use Prim.Native.Nat.{ℕ, zero, suc, _+_, _≤_, _<_}
 use native.Mathlib.Omega.{arith}
 use lib.ListN.{set}
 use lib.Dec.{eqb}
-use borrow.Author.Tests.{eqb-true}
-use Rattle.rulebook.specs.Words.{word, each}
-use Rattle.rulebook.specs.Table.{ports, networks, rules, lists, items, portKind, kindEvent, kindTimer, reload, noList, listOwner, firstItem, itemCount, itemKind, itemA, itemB, kindClear, kindStart, kindStop, kindAsk, kindList, kindRule}
+use Rattle.rulebook.specs.Words.{word}
+use Rattle.rulebook.specs.Table.{ports, networks, rules, lists, items, portKind, kindEvent, kindTimer, reload, noList, listOwner, firstItem, itemCount, itemKind, itemA, itemB, kindList, kindRule}
 use Rattle.rulebook.specs.State.{markedOf, timerStopped, timerStarted, undefinedResult}
-use Rattle.rulebook.specs.Lists.{Run, start, become, emit, tooDeep, traceWord, kindListStart, setPort, networkIn, asking, setNetwork, effect, act, unready, resultIn, choiceIn, choice, setResult, judge, runChoice, runRule, runItem, runItems, runList}
+use Rattle.rulebook.specs.Lists.{Run, start, emit, tooDeep, traceWord, kindListStart, setPort, networkIn, asking, setNetwork, effect, act, unready, choiceIn, choice, setResult, judge, runChoice, runRule, runItem, runItems, runList}
 use Rattle.rulebook.specs.Arbitration.{unmarked, unmarkPort, unmarkPorts, evaluated, storeResult, storeResults, chosen, order, runIf, runChosen, decide, arbitrate}
-use Rattle.laws.specs.Facts.{RuleFacts, ListFacts, Facts}
+use Rattle.laws.specs.Facts.{Facts}
 use Rattle.laws.proofs.Tests.{split}
 use Rattle.laws.proofs.Walks.{each-keeps}
 use Rattle.laws.proofs.Items.{clear-there, start-there, stop-there, ask-there, list-there, rule-there, mode-small, port-there, kind-is, result-small, choice-there}

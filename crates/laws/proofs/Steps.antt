@@ -1,29 +1,27 @@
 -- The step: what a refusal and a done call are, answer 7 never comes, the words are at most B, states stay fit. Assumes nothing.
-use mathlib.Core.Path.{_≡_, refl, sym, _∙_, ap}
-use mathlib.Core.Bool.{Bool, true, false, cond, _&&_, _||_, not, and-false}
-use mathlib.Core.Logic.{_⊎_, inl, inr}
+use mathlib.Core.Path.{_≡_, refl, ap}
+use mathlib.Core.Bool.{true, false, and-false}
 use mathlib.Core.List.{List, []}
-use Prim.Native.Nat.{ℕ, zero, suc, _+_, _-_, _≤_, _<_}
+use Prim.Native.Nat.{ℕ, _+_, _-_, _≤_, _<_}
 use native.Mathlib.Omega.{arith}
 use native.Mathlib.Nat.{zero-add}
 use lib.ListN.{length}
-use lib.Dec.{leb, ltb, eqb}
-use borrow.Author.Tests.{ltb-true, ltb-false, leb-true, eqb-true, eqb-false, eq-eqb, ne-eqb, lt-ltb, not-true, not-false}
-use Rattle.rulebook.specs.Words.{word, implies, digit}
-use Rattle.rulebook.specs.Table.{ports, networks, sources, rules, portKind, kindMode, kindEvent, kindTimer, deferred, hasInitial, initial, firstResult}
+use lib.Dec.{ltb, eqb}
+use borrow.Author.Tests.{ltb-true, ltb-false, eqb-true, eqb-false, eq-eqb, lt-ltb}
+use Rattle.rulebook.specs.Words.{digit}
+use Rattle.rulebook.specs.Table.{ports, networks, sources, rules, portKind, kindMode, kindTimer, deferred, hasInitial, initial, firstResult}
 use Rattle.rulebook.specs.Reasons.{portFields, bound, accepted}
-use Rattle.rulebook.specs.State.{stateLength, Thing, aPort, aRule, aNetwork, aSource, thing, networkOf, packPort, packRule, portFits, ruleFits, networkFits, sourceFits, thingFits, fits, freshPort, freshThing, freshAt, fresh}
-use Rattle.rulebook.specs.Lists.{Run, start}
+use Rattle.rulebook.specs.State.{stateLength, Thing, aPort, aRule, aNetwork, aSource, thing, portFits, networkFits, sourceFits, thingFits, fits, freshPort, freshThing, freshAt, fresh}
 use Rattle.rulebook.specs.Events.{request, tick, arbitrateMarked, happen}
 use Rattle.rulebook.specs.Step.{refusedState, refusedCall, wellFormed, known, sentByOwner, present, refusedEvent, Result, refusal, finish, handle, step}
-use Rattle.laws.specs.Facts.{Facts, RuleFacts}
-use Rattle.laws.proofs.Tests.{split, clash, part-of, implies-elim}
+use Rattle.laws.specs.Facts.{Facts}
+use Rattle.laws.proofs.Tests.{split, part-of, implies-elim}
 use Rattle.laws.proofs.Walks.{listed-length, listed-at}
 use Rattle.laws.proofs.Facts.{facts}
 use Rattle.laws.proofs.Fields.{digit-small}
 use Rattle.laws.proofs.Deep.{arbitrate-shallow}
 use Rattle.laws.proofs.Cost.{written, arbitrate-paid}
-use Rattle.laws.proofs.Fit.{PortOk, port-packed, rule-packed, fits-from}
+use Rattle.laws.proofs.Fit.{port-packed, rule-packed, fits-from}
 use Rattle.laws.proofs.FitKept.{Fits, plain-ok, timer-ok, timer-deferred}
 use Rattle.laws.proofs.Happen.{Taken, taken-event, happen-cases}
 use Rattle.laws.proofs.FitEvents.{happen-fits}

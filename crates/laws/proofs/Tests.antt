@@ -1,6 +1,6 @@
 -- Tests: a Bool is true or false, and what `&&` and `||` say of their parts. Assumes nothing.
 use mathlib.Core.Path.{_≡_, refl, sym, _∙_}
-use mathlib.Core.Bool.{Bool, true, false, _&&_, _||_, not, true≢false}
+use mathlib.Core.Bool.{Bool, true, false, _&&_, _||_, true≢false}
 use mathlib.Core.Logic.{_⊎_, inl, inr}
 use Rattle.rulebook.specs.Words.{implies}
 

@@ -1,8 +1,7 @@
 -- The walks over the n numbers i, i + 1, ..: what each says of every number, and by what it is shown. Assumes nothing.
-use mathlib.Core.Path.{_≡_, refl, sym, _∙_, ap}
-use mathlib.Core.Bool.{Bool, true, false, _&&_, _||_}
-use mathlib.Core.Logic.{_⊎_, inl, inr, ⊎-elim}
-use mathlib.Core.List.{List, [], _∷_}
+use mathlib.Core.Path.{_≡_, refl, _∙_, ap}
+use mathlib.Core.Bool.{Bool, true, false}
+use mathlib.Core.Logic.{_⊎_, ⊎-elim}
 use Prim.Native.Nat.{ℕ, zero, suc, _+_, _-_, _≤_, _<_}
 use native.Mathlib.Omega.{arith}
 use native.Mathlib.Nat.{zero-add, add-zero, suc-add, add-suc}
@@ -55,9 +54,6 @@ any-some p i zero h = clash h refl
 any-some p i (suc n) h =
     ⊎-elim (λ e. record { at = i; from = omega arith; below = omega arith; holds = e })
     (λ e. somewhere-later p i n (any-some p (suc i) n e)) (or-some (p i) (any (suc i) n p) h)
-
-pub any-from : (p : ℕ → Bool) (i n j : ℕ) → i ≤ j → j < i + n → p j ≡ true → any i n p ≡ true
-any-from p i n j a b h = split (any i n p) (λ e. e) (λ e. clash h (any-at p i n j e a b))
 
 -- the first number at which p holds: none before it, and at it p holds unless it is past the walk
 

@@ -1,7 +1,7 @@
 -- What an accepted table gives, number by number: names, kinds, nesting, owners, cost. Theorems and the code's proofs use this
 -- record, never the check.
 use mathlib.Core.Path.{_≡_}
-use mathlib.Core.Bool.{Bool, true, false}
+use mathlib.Core.Bool.{true, false}
 use mathlib.Core.List.{List}
 use Prim.Native.Nat.{ℕ, _+_, _≤_, _<_}
 use lib.ListN.{length}

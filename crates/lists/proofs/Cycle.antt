@@ -1,13 +1,13 @@
 -- The cycle of lists, items and rules along a lent trace: what each call asks of the next, and what it has when that is back.
 -- Assumes nothing.
 use Prim.Native.Nat.{ℕ, _+_, _-_, _<_, _≤_}
-use mathlib.Core.Path.{_≡_, refl, sym, ap, _∙_}
+use mathlib.Core.Path.{_≡_, refl, sym, _∙_}
 use mathlib.Core.Bool.{true, false}
-use mathlib.Core.List.{List, []}
+use mathlib.Core.List.{List}
 use lib.ListN.{length, set}
 use borrow.Author.Tests.{eq-eqb, ne-eqb}
 use borrow.Rule.Slice.PartMut.{midOf, putMid}
-use Rattle.rulebook.specs.Words.{field, each}
+use Rattle.rulebook.specs.Words.{field}
 use Rattle.rulebook.specs.Table.{listWord}
 use Rattle.rulebook.specs.Lists.{Run, start, emit, traceWord, kindListStart, unready, choiceIn, judge, runChoice, runRule, runItem, runList}
 use Rattle.walks.proofs.Walks.{each-turn, each-end}

@@ -1,14 +1,12 @@
 -- What the code reads of an item, a list and a rule decides how its run goes. Assumes nothing.
 use Prim.Native.Nat.{ℕ, zero, suc, _+_, _-_, _≤_}
 use mathlib.Core.Path.{_≡_, refl, sym, ap, _∙_}
-use mathlib.Core.Bool.{Bool, true, false}
-use mathlib.Core.List.{List, [], _∷_, _++_}
+use mathlib.Core.List.{List, [], _∷_}
 use native.Mathlib.Omega.{arith}
 use lib.ListN.{length, drop, set}
-use lib.Dec.{eqb}
 use borrow.Author.Tests.{eq-eqb, ne-eqb}
-use Rattle.rulebook.specs.Words.{word, field, each}
-use Rattle.rulebook.specs.Table.{portWord, itemWord, itemKind, itemA, itemB, listWord, listOwner, firstItem, itemCount}
+use Rattle.rulebook.specs.Words.{word, field}
+use Rattle.rulebook.specs.Table.{portWord, itemWord, itemKind, itemA, listWord}
 use Rattle.rulebook.specs.State.{networkIndex, packNetwork}
 use Rattle.rulebook.specs.Lists.{Run, start, emit, traceWord, kindListStart, setPort, networkIn, asking, setNetwork, resultIn, previousIn, choice, choiceIn, setResult, effect, act, judge, runRule, runItem, runItems, runList}
 use Rattle.walks.proofs.Walks.{whole}

@@ -1,7 +1,6 @@
 // Lists: what each item does, the trace words, and a list run with the lists and rules that it names.
 ghost use mathlib.Core.Path.{_≡_};
 ghost use Rattle.rulebook.specs.Lists.{start, traceWord, effect as effectOf, setPort, setResult, networkIn, asking, setNetwork, previousIn, choiceIn, act as actOf, judge as judgeOf, runList, runItem, runRule};
-ghost use Rattle.words.specs.Field.{Field};
 ghost use Rattle.words.specs.Sections.{Laid};
 ghost use Rattle.lists.specs.Runs.{Safe, Ran, itemsFrom};
 use evaluation;

@@ -1,11 +1,11 @@
 -- The event call: its exits, and what its run needs. Assumes nothing.
 use Prim.Native.Nat.{ℕ, _≤_}
 use mathlib.Core.Path.{_≡_, refl, sym, _∙_, ap}
-use mathlib.Core.Bool.{Bool, true, false}
+use mathlib.Core.Bool.{true, false}
 use mathlib.Core.List.{List}
 use native.Mathlib.Omega.{arith}
 use lib.ListN.{length}
-use lib.Dec.{leb, ltb}
+use lib.Dec.{leb}
 use borrow.Author.Tests.{leb-true, leb-false, lt-ltb, le-ltb}
 use Rattle.rulebook.specs.Table.{rules}
 use Rattle.rulebook.specs.Reasons.{bound, accepted}
@@ -18,7 +18,6 @@ use Rattle.tables.specs.declared.Checked.{Checked}
 use Rattle.tables.specs.declared.Checked.the-variants.{Accepted}
 use Rattle.tables.specs.Told as tables
 use Rattle.lists.specs.Runs.{Safe}
-use Rattle.events.specs.declared.Answer.{Answer}
 use Rattle.events.specs.declared.Answer.the-variants.{BadTable, UnfitState, ShortTrace}
 use Rattle.events.specs.Answers.{Told}
 

@@ -1,5 +1,4 @@
 // The event word: kind, owner, index, value, 0.
-ghost use mathlib.Core.Path.{_≡_};
 ghost use Prim.Native.Nat.{_<_};
 ghost use Rattle.rulebook.specs.Words.{digit, field as fieldOf};
 ghost use Rattle.rulebook.specs.Events.{eventKind, eventOwner, eventIndex, eventValue};

@@ -1,14 +1,13 @@
 -- One-step laws: each says of one definition what the marked run does not meet, so that an edit of it is refused. Assumes nothing.
 use Prim.Native.Nat.{ℕ, _+_, _<_, min}
-use mathlib.Core.Path.{_≡_, refl}
+use mathlib.Core.Path.{_≡_}
 use mathlib.Core.Bool.{Bool, true, false}
 use mathlib.Core.List.{List}
 use native.Mathlib.Omega.{arith}
-use lib.Dec.{leb, eqb}
 use borrow.Author.Tests.{lt-leb, ne-eqb, eqb-true}
 use Rattle.rulebook.specs.Table.{threshold, longWait, networkOwner, itemKind, itemA, kindAsk, platform}
 use Rattle.rulebook.specs.Reasons.{itemOwned}
-use Rattle.rulebook.specs.State.{Network, stateRecover, statusPending}
+use Rattle.rulebook.specs.State.{stateRecover, statusPending}
 use Rattle.rulebook.specs.Lists.{networkIn}
 use Rattle.rulebook.specs.Arbitration.{unmarkPort}
 use Rattle.rulebook.specs.Events.{statusIn, wake, moved, moveNetwork, takes, wait, offBus, busOff}

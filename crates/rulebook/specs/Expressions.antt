@@ -4,7 +4,7 @@
 use Prim.Native.Nat.{ℕ, zero, suc}
 use mathlib.Core.Bool.{Bool, true, false, cond, _&&_, _||_, not, xor}
 use mathlib.Core.List.{List}
-use lib.Dec.{leb, eqb}
+use lib.Dec.{eqb}
 use Rattle.rulebook.specs.Words.{between}
 use Rattle.rulebook.specs.Table.{expressionKind, conditionPort, conditionValue, left, right}
 

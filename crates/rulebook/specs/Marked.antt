@@ -1,8 +1,7 @@
 -- "One table whole (marked)": ten cases as one test, each state passed on by the step.
-use Prim.Native.Nat.{ℕ, zero, suc}
+use Prim.Native.Nat.{ℕ}
 use mathlib.Core.Bool.{Bool, true, false, _&&_}
 use mathlib.Core.List.{List, [], _∷_}
-use lib.ListN.{length}
 use lib.Dec.{eqb}
 use Rattle.rulebook.specs.Words.{word}
 use Rattle.rulebook.specs.State.{freshState}

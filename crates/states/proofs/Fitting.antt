@@ -1,6 +1,6 @@
 -- Whose the word at an index is, by a layout's counts; and the exits of the state check. Assumes nothing.
 use Prim.Native.Nat.{ℕ, _+_, _-_, _<_, _≤_}
-use mathlib.Core.Path.{_≡_, sym, ap, _∙_}
+use mathlib.Core.Path.{_≡_, sym, _∙_}
 use mathlib.Core.Bool.{Bool, false}
 use mathlib.Core.List.{List}
 use native.Mathlib.Nat.{sub-zero}
@@ -8,7 +8,7 @@ use native.Mathlib.Omega.{arith}
 use lib.ListN.{length}
 use borrow.Author.Tests.{lt-ltb, le-ltb, eq-eqb, ne-eqb}
 use Rattle.rulebook.specs.Words.{word, all}
-use Rattle.rulebook.specs.Table.{ports, rules, networks, sources}
+use Rattle.rulebook.specs.Table.{ports, rules, networks}
 use Rattle.rulebook.specs.State.{Thing, aPort, aRule, aNetwork, aSource, thing, stateLength, thingFits, fitsAt, fits}
 use Rattle.words.specs.declared.sections.Layout.{Layout}
 use Rattle.words.specs.Sections.{Laid}

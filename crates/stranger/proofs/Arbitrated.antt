@@ -1,26 +1,26 @@
 -- What an arbitration leaves alone: a source's word, a network's state, counter and remaining, and the value of a port that shows.
 -- And a network that is asked full stays so unless a trace word asks it for another mode. Assumes nothing.
-use mathlib.Core.Path.{_≡_, refl, sym, _∙_, ap}
-use mathlib.Core.Bool.{Bool, true, false, cond, _&&_, _||_, not}
-use mathlib.Core.List.{List, [], _∷_, _++_}
-use Prim.Native.Nat.{ℕ, zero, suc, _+_, _-_, _%_, _≤_, _<_}
+use mathlib.Core.Path.{_≡_, sym, _∙_, ap}
+use mathlib.Core.Bool.{Bool}
+use mathlib.Core.List.{List}
+use Prim.Native.Nat.{ℕ, _-_, _≤_, _<_}
 use native.Mathlib.Omega.{arith}
 use native.Mathlib.Nat.{mod-eq-of-lt}
-use lib.ListN.{length, set}
+use lib.ListN.{set}
 use lib.Seq.{getD-set-same, getD-set-other}
-use lib.Dec.{leb, ltb, eqb}
-use borrow.Author.Tests.{ltb-true, eqb-true, eqb-false, eq-eqb}
+use lib.Dec.{eqb}
+use borrow.Author.Tests.{eqb-true, eqb-false}
 use Rattle.rulebook.specs.Words.{word}
-use Rattle.rulebook.specs.Table.{ports, networks, sources, rules, portKind, kindMode, kindEvent, kindTimer, reload, itemKind, itemA, itemB, kindClear, kindStart, kindStop, kindAsk, listOwner}
-use Rattle.rulebook.specs.State.{ruleIndex, networkIndex, sourceIndex, stateLength, definedOf, markedOf, valueOf, remainingOf, Network, networkOf, askedFull, packNetwork, packPort}
-use Rattle.rulebook.specs.Lists.{Run, start, setPort, networkIn, asking, setNetwork, setResult}
+use Rattle.rulebook.specs.Table.{ports, networks, sources, rules, portKind, kindMode}
+use Rattle.rulebook.specs.State.{ruleIndex, networkIndex, sourceIndex, definedOf, valueOf, remainingOf, Network, networkOf}
+use Rattle.rulebook.specs.Lists.{setPort, networkIn, asking, setNetwork, setResult}
 use Rattle.rulebook.specs.Arbitration.{unmarked, arbitrate}
 use Rattle.laws.specs.Facts.{Facts}
-use Rattle.laws.proofs.Tests.{split, clash}
-use Rattle.laws.proofs.Fields.{digit-small, port-defined, port-value, port-remaining}
+use Rattle.laws.proofs.Tests.{split}
+use Rattle.laws.proofs.Fields.{digit-small, port-defined, port-value}
 use Rattle.laws.proofs.Fit.{NetworkSmall, network-again, fits-length}
 use Rattle.laws.proofs.FitKept.{Fits, fit-kept}
-use Rattle.laws.proofs.Runs.{KeptByWrites, arbitrate-keeps}
+use Rattle.laws.proofs.Runs.{arbitrate-keeps}
 use Rattle.laws.proofs.FitEvents.{MayShow}
 
 -- a statement that each write keeps where the state fits

@@ -1,26 +1,26 @@
 -- A network that is asked full stays so through an arbitration, unless a trace word asks it for another mode. Assumes nothing.
-use mathlib.Core.Path.{_≡_, refl, sym, _∙_, ap}
-use mathlib.Core.Bool.{Bool, true, false, cond, _&&_, _||_, not}
+use mathlib.Core.Path.{_≡_, refl, _∙_, ap}
+use mathlib.Core.Bool.{Bool, false}
 use mathlib.Core.List.{List, [], _∷_, _++_}
-use Prim.Native.Nat.{ℕ, zero, suc, _+_, _%_, _≤_, _<_}
+use Prim.Native.Nat.{ℕ, _+_, _≤_, _<_}
 use native.Mathlib.Omega.{arith}
 use native.Mathlib.Nat.{mod-eq-of-lt}
 use lib.ListN.{set}
 use lib.Seq.{getD-set-other}
-use lib.Dec.{ltb, eqb}
-use borrow.Author.Tests.{eqb-true, eqb-false, eq-eqb, not-true, not-false}
-use Rattle.rulebook.specs.Words.{word, field, each}
+use lib.Dec.{eqb}
+use borrow.Author.Tests.{eqb-true, eqb-false, eq-eqb, not-false}
+use Rattle.rulebook.specs.Words.{field}
 use Rattle.rulebook.specs.Table.{ports, networks, rules, items, kindEvent, kindTimer, listOwner, itemKind, itemA, itemB, kindAsk}
 use Rattle.rulebook.specs.State.{ruleIndex, networkIndex, askedFull, Network, networkOf}
-use Rattle.rulebook.specs.Lists.{Run, start, emit, traceWord, setPort, networkIn, asking, setNetwork, effect, act, setResult, judge}
-use Rattle.rulebook.specs.Arbitration.{unmarkPort, unmarkPorts, storeResult, storeResults, evaluated, decide, arbitrate}
+use Rattle.rulebook.specs.Lists.{Run, traceWord, setPort, networkIn, setNetwork, effect, act, setResult, judge}
+use Rattle.rulebook.specs.Arbitration.{unmarkPort, unmarkPorts, storeResult, storeResults, evaluated, arbitrate}
 use Rattle.laws.specs.Facts.{Facts}
-use Rattle.laws.proofs.Tests.{split, clash, or-none}
+use Rattle.laws.proofs.Tests.{split, or-none}
 use Rattle.laws.proofs.Walks.{each-keeps}
-use Rattle.laws.proofs.Fields.{digit-small, trace-kind, trace-a, trace-b}
+use Rattle.laws.proofs.Fields.{trace-kind, trace-a, trace-b}
 use Rattle.laws.proofs.Items.{clear-there, start-there, stop-there, ask-there, rule-there, mode-small, port-there, result-small}
 use Rattle.laws.proofs.Cases.{effect-cases}
-use Rattle.laws.proofs.Runs.{Within, item-there, KeptByActs, decide-keeps, effect-keeps, unmark-keeps, store-keeps}
+use Rattle.laws.proofs.Runs.{item-there, KeptByActs, decide-keeps, effect-keeps, unmark-keeps, store-keeps}
 use Rattle.laws.proofs.FitKept.{Fits, fit-kept}
 use Rattle.stranger.specs.Demand.{asksOther, anyWord}
 use Rattle.stranger.proofs.Arbitrated.{asked-word}

@@ -1,27 +1,26 @@
 -- What a network is asked changes only by lists: an event leaves a network that is asked full so, unless a trace word asks it for
 -- another mode. Assumes nothing.
-use mathlib.Core.Path.{_≡_, refl, sym, _∙_, ap}
-use mathlib.Core.Bool.{Bool, true, false, cond, _&&_, _||_, not}
+use mathlib.Core.Path.{_≡_, refl, _∙_, ap}
+use mathlib.Core.Bool.{false, _&&_, _||_, not}
 use mathlib.Core.List.{List}
-use Prim.Native.Nat.{ℕ, zero, suc, _+_, _-_, _≤_, _<_, min}
+use Prim.Native.Nat.{ℕ, _+_, _-_, _≤_, _<_, min}
 use native.Mathlib.Omega.{arith}
 use lib.ListN.{set}
 use lib.Seq.{getD-set-same, getD-set-other}
 use lib.Dec.{leb, eqb}
 use borrow.Author.Tests.{eqb-true, eqb-false}
-use Rattle.rulebook.specs.Words.{word, each}
-use Rattle.rulebook.specs.Table.{ports, networks, sources, rules, portKind, kindEvent, kindTimer, networkPort, sourcePort}
+use Rattle.rulebook.specs.Words.{word}
+use Rattle.rulebook.specs.Table.{ports, networks, sources, portKind, kindEvent, kindTimer, networkPort, sourcePort}
 use Rattle.rulebook.specs.State.{networkIndex, sourceIndex, valueOf, askedNone, askedSilent, askedFull, stateNone, stateSilent, stateCheck, stateRecover, statusNone, statusPending, statusExpired, timerStarted, Network, networkOf, packNetwork}
-use Rattle.rulebook.specs.Lists.{Run, start, setPort, networkIn, setNetwork}
-use Rattle.rulebook.specs.Arbitration.{arbitrate}
-use Rattle.rulebook.specs.Events.{eventKind, eventIndex, eventValue, only, request, statusIn, setSource, moveSource, wake, validate, clear, shown, moveNetwork, takes, offBus, busOff, countedNetwork, tickedNetwork, tickNetwork, remainingIn, tickSource, tickTimer, tickThings, markedIn, arbitrateMarked, tick, happen}
+use Rattle.rulebook.specs.Lists.{setPort, networkIn, setNetwork}
+use Rattle.rulebook.specs.Events.{eventIndex, eventValue, only, request, statusIn, setSource, moveSource, wake, validate, clear, shown, moveNetwork, takes, offBus, busOff, countedNetwork, tickedNetwork, tickNetwork, remainingIn, tickSource, tickTimer, tickThings, arbitrateMarked, tick, happen}
 use Rattle.laws.specs.Facts.{Facts}
-use Rattle.laws.proofs.Tests.{split, clash}
+use Rattle.laws.proofs.Tests.{split}
 use Rattle.laws.proofs.Walks.{each-keeps}
 use Rattle.laws.proofs.Fields.{digit-small}
 use Rattle.laws.proofs.Fit.{NetworkOk, network-again, network-small, fits-length}
 use Rattle.laws.proofs.FitKept.{Fits, network-in}
-use Rattle.laws.proofs.FitEvents.{MayShow, may-show, things-fit, ticked-ok, off-bus-ok, tick-network-fits, request-cases}
+use Rattle.laws.proofs.FitEvents.{may-show, things-fit, ticked-ok, off-bus-ok, tick-network-fits, request-cases}
 use Rattle.laws.proofs.Happen.{Taken, happen-cases, mode-index, mode-kind, request-index, request-kind, bus-off-index, source-index}
 use Rattle.stranger.specs.Demand.{asksOther, anyWord}
 use Rattle.stranger.proofs.Asked.{asked-stays}

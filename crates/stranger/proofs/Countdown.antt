@@ -1,29 +1,27 @@
 -- The network's countdown: after a bus-off taken while full is asked, it shows full again at exactly its L-th following tick and is
 -- settled E ticks later, if left alone until then. Assumes nothing.
 use mathlib.Core.Path.{_≡_, refl, sym, _∙_, ap}
-use mathlib.Core.Bool.{Bool, true, false, cond, _&&_, _||_, not, and-false}
+use mathlib.Core.Bool.{true, false, cond, _&&_, not, and-false}
 use mathlib.Core.List.{List, [], _∷_, _++_}
-use Prim.Native.Nat.{ℕ, zero, suc, _+_, _-_, _≤_, _<_, min, max}
+use Prim.Native.Nat.{ℕ, suc, _+_, _-_, _≤_, _<_, min}
 use native.Mathlib.Omega.{arith}
 use native.Mathlib.Nat.{zero-add, add-zero}
 use lib.Dec.{leb, ltb, eqb}
-use borrow.Author.Tests.{leb-true, leb-false, le-leb, lt-leb, eqb-true, eqb-false, eq-eqb, ne-eqb, not-true, ltb-true, ltb-false}
-use Rattle.rulebook.specs.Words.{word}
-use Rattle.rulebook.specs.Table.{networks, networkPort, shortWait, longWait, threshold, eTicks}
+use borrow.Author.Tests.{leb-true, leb-false, le-leb, lt-leb, eqb-true, eq-eqb, ne-eqb, not-true, ltb-true, ltb-false}
+use Rattle.rulebook.specs.Table.{networks, threshold, eTicks}
 use Rattle.rulebook.specs.Reasons.{accepted}
-use Rattle.rulebook.specs.State.{networkIndex, valueOf, Network, networkOf, askedFull, stateCheck, stateFull, stateRecover, fresh}
-use Rattle.rulebook.specs.Lists.{networkIn, asking}
+use Rattle.rulebook.specs.State.{Network, askedFull, stateCheck, stateFull, stateRecover, fresh}
+use Rattle.rulebook.specs.Lists.{networkIn}
 use Rattle.rulebook.specs.Events.{eventKind, eventIndex, tickKind, busOffKind, shown, moved, takes, wait, offBus, countedNetwork, tickedNetwork, happen}
-use Rattle.rulebook.specs.Step.{Result, step}
-use Rattle.laws.specs.Facts.{Facts}
-use Rattle.laws.proofs.Tests.{split, clash, part-of, and-left, and-right}
+use Rattle.rulebook.specs.Step.{Result}
+use Rattle.laws.proofs.Tests.{split, part-of, and-left, and-right}
 use Rattle.laws.proofs.Facts.{facts}
 use Rattle.laws.proofs.FitKept.{Fits}
 use Rattle.laws.proofs.Happen.{Taken, bus-off-index}
 use Rattle.laws.proofs.Steps.{Stepped, refused, done, stepped, step-fits, fresh-fits}
 use Rattle.stranger.specs.Calls.{Call, called, after}
-use Rattle.stranger.specs.Demand.{answered, ticks, tickCount, shows, busOffTaken, loaded, asksOther, anyWord, asksAnother, leftAlone, Phase, modeToShow, PortShows}
-use Rattle.stranger.proofs.Moves.{Moves, nextNetwork, network-moves, coreOf}
+use Rattle.stranger.specs.Demand.{answered, ticks, tickCount, shows, busOffTaken, loaded, asksOther, anyWord, asksAnother, leftAlone, Phase, modeToShow}
+use Rattle.stranger.proofs.Moves.{nextNetwork, network-moves}
 use Rattle.stranger.proofs.Shows.{after-fits, network-shows}
 use Rattle.stranger.proofs.AskedAfter.{asked-after}
 

@@ -1,7 +1,7 @@
 -- DEMAND 3: every statement of specs/Statements holds of every accepted table. Assumes nothing.
-use mathlib.Core.Path.{_≡_, refl, sym, _∙_, ap}
-use mathlib.Core.Bool.{Bool, true, false, _&&_}
-use mathlib.Core.List.{List, [], _∷_}
+use mathlib.Core.Path.{_≡_, _∙_, ap}
+use mathlib.Core.Bool.{true, false}
+use mathlib.Core.List.{List}
 use Prim.Native.Nat.{ℕ, _+_, _<_, min}
 use Rattle.rulebook.specs.Words.{word}
 use Rattle.rulebook.specs.Table.{networks, networkOwner, sources, sourceOwner}
@@ -11,8 +11,8 @@ use Rattle.rulebook.specs.Lists.{networkIn}
 use Rattle.rulebook.specs.Events.{wait}
 use Rattle.laws.proofs.FitKept.{Fits}
 use Rattle.laws.proofs.Steps.{step-fits, fresh-fits}
-use Rattle.stranger.specs.Calls.{Call, called, after, strangersCall, struckOut}
-use Rattle.stranger.specs.Demand.{busOffTaken, loaded, leftAlone, tickCount, becomesPending, notEnded}
+use Rattle.stranger.specs.Calls.{Call, called, strangersCall, struckOut}
+use Rattle.stranger.specs.Demand.{becomesPending}
 use Rattle.stranger.specs.Statements.{reached, then, PortsShow, Recovers, Expires, EndedByOwner, Wakes, SameNetwork, SameSource, NoStranger}
 use Rattle.stranger.specs.View.{SameView}
 use Rattle.stranger.proofs.View.{network-word, source-word}

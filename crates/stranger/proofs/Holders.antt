@@ -1,23 +1,23 @@
 -- A network or a source holds an index of the state and a port that no other thing writes: what the others do leaves both alone.
 -- Assumes nothing.
 use mathlib.Core.Path.{_≡_, refl, sym, _∙_, ap}
-use mathlib.Core.Bool.{Bool, true, false, cond, _&&_, _||_, not}
+use mathlib.Core.Bool.{false, _&&_}
 use mathlib.Core.List.{List}
-use Prim.Native.Nat.{ℕ, zero, suc, _+_, _-_, _≤_, _<_}
+use Prim.Native.Nat.{ℕ, _+_, _-_, _≤_, _<_}
 use native.Mathlib.Omega.{arith}
-use lib.ListN.{length, set, length-set}
-use lib.Seq.{getD-set-same, getD-set-other}
+use lib.ListN.{set}
+use lib.Seq.{getD-set-other}
 use lib.Dec.{leb, ltb, eqb}
-use borrow.Author.Tests.{ltb-true, eqb-true, eqb-false, eq-eqb, ltb-false}
+use borrow.Author.Tests.{ltb-true, eqb-true, eq-eqb, ltb-false}
 use Rattle.rulebook.specs.Words.{word, any, each}
 use Rattle.rulebook.specs.Table.{ports, networks, sources, rules, portKind, kindMode, kindTimer, networkPort, sourcePort}
 use Rattle.rulebook.specs.Reasons.{networkHas, sourceHas, held}
 use Rattle.rulebook.specs.State.{networkIndex, sourceIndex, valueOf, timerStarted, Network}
 use Rattle.rulebook.specs.Lists.{setPort, networkIn, setNetwork}
-use Rattle.rulebook.specs.Events.{statusIn, setSource, moveSource, shown, moveNetwork, tickNetwork, tickedNetwork, tickSource, remainingIn, tickTimer}
-use Rattle.laws.specs.Facts.{Facts, Shows}
+use Rattle.rulebook.specs.Events.{statusIn, setSource, moveSource, shown, moveNetwork, tickNetwork, tickSource, remainingIn, tickTimer}
+use Rattle.laws.specs.Facts.{Facts}
 use Rattle.laws.proofs.Tests.{split, clash, or-none, and-left}
-use Rattle.laws.proofs.Walks.{any-at, any-from, each-keeps}
+use Rattle.laws.proofs.Walks.{any-at, each-keeps}
 use Rattle.laws.proofs.FitEvents.{MayShow, may-show}
 
 -- Ports are not shared.

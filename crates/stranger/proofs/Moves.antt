@@ -2,33 +2,31 @@
 -- of any thing that holds an index i and a port p, of whose word `core` is what arbitration leaves alone, and which shows `show` of
 -- it. Assumes nothing.
 use mathlib.Core.Path.{_≡_, refl, sym, _∙_, ap}
-use mathlib.Core.Bool.{Bool, true, false, cond, _&&_, _||_, not}
-use mathlib.Core.List.{List, [], _∷_, _++_}
-use Prim.Native.Nat.{ℕ, zero, suc, _+_, _-_, _%_, _≤_, _<_, min}
+use mathlib.Core.Bool.{Bool, true, false, cond, _&&_, _||_}
+use mathlib.Core.List.{List}
+use Prim.Native.Nat.{ℕ, suc, _+_, _-_, _≤_, _<_, min}
 use native.Mathlib.Omega.{arith}
-use native.Mathlib.Nat.{mod-eq-of-lt, zero-add}
+use native.Mathlib.Nat.{mod-eq-of-lt}
 use lib.ListN.{length, set}
 use lib.Seq.{getD-set-same, getD-set-other, lt-length-set}
-use lib.Dec.{leb, ltb, eqb}
-use borrow.Author.Tests.{ltb-true, leb-true, leb-false, eqb-true, eqb-false, eq-eqb, ne-eqb, not-true}
+use lib.Dec.{leb, eqb}
+use borrow.Author.Tests.{eqb-true, eqb-false, eq-eqb, ne-eqb}
 use Rattle.rulebook.specs.Words.{word, each}
-use Rattle.rulebook.specs.Table.{ports, networks, sources, rules, portKind, kindMode, kindEvent, kindTimer, deferred, networkPort, sourcePort, timeout}
-use Rattle.rulebook.specs.Reasons.{held}
-use Rattle.rulebook.specs.State.{networkIndex, sourceIndex, definedOf, valueOf, remainingOf, Network, networkOf, askedFull, statusOf, statusNone, statusPending, statusValidated, statusExpired, packPort, packNetwork, packSource}
-use Rattle.rulebook.specs.Lists.{Run, start, setPort, networkIn, asking, setNetwork}
+use Rattle.rulebook.specs.Table.{ports, networks, sources, portKind, kindMode, kindEvent, kindTimer, networkPort, sourcePort, timeout}
+use Rattle.rulebook.specs.State.{networkIndex, sourceIndex, definedOf, valueOf, remainingOf, Network, networkOf, statusOf, statusNone, statusPending, statusValidated, statusExpired, packPort, packNetwork, packSource}
+use Rattle.rulebook.specs.Lists.{setPort, networkIn, asking, setNetwork}
 use Rattle.rulebook.specs.Arbitration.{arbitrate}
-use Rattle.rulebook.specs.Events.{eventKind, eventIndex, eventValue, tickKind, modeKind, requestKind, wakeupKind, validKind, busOffKind, clearKind, only, request, statusIn, setSource, moveSource, wake, validate, clear, shown, moved, moveNetwork, takes, offBus, busOff, tickedNetwork, tickNetwork, remainingIn, tickSource, tickTimer, tickThings, markedIn, arbitrateMarked, tick, happen}
-use Rattle.rulebook.specs.Step.{wellFormed}
+use Rattle.rulebook.specs.Events.{eventKind, eventIndex, eventValue, tickKind, modeKind, requestKind, wakeupKind, validKind, busOffKind, clearKind, only, request, statusIn, setSource, moveSource, wake, validate, clear, shown, moveNetwork, takes, offBus, busOff, tickedNetwork, tickNetwork, remainingIn, tickSource, tickThings, arbitrateMarked, tick, happen}
 use Rattle.laws.specs.Facts.{Facts}
-use Rattle.laws.proofs.Tests.{split, clash, and-left, and-right}
+use Rattle.laws.proofs.Tests.{split}
 use Rattle.laws.proofs.Walks.{each-keeps, each-at}
-use Rattle.laws.proofs.Fields.{digit-small, port-defined, port-value, source-status, source-remaining}
-use Rattle.laws.proofs.Fit.{NetworkOk, NetworkSmall, network-again, network-small, SourceOk, fits-length}
-use Rattle.laws.proofs.FitKept.{Fits, network-in, source-in}
-use Rattle.laws.proofs.FitEvents.{MayShow, may-show, things-fit, ticked-ok, off-bus-ok, shown-small, woken-ok, tick-network-fits, tick-source-fits, request-cases}
+use Rattle.laws.proofs.Fields.{digit-small, port-defined, port-value, source-status}
+use Rattle.laws.proofs.Fit.{NetworkOk, network-again, network-small, fits-length}
+use Rattle.laws.proofs.FitKept.{Fits, network-in}
+use Rattle.laws.proofs.FitEvents.{MayShow, things-fit, ticked-ok, off-bus-ok, shown-small, woken-ok, tick-network-fits, tick-source-fits, request-cases}
 use Rattle.laws.proofs.Happen.{Taken, kind-small, happen-cases, mode-index, mode-kind, mode-unheld, request-index, request-kind, bus-off-index, source-index}
 use Rattle.stranger.proofs.Holders.{Holder, network-holder, source-holder, Cells, cells-refl, cells-write, other-network, other-source, other-tick-network, other-tick-source, timers-keep}
-use Rattle.stranger.proofs.Arbitrated.{ShowsAs, port-still, source-still, Core, network-still}
+use Rattle.stranger.proofs.Arbitrated.{port-still, source-still, Core, network-still}
 
 -- A port that shows `old` comes to show `new`: written, and defined, exactly if the two differ.
 pub record PortMoves (p old new : ℕ) (s s′ : List ℕ) : Type 0 where

@@ -1,23 +1,20 @@
 -- The wakeup's theorem is not empty: on every accepted table a wakeup by its owner from fresh, T at least 1, room B, is answered 0
 -- and makes it pending. Assumes nothing.
-use mathlib.Core.Path.{_≡_, refl, sym, _∙_, ap}
-use mathlib.Core.Bool.{Bool, true, false, cond, _&&_, _||_, not}
+use mathlib.Core.Path.{_≡_, refl}
+use mathlib.Core.Bool.{true}
 use mathlib.Core.List.{List}
-use Prim.Native.Nat.{ℕ, _+_, _%_, _≤_, _<_}
+use Prim.Native.Nat.{ℕ, _≤_, _<_}
 use native.Mathlib.Omega.{arith}
-use native.Mathlib.Nat.{mod-eq-of-lt}
-use lib.Dec.{leb, ltb, eqb}
 use borrow.Author.Tests.{le-leb, lt-ltb, le-ltb, eq-eqb}
-use Rattle.rulebook.specs.Words.{word, field, digit}
+use Rattle.rulebook.specs.Words.{field, digit}
 use Rattle.rulebook.specs.Table.{sources, sourceOwner, timeout}
 use Rattle.rulebook.specs.Reasons.{accepted, bound}
-use Rattle.rulebook.specs.State.{aSource, sourceIndex, statusOf, ownerOf, fits, fresh}
-use Rattle.rulebook.specs.Events.{eventKind, eventOwner, eventIndex, eventValue, wakeupKind, statusIn}
+use Rattle.rulebook.specs.State.{ownerOf, fresh}
+use Rattle.rulebook.specs.Events.{eventKind, eventOwner, eventIndex, eventValue, wakeupKind}
 use Rattle.rulebook.specs.Step.{refusedState, refusedCall, wellFormed, named, present, suited, known, sentByOwner, refusedEvent, finish, handle, step}
 use Rattle.laws.proofs.Facts.{facts}
 use Rattle.laws.proofs.Fields.{digit-small}
 use Rattle.laws.proofs.Steps.{fresh-fits, happen-shallow}
-use Rattle.stranger.specs.Calls.{Call, called}
 use Rattle.stranger.specs.Demand.{becomesPending, wakeupWord}
 use Rattle.stranger.proofs.Shows.{fresh-source}
 

@@ -1,22 +1,20 @@
 -- Ports show: in every state of a run from fresh, the port of a network or source has as its value exactly the shown mode or the
 -- status, and is defined exactly if some earlier call changed it. Assumes nothing.
 use mathlib.Core.Path.{_≡_, refl, sym, _∙_, ap}
-use mathlib.Core.Bool.{Bool, true, false, cond, _&&_, _||_, not}
+use mathlib.Core.Bool.{Bool, true, false, cond}
 use mathlib.Core.List.{List, [], _∷_}
-use Prim.Native.Nat.{ℕ, zero, suc, _+_, _≤_, _<_}
+use Prim.Native.Nat.{ℕ, _<_}
 use native.Mathlib.Omega.{arith}
 use native.Mathlib.Nat.{zero-add}
 use lib.Dec.{eqb}
-use borrow.Author.Tests.{eqb-true, eq-eqb, ne-eqb}
 use Rattle.rulebook.specs.Words.{word, digit}
-use Rattle.rulebook.specs.Table.{ports, networks, sources, rules, portKind, kindMode, hasInitial, networkPort, sourcePort}
+use Rattle.rulebook.specs.Table.{networks, sources, networkPort, sourcePort}
 use Rattle.rulebook.specs.Reasons.{accepted}
 use Rattle.rulebook.specs.State.{networkIndex, sourceIndex, stateLength, definedOf, valueOf, networkOf, statusOf, packPort, freshPort, freshThing, freshAt, fresh}
 use Rattle.rulebook.specs.Lists.{networkIn}
-use Rattle.rulebook.specs.Events.{shown, statusIn, happen}
-use Rattle.rulebook.specs.Step.{Result, step}
-use Rattle.laws.specs.Facts.{Facts}
-use Rattle.laws.proofs.Tests.{split, clash}
+use Rattle.rulebook.specs.Events.{shown, happen}
+use Rattle.rulebook.specs.Step.{Result}
+use Rattle.laws.proofs.Tests.{split}
 use Rattle.laws.proofs.Walks.{listed-at}
 use Rattle.laws.proofs.Parts.{thing-port, thing-network, thing-source}
 use Rattle.laws.proofs.Facts.{facts}
@@ -26,7 +24,7 @@ use Rattle.laws.proofs.Happen.{Taken}
 use Rattle.laws.proofs.Steps.{Stepped, refused, done, stepped, step-fits, fresh-fits}
 use Rattle.stranger.specs.Calls.{Call, called, after}
 use Rattle.stranger.specs.Demand.{modeToShow, statusToShow, changes, PortShows}
-use Rattle.stranger.proofs.Moves.{PortMoves, port-stays, Moves, nextNetwork, network-moves, nextSource, source-moves, coreOf, shownBy, wordOf}
+use Rattle.stranger.proofs.Moves.{PortMoves, port-stays, nextNetwork, network-moves, source-moves}
 
 -- every state of a run fits
 pub after-fits : (t s : List ℕ) (cs : List Call) → accepted t ≡ true → Fits t s → Fits t (after t s cs)

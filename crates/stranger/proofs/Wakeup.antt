@@ -3,17 +3,17 @@
 use mathlib.Core.Path.{_≡_, refl, sym, _∙_, ap}
 use mathlib.Core.Bool.{Bool, true, false, cond, _&&_, _||_, not, and-false}
 use mathlib.Core.List.{List, [], _∷_, _++_}
-use Prim.Native.Nat.{ℕ, zero, suc, _+_, _-_, _≤_, _<_}
+use Prim.Native.Nat.{ℕ, suc, _+_, _-_, _≤_, _<_}
 use native.Mathlib.Omega.{arith}
 use native.Mathlib.Nat.{zero-add, add-zero, mod-eq-of-lt}
-use lib.Dec.{leb, ltb, eqb}
-use borrow.Author.Tests.{leb-true, le-leb, lt-leb, eqb-true, eqb-false, eq-eqb, ne-eqb, not-true}
+use lib.Dec.{eqb}
+use borrow.Author.Tests.{leb-true, le-leb, lt-leb, eqb-true, eq-eqb, ne-eqb, not-true}
 use Rattle.rulebook.specs.Words.{word}
-use Rattle.rulebook.specs.Table.{sources, sourcePort, sourceOwner, timeout}
+use Rattle.rulebook.specs.Table.{sources, sourceOwner, timeout}
 use Rattle.rulebook.specs.Reasons.{accepted}
-use Rattle.rulebook.specs.State.{Thing, aSource, sourceIndex, valueOf, remainingOf, statusOf, statusNone, statusPending, statusValidated, statusExpired, packSource, ownerOf, fresh}
+use Rattle.rulebook.specs.State.{sourceIndex, remainingOf, statusOf, statusNone, statusPending, statusExpired, packSource, ownerOf, fresh}
 use Rattle.rulebook.specs.Events.{eventKind, eventOwner, eventIndex, tickKind, modeKind, requestKind, wakeupKind, validKind, busOffKind, clearKind, statusIn, happen}
-use Rattle.rulebook.specs.Step.{Result, named}
+use Rattle.rulebook.specs.Step.{Result}
 use Rattle.laws.specs.Facts.{Facts}
 use Rattle.laws.proofs.Tests.{split, clash, part-of, and-left, and-right}
 use Rattle.laws.proofs.Fields.{digit-small, source-status, source-remaining}
@@ -22,8 +22,8 @@ use Rattle.laws.proofs.FitKept.{Fits}
 use Rattle.laws.proofs.Happen.{Taken, source-index, owner-is, named-source}
 use Rattle.laws.proofs.Steps.{Stepped, refused, done, stepped, step-fits, fresh-fits}
 use Rattle.stranger.specs.Calls.{Call, called, after}
-use Rattle.stranger.specs.Demand.{answered, ticks, tickCount, showsStatus, becomesPending, ended, notEnded, Waiting, statusToShow, PortShows}
-use Rattle.stranger.proofs.Moves.{Moves, nextSource, tickedSource, wokenSource, validSource, source-moves}
+use Rattle.stranger.specs.Demand.{answered, ticks, tickCount, becomesPending, ended, notEnded, Waiting, statusToShow}
+use Rattle.stranger.proofs.Moves.{nextSource, tickedSource, wokenSource, source-moves}
 use Rattle.stranger.proofs.Shows.{after-fits, source-shows}
 use Rattle.stranger.proofs.Countdown.{after-more, done-call}
 

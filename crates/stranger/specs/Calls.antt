@@ -1,9 +1,8 @@
 -- Calls and runs: each call is an event word and the trace room lent for it; each state is passed on.
-use mathlib.Core.Bool.{Bool, true, false, not}
+use mathlib.Core.Bool.{Bool, true, false}
 use mathlib.Core.List.{List, [], _∷_}
 use Prim.Native.Nat.{ℕ}
 use Rattle.rulebook.specs.Table.{stranger}
-use Rattle.rulebook.specs.State.{fresh}
 use Rattle.rulebook.specs.Events.{eventOwner}
 use Rattle.rulebook.specs.Step.{Result, step}
 

@@ -1,8 +1,8 @@
 -- DEMAND 3, as statements over the rulebook's steps: from fresh, each state passed on, any calls. Each is proved of every accepted
 -- table (proofs/Demand3).
 use mathlib.Core.Path.{_≡_}
-use mathlib.Core.Bool.{Bool, true, false}
-use mathlib.Core.List.{List, [], _∷_}
+use mathlib.Core.Bool.{true, false}
+use mathlib.Core.List.{List}
 use Prim.Native.Nat.{ℕ, suc, _≤_, _<_}
 use Rattle.rulebook.specs.Table.{networks, networkPort, networkOwner, sources, sourcePort, sourceOwner, timeout}
 use Rattle.rulebook.specs.Reasons.{bound}

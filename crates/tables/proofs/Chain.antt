@@ -1,18 +1,18 @@
 -- The check as a chain: what is left of it once the rules before a reason are kept, and what it gives where one is broken.
 -- Assumes nothing.
 use Prim.Native.Nat.{ℕ, _<_, _≤_, min}
-use mathlib.Core.Path.{_≡_, refl, sym, ap, _∙_}
+use mathlib.Core.Path.{_≡_, refl}
 use mathlib.Core.Bool.{Bool, true, false, false≢true, _&&_}
 use mathlib.Core.List.{List}
 use native.Mathlib.Omega.{arith}
-use lib.Dec.{leb, eqb, ltb}
+use lib.Dec.{leb, eqb}
 use lib.ListN.{length}
 use borrow.Author.Tests.{lt-ltb, le-ltb, lt-leb, le-leb, leb-true}
 use Rattle.rulebook.specs.Words.{between}
 use Rattle.rulebook.specs.Table.{Part, ports, networks, sources, expressions, rules, lists, items}
 use Rattle.rulebook.specs.Reasons.{hasHeader, knownEdition, countsInside, exactLength, ownFields, names, nesting, owners, affordable, bound}
 use Rattle.rulebook.specs.Reasons.{Verdict, verdict, lowest, wholly, wordwise, check}
-use Rattle.tables.specs.Told.{Told, refused, promised}
+use Rattle.tables.specs.Told.{refused, promised}
 
 -- from each reason on
 

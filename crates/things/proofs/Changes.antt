@@ -1,7 +1,7 @@
 -- Of an event that is no tick and no request, `changed` is all that happens: it leaves no trace. Assumes nothing.
 use Prim.Native.Nat.{ℕ}
 use mathlib.Core.Path.{_≡_}
-use mathlib.Core.Bool.{Bool, false}
+use mathlib.Core.Bool.{false}
 use mathlib.Core.List.{List}
 use lib.Dec.{eqb}
 use Rattle.rulebook.specs.Lists.{start}

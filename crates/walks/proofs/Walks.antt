@@ -1,9 +1,8 @@
 -- Laws of the rulebook's walks, in the form of a loop that counts i up to e. Assumes nothing.
 use Prim.Native.Nat.{ℕ, zero, suc, _+_, _-_, _<_, _≤_}
-use mathlib.Core.Path.{_≡_, refl, sym, ap, ap₂, fun-ext, _∙_}
+use mathlib.Core.Path.{_≡_, refl, sym, ap, ap₂, _∙_}
 use native.Mathlib.Nat.{zero-add, add-zero, suc-add}
 use mathlib.Core.Bool.{Bool, true, false}
-use mathlib.Core.List.{List}
 use native.Mathlib.Numerals.{add-one}
 use native.Mathlib.Omega.{arith}
 use lib.ListN.{length, getD}
@@ -135,12 +134,3 @@ getD-listed i (suc n) f zero h = ap f (omega arith)
 getD-listed i (suc n) f (suc k) h =
     let q : suc i + k ≡ i + suc k = omega arith in
     rw (getD-listed (suc i) n f k (omega arith)) (ap f q)
-
--- Walks of two functions that agree everywhere are the same walk.
-
-module _ (i n : ℕ) where
-  pub same-all : (p q : ℕ → Bool) → ((k : ℕ) → p k ≡ q k) → all i n p ≡ all i n q
-  same-all p q h = ap (all i n) (fun-ext h)
-
-  pub same-sum : (f g : ℕ → ℕ) → ((k : ℕ) → f k ≡ g k) → sum i n f ≡ sum i n g
-  same-sum f g h = ap (sum i n) (fun-ext h)

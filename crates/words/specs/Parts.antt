@@ -1,5 +1,4 @@
 -- The code's parts as the rulebook's.
-use Prim.Native.Nat.{ℕ}
 use Rattle.rulebook.specs.Table as table
 use Rattle.words.specs.declared.parts.Part.{Part}
 use Rattle.words.specs.declared.parts.Part.the-variants.{Header, Port, Network, Waits, Source, Expression, Rule, List, Item}
