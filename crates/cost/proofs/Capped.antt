@@ -1,22 +1,24 @@
--- Costs held at 4,097: holding what is below changes nothing of what is held above. Assumes nothing.
+-- Costs held at 4,097: holding what is below changes nothing of what is held above; and the rounds that find them. Assumes nothing.
 use Prim.Native.Nat.{ℕ, zero, suc, _+_, _-_, _<_, _≤_, max}
 use mathlib.Core.Path.{_≡_, refl, sym, ap, _∙_}
-use mathlib.Core.Bool.{cond}
+use mathlib.Core.Bool.{Bool, true, false, cond, _&&_, _||_}
 use mathlib.Core.List.{List}
 use native.Mathlib.Nat.{zero-add, add-zero, add-suc, sub-zero}
 use native.Mathlib.Numerals.{add-one}
 use native.Mathlib.Omega.{arith}
-use lib.Dec.{ltb, eqb}
-use lib.ListN.{length, getD, replicate, List·getD-eq-default}
-use borrow.Author.Tests.{lt-ltb, le-ltb, ltb-true, ltb-false, eq-eqb, ne-eqb}
-use Rattle.rulebook.specs.Words.{field, sum}
-use Rattle.rulebook.specs.Table.{lists, itemWord, listWord, itemKind, itemA, trueList, falseList, noList}
-use Rattle.rulebook.specs.Reasons.{ruleCost, itemCost, listCost, costWithin, bound}
+use lib.Dec.{ltb, leb, eqb}
+use lib.ListN.{length, set, length-set, replicate}
+use borrow.Author.Tests.{lt-ltb, le-ltb, ltb-true, ltb-false, eq-eqb, ne-eqb, eqb-false, leb-true}
+use Rattle.rulebook.specs.Words.{field, sum, all, word}
+use Rattle.rulebook.specs.Table.{lists, itemWord, listWord, itemKind, itemA, trueList, falseList, noList, firstItem, itemCount}
+use Rattle.rulebook.specs.Reasons.{ruleNests, itemNests, listNests, listWithin, ruleCost, itemCost, listCost, costWithin, bound}
 use Rattle.words.specs.declared.sections.Layout.{Layout}
 use Rattle.words.specs.Sections.{Laid}
-use Rattle.words.proofs.Fill.{zero-word}
-use Rattle.walks.proofs.Walks.{split, sum-turn, sum-end}
-use Rattle.cost.specs.Costs.{capped, costIn, Costs, CostRound}
+use Rattle.walks.proofs.Walks.{sum-turn, sum-end}
+use Rattle.laws.proofs.Tests.{split, clash, and-left, and-right, or-elim}
+use Rattle.nesting.specs.Depths.{foundBy, Depths}
+use Rattle.nesting.proofs.Levels.{within-more, within-absent, found-yes, set-all}
+use Rattle.cost.specs.Costs.{capped, costIn, nextCost, Costs, Nested}
 
 -- numbers that are equal once held, and what is made of them
 
@@ -103,47 +105,122 @@ module _ (t : List ℕ) (h : Layout) (laid : Laid t h) (below : ℕ → ℕ) (l 
   unfolding listCost
   list-costs w f n b hw hf hn = rw (lt-ltb l (lists t) (omega arith), hf, hn, hw)
 
--- The rounds.
+-- A list's cost goes by the costs of the lists it names alone.
 
-pub round-says : (t : List ℕ) (h : Layout) → Laid t h → h .lists ≤ 256 → (below costs : List ℕ) → length costs ≡ 256
-    → ((k : ℕ) → k < 256 → getD costs k 0 ≡ capped (listCost t (costIn below) k)) → CostRound t below costs
-round-says t h laid few below costs long inside =
+module _ (t : List ℕ) (p : ℕ → Bool) (f g : ℕ → ℕ) (same : (n : ℕ) → p n ≡ true → f n ≡ g n) where
+  chosen-same : (l : ℕ) → (eqb l noList || p l) ≡ true → cond (eqb l noList) 0 (f l) ≡ cond (eqb l noList) 0 (g l)
+  chosen-same l h = split (eqb l noList) (λ y. rw y) (λ y. rw y (same l (or-elim (eqb l noList) (p l) h y)))
+
+  rule-same : (r : ℕ) → ruleNests t p r ≡ true → ruleCost t f r ≡ ruleCost t g r
+  unfolding ruleNests ruleCost
+  rule-same r h =
+      let on-true = and-left (eqb (trueList t r) noList || p (trueList t r)) (eqb (falseList t r) noList || p (falseList t r)) h in
+      let on-false = and-right (eqb (trueList t r) noList || p (trueList t r)) (eqb (falseList t r) noList || p (falseList t r)) h in
+      rw (chosen-same (trueList t r) on-true, chosen-same (falseList t r) on-false)
+
+  item-same : (i : ℕ) → itemNests t p i ≡ true → itemCost t f i ≡ itemCost t g i
+  unfolding itemNests itemCost
+  item-same i h =
+      split (eqb (itemKind t i) 5) (λ y. rw (y, itemCost) (same (itemA t i) (rw (y, itemNests) at h)))
+      (λ y.
+      split (eqb (itemKind t i) 6) (λ z. rw (y, z, itemCost) (rule-same (itemA t i) (rw (y, z, itemNests) at h)))
+      (λ z. rw (y, z, itemCost)))
+
+  items-same : (i n : ℕ) → all i n (itemNests t p) ≡ true → sum i n (itemCost t f) ≡ sum i n (itemCost t g)
+  unfolding all sum
+  items-same i zero h = refl
+  items-same i (suc n) h =
+      rw (
+        item-same i (and-left (itemNests t p i) (all (suc i) n (itemNests t p)) h),
+        items-same (suc i) n (and-right (itemNests t p i) (all (suc i) n (itemNests t p)) h),
+      )
+
+  list-same : (l : ℕ) → listNests t p l ≡ true → listCost t f l ≡ listCost t g l
+  unfolding listNests listCost
+  list-same l h = rw (items-same (firstItem t l) (itemCount t l) (and-right (ltb l (lists t)) (all (firstItem t l) (itemCount t l) (itemNests t p)) h))
+
+-- A list's cost is found once the levels reach its depth.
+
+cost-settled : (t : List ℕ) (d l : ℕ) → listWithin d t l ≡ true → costWithin (suc d) t l ≡ costWithin d t l
+unfolding listWithin costWithin
+cost-settled t zero l h = clash h refl
+cost-settled t (suc d) l h = list-same t (listWithin d t) (costWithin (suc d) t) (costWithin d t) (cost-settled t d) l h
+
+within-up : (t : List ℕ) (d k l : ℕ) → listWithin d t l ≡ true → listWithin (d + k) t l ≡ true
+within-up t d zero l h = rw add-zero h
+within-up t d (suc k) l h = rw add-suc (within-more t (d + k) l (within-up t d k l h))
+
+-- The round of depth d + 1, once the lists before l are passed.
+
+pub record Priced (d l : ℕ) (t costs : List ℕ) : Type 0 where
+  pub long : length costs ≡ 256
+  pub old : (k : ℕ) → listWithin d t k ≡ true → word costs k ≡ capped (costWithin 7 t k)
+  pub new : (k : ℕ) → k < l → listWithin (d + 1) t k ≡ true → word costs k ≡ capped (costWithin 7 t k)
+
+pub round-starts : (d : ℕ) (t costs : List ℕ) → Costs d t costs → Priced d 0 t costs
+round-starts d t costs a = record { long = a .long; old = a .says; new = λ k h. absurd (omega arith) }
+
+heldBelow : List ℕ → ℕ → ℕ
+heldBelow t n = capped (costWithin 6 t n)
+
+module _ (d l : ℕ) (t depths costs : List ℕ) (few : d < 7) (found : Depths 7 t depths) (a : Priced d l t costs) where
+  held-there : (n : ℕ) → listWithin d t n ≡ true → costIn costs n ≡ heldBelow t n
+  unfolding costIn heldBelow
+  held-there n h =
+      let six : d + (6 - d) ≡ 6 = omega arith in
+      rw (a .old n h, cost-settled t 6 n (rw six at (within-up t d (6 - d) n h))) (held-twice (costWithin 6 t n))
+
+  -- a list of depth d + 1
+  cost-found : listWithin (d + 1) t l ≡ true → capped (listCost t (costIn costs) l) ≡ capped (costWithin 7 t l)
+  unfolding listWithin costWithin heldBelow
+  cost-found h =
+      rw (list-same t (listWithin d t) (costIn costs) (heldBelow t) held-there l (rw add-one at h))
+      (list-held t (heldBelow t) (costWithin 6 t) (λ k. held-twice (costWithin 6 t k)) l)
+
+  next-cost : listWithin (d + 1) t l ≡ true → nextCost t depths costs d l ≡ capped (costWithin 7 t l)
+  unfolding nextCost foundBy
+  next-cost h =
+      split (eqb (word depths l) (d + 1)) (λ y. rw y (cost-found h))
+      (λ y.
+      let isnt = eqb-false (word depths l) (d + 1) y in
+      let here : (leb 1 (word depths l) && leb (word depths l) (d + 1)) ≡ true = found .says (d + 1) l (omega arith) ∙ h in
+      let some = leb-true 1 (word depths l) (and-left _ (leb (word depths l) (d + 1)) here) in
+      let most = leb-true (word depths l) (d + 1) (and-right (leb 1 (word depths l)) _ here) in
+      let before : listWithin d t l ≡ true = sym (found .says d l (omega arith)) ∙ found-yes d (word depths l) some (omega arith) in
+      rw y (a .old l before))
+
+  pub round-turn : (v : ℕ) → l < 256 → v ≡ nextCost t depths costs d l → Priced d (l + 1) t (set costs l v)
+  round-turn v inside is =
+      let room : l < length costs = rw (a .long) inside in
+      record {
+        long = simp length-set (a .long);
+        old = set-all (λ k w. listWithin d t k ≡ true → w ≡ capped (costWithin 7 t k)) costs l v room (λ h. is ∙ next-cost (rw add-one (within-more t d l h))) (λ k _ h. a .old k h);
+        new =
+            set-all (λ k w. k < l + 1 → listWithin (d + 1) t k ≡ true → w ≡ capped (costWithin 7 t k)) costs l v room (λ _ h. is ∙ next-cost h)
+            (λ k isnt b h. a .new k (omega arith) h);
+      }
+
+pub round-ends : (d l : ℕ) (t costs : List ℕ) → lists t ≤ l → Priced d l t costs → Costs (d + 1) t costs
+round-ends d l t costs all a =
     record {
-      long = long;
-      says =
-          λ l.
-          split (ltb l 256) (λ y. inside l (ltb-true l 256 y))
-          (λ y.
-          let past : 256 ≤ l = ltb-false l 256 y in
-          List·getD-eq-default costs 0 (omega arith) ∙ ap capped (absent-free t h laid (costIn below) l (omega arith)));
+      long = a .long;
+      says = λ k h. split (ltb k l) (λ y. a .new k (ltb-true k l y) h) (λ y. let past = ltb-false k l y in clash h (within-absent t (d + 1) k (omega arith)));
     }
 
-pub first-level : (t : List ℕ) → Costs 0 t (replicate 256 0)
-unfolding costWithin costIn
-first-level t = record { long = refl; says = λ l. ap capped (zero-word 256 l) }
+pub no-round : (t : List ℕ) → Costs 0 t (replicate 256 0)
+unfolding listWithin
+no-round t = record { long = refl; says = λ l h. clash h refl }
 
-pub next-level : (d : ℕ) (t below costs : List ℕ) → Costs d t below → CostRound t below costs → Costs (d + 1) t costs
-unfolding costWithin costIn
-next-level d t below costs old new =
-    record {
-      long = new .long;
-      says =
-          λ l.
-          rw add-one
-          (ap capped (new .says l)
-          ∙ held-twice (listCost t (costIn below) l)
-          ∙ list-held t (costIn below) (costWithin d t) (λ k. ap capped (old .says k) ∙ held-twice (costWithin d t k)) l);
-    }
+-- The word of a list after a round, as the code finds it.
 
--- a round that changes nothing: the levels above are all the same
-pub settled : (d : ℕ) (t costs : List ℕ) → Costs d t costs → CostRound t costs costs → (k : ℕ) → Costs (d + k) t costs
-settled d t costs old new zero = rw add-zero old
-settled d t costs old new (suc k) = rw (add-suc, ← add-one) (next-level (d + k) t costs costs (settled d t costs old new k) new)
+module _ (t depths costs : List ℕ) (d l w : ℕ) (is : w ≡ word depths l) where
+  pub cost-new : (r : ℕ) → w ≡ d + 1 → r ≡ capped (listCost t (costIn costs) l) → r ≡ nextCost t depths costs d l
+  unfolding nextCost
+  cost-new r e h = h ∙ sym (rw (eq-eqb (word depths l) (d + 1) (sym is ∙ e)))
 
-pub last-round : (d : ℕ) (t costs next : List ℕ) → d ≤ 7 → Costs d t costs → CostRound t costs next → next ≡ costs → Costs 7 t next
-last-round d t costs next few old new same =
-    let seven : d + (7 - d) ≡ 7 = omega arith in
-    rw same (rw seven at (settled d t costs old (rw same at new) (7 - d)))
+  pub cost-kept : (r : ℕ) → (w ≡ d + 1 → ⊥) → r ≡ word costs l → r ≡ nextCost t depths costs d l
+  unfolding nextCost
+  cost-kept r e h = h ∙ sym (rw (ne-eqb (word depths l) (d + 1) (rw is at e)))
 
 -- B, where the loop begins
 pub bound-start : (t : List ℕ) (h : Layout) → Laid t h → capped (bound t) ≡ capped (0 + sum 0 (h .lists - 0) (costWithin 7 t))
@@ -151,5 +228,7 @@ unfolding bound
 bound-start t h laid = rw (laid .lists .value, sub-zero, zero-add)
 
 -- the cost of a list, as the array has it
-pub cost-is : (t costs : List ℕ) → Costs 7 t costs → (l x : ℕ) → x ≡ costIn costs l → capped x ≡ capped (costWithin 7 t l)
-cost-is t costs right l x h = ap capped (h ∙ right .says l) ∙ held-twice (costWithin 7 t l)
+pub cost-is : (t costs : List ℕ) → Costs 7 t costs → Nested t → (l x : ℕ) → l < lists t → x ≡ costIn costs l → capped x ≡ capped (costWithin 7 t l)
+unfolding costIn
+cost-is t costs right nested l x b h =
+    ap capped (h ∙ ap capped (right .says l (nested l b))) ∙ held-twice (capped (costWithin 7 t l)) ∙ held-twice (costWithin 7 t l)

@@ -1,10 +1,14 @@
--- A level of all lists at once, as costs in an array of 256 words, each held at 4,097, one above the limit.
-use Prim.Native.Nat.{ℕ, min}
+-- The costs of lists, as they are found by rising depth: a word for each list, held at 4,097, one above the limit.
+use Prim.Native.Nat.{ℕ, _+_, _<_, min}
 use mathlib.Core.Path.{_≡_}
+use mathlib.Core.Bool.{true, cond}
 use mathlib.Core.List.{List}
+use lib.Dec.{eqb}
 use lib.ListN.{length}
 use Rattle.rulebook.specs.Words.{word}
-use Rattle.rulebook.specs.Reasons.{listCost, costWithin}
+use Rattle.rulebook.specs.Table.{lists}
+use Rattle.rulebook.specs.Expressions.{deepest}
+use Rattle.rulebook.specs.Reasons.{listWithin, listCost, costWithin}
 
 abbrev pub capped : ℕ → ℕ
 capped n = min 4097 n
@@ -13,12 +17,15 @@ capped n = min 4097 n
 unfoldable pub costIn : List ℕ → ℕ → ℕ
 costIn costs l = capped (word costs l)
 
--- the costs of lists down to d levels
+-- the word of list l after the round of depth d + 1
+unfoldable pub nextCost : List ℕ → List ℕ → List ℕ → ℕ → ℕ → ℕ
+nextCost t depths costs d l = cond (eqb (word depths l) (d + 1)) (capped (listCost t (costIn costs) l)) (word costs l)
+
+-- the words of the lists that are at most d deep are their costs
 pub record Costs (d : ℕ) (t costs : List ℕ) : Type 0 where
   pub long : length costs ≡ 256
-  pub says : (l : ℕ) → costIn costs l ≡ capped (costWithin d t l)
+  pub says : (l : ℕ) → listWithin d t l ≡ true → word costs l ≡ capped (costWithin deepest t l)
 
--- .. by the costs below
-pub record CostRound (t below costs : List ℕ) : Type 0 where
-  pub long : length costs ≡ 256
-  pub says : (l : ℕ) → word costs l ≡ capped (listCost t (costIn below) l)
+-- every list keeps rule 7
+abbrev pub Nested : List ℕ → Type 0
+Nested t = (l : ℕ) → l < lists t → listWithin deepest t l ≡ true

@@ -1,15 +1,17 @@
-// Rule 9: what lists cost, found level by level in a local array and not by walking every path. No number grows past 4,098.
+// Rule 9: what lists cost, found by rising depth in a local array, each list once, and not by walking every path. No number grows past
+// 4,098.
 ghost use mathlib.Core.Bool.{cond};
 ghost use mathlib.Core.Path.{_≡_};
-ghost use Prim.Native.Nat.{_≤_, max};
+ghost use Prim.Native.Nat.{_+_, _<_, _≤_, max};
 ghost use lib.Dec.{eqb};
 ghost use Rattle.rulebook.specs.Table.{noList};
 ghost use Rattle.rulebook.specs.Expressions.{deepest};
 ghost use Rattle.rulebook.specs.Reasons.{ruleCost, itemCost, listCost, bound as boundOf};
 ghost use Rattle.words.specs.Field.{Field};
 ghost use Rattle.words.specs.Sections.{Laid};
-ghost use Rattle.cost.specs.Costs.{capped, costIn, CostRound, Costs};
-use words::same;
+ghost use Rattle.nesting.specs.Depths.{Depths};
+ghost use Rattle.cost.specs.Costs.{capped, costIn, nextCost, Costs, Nested};
+use words::put;
 use words::sections;
 use words::sections::Layout;
 use words::table;
@@ -91,46 +93,53 @@ fn list_cost(t: &[u32], h: Layout, below: &[u32], l: u32) -> u32
     total
 }
 
-// One level more: the costs of the lists by the costs below.
-fn cost_round(t: &[u32], h: Layout, below: &[u32]) -> [u32; 256]
-    requires { ⌜ Laid (now t) h × (h .lists ≤ 256) ⌝ }
-    ensures { λ r. ⌜ CostRound (now (t .entry)) (now (below .entry)) r ⌝ }
+// List l's word after the round of depth d + 1, which finds the costs of the lists of that depth by those of lesser depth.
+fn next_cost(t: &[u32], h: Layout, depths: &[u32], costs: &[u32], d: u32, l: u32) -> u32
+    requires { ⌜ Laid (now t) h × (d < 7) ⌝ }
+    ensures { λ r. ⌜ r ≡ nextCost (now (t .entry)) (now (depths .entry)) (now (costs .entry)) d l ⌝ }
 {
-    let mut costs = [0u32; 256];
-    let mut l: u32 = 0;
-    while l < 256 {
-        let cost = list_cost(t, h, below, l);
-        costs[l as usize] = cost;
-        l += 1;
+    let depth = word(depths, l as usize);
+    if depth == d + 1 {
+        return list_cost(t, h, costs, l);
     }
-    costs
+    word(costs, l as usize)
 }
 
-// The costs of the lists down to seven levels. A round that changes nothing is the last.
-fn list_costs(t: &[u32], h: Layout) -> [u32; 256]
-    requires { ⌜ Laid (now t) h × (h .lists ≤ 256) ⌝ }
+// The round of depth d + 1.
+fn cost_level(t: &[u32], h: Layout, depths: &[u32], costs: &mut [u32], d: u32)
+    requires { ⌜ Laid (now t) h × (h .lists ≤ 256) × (d < 7) × Depths deepest (now t) (now depths) × Costs d (now t) (now costs) ⌝ }
+    ensures { λ _. ⌜ Costs (d + 1) (now (t .entry)) (now (costs .exit)) ⌝ }
+{
+    let lists = h.lists;
+    let mut l: u32 = 0;
+    while l < lists {
+        let cost = next_cost(t, h, depths, costs, d, l);
+        put(costs, l as usize, cost);
+        l += 1;
+    }
+}
+
+// The costs of the lists that are at most seven deep.
+fn list_costs(t: &[u32], h: Layout, depths: &[u32]) -> [u32; 256]
+    requires { ⌜ Laid (now t) h × (h .lists ≤ 256) × Depths deepest (now t) (now depths) ⌝ }
     ensures { λ r. ⌜ Costs deepest (now (t .entry)) r ⌝ }
 {
     let mut costs = [0u32; 256];
     let mut d: u32 = 0;
     while d < 7 {
-        let next = cost_round(t, h, &costs);
-        if same(&next, &costs) {
-            return next;
-        }
-        costs = next;
+        cost_level(t, h, depths, &mut costs, d);
         d += 1;
     }
     costs
 }
 
-// B, held at 4,097.
-pub fn bound(t: &[u32], h: Layout) -> u32
-    requires { ⌜ Laid (now t) h × (h .lists ≤ 256) ⌝ }
+// B of a table whose lists keep rule 7, held at 4,097.
+pub fn bound(t: &[u32], h: Layout, depths: &[u32]) -> u32
+    requires { ⌜ Laid (now t) h × (h .lists ≤ 256) × Depths deepest (now t) (now depths) × Nested (now t) ⌝ }
     ensures { λ r. ⌜ r ≡ capped (boundOf (now (t .entry))) ⌝ }
 {
     let lists = h.lists;
-    let costs = list_costs(t, h);
+    let costs = list_costs(t, h, depths);
     let mut total: u32 = 0;
     let mut l: u32 = 0;
     while l < lists {

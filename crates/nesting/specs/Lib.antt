@@ -1,2 +1,2 @@
 -- What the contracts of rule 7 cite beside the rulebook.
-pub mod Rounds
+pub mod Depths

@@ -1,57 +1,64 @@
-// Rule 7: how deep expressions and lists nest. Lists are found level by level in a local array and not by walking every path.
+// Rule 7: how deep expressions and lists nest. The depths of lists are found level by level in an array and not by walking every path:
+// round d + 1 finds the lists that name only lists found before it, and passes over those.
 ghost use mathlib.Core.Path.{_≡_};
-ghost use Prim.Native.Nat.{_≤_};
+ghost use Prim.Native.Nat.{_<_, _≤_};
 ghost use lib.ListN.{length};
 ghost use Rattle.rulebook.specs.Expressions.{deepest};
 ghost use Rattle.rulebook.specs.Reasons.{ruleNests, itemNests, listNests, nesting, lowest};
-ghost use Rattle.words.specs.Flags.{flagged};
 ghost use Rattle.words.specs.Parts.{partOf};
 ghost use Rattle.words.specs.Sections.{Laid};
-ghost use Rattle.nesting.specs.Rounds.{Nesting, Round};
+ghost use Rattle.nesting.specs.Depths.{foundBy, nextDepth, Depths, Level};
 use expression::within;
-use words::flag;
 use words::parts::Part;
 use words::parts::part_at;
-use words::raised;
-use words::same;
+use words::put;
 use words::sections;
 use words::sections::Layout;
 use words::table;
+use words::word;
 
-// Whether the lists that rule r starts are among those below.
-fn rule_nests(t: &[u32], h: Layout, below: &[u32], r: u32) -> bool
+// Whether list l was found in the first d rounds.
+fn found(depths: &[u32], d: u32, l: u32) -> bool
+    ensures { λ r. ⌜ r ≡ foundBy (now (depths .entry)) d l ⌝ }
+{
+    let depth = word(depths, l as usize);
+    (1 <= depth) & (depth <= d)
+}
+
+// Whether the lists that rule r starts were found.
+fn rule_nests(t: &[u32], h: Layout, depths: &[u32], d: u32, r: u32) -> bool
     requires { ⌜ Laid (now t) h ⌝ }
-    ensures { λ b. ⌜ b ≡ ruleNests (now (t .entry)) (flagged (now (below .entry))) r ⌝ }
+    ensures { λ b. ⌜ b ≡ ruleNests (now (t .entry)) (foundBy (now (depths .entry)) d) r ⌝ }
 {
     let w = sections::rule_word(t, h, r);
     let true_list = table::true_list(w);
     let false_list = table::false_list(w);
-    let true_below = flag(below, true_list);
-    let false_below = flag(below, false_list);
-    ((true_list == 255) | true_below) & ((false_list == 255) | false_below)
+    let true_found = found(depths, d, true_list);
+    let false_found = found(depths, d, false_list);
+    ((true_list == 255) | true_found) & ((false_list == 255) | false_found)
 }
 
-// Whether the lists that item i names are among those below.
-fn item_nests(t: &[u32], h: Layout, below: &[u32], i: u32) -> bool
+// Whether the lists that item i names were found.
+fn item_nests(t: &[u32], h: Layout, depths: &[u32], d: u32, i: u32) -> bool
     requires { ⌜ Laid (now t) h ⌝ }
-    ensures { λ r. ⌜ r ≡ itemNests (now (t .entry)) (flagged (now (below .entry))) i ⌝ }
+    ensures { λ r. ⌜ r ≡ itemNests (now (t .entry)) (foundBy (now (depths .entry)) d) i ⌝ }
 {
     let w = sections::item_word(t, h, i);
     let kind = table::item_kind(w);
     let a = table::item_a(w);
     if kind == 5 {
-        return flag(below, a);
+        return found(depths, d, a);
     }
     if kind == 6 {
-        return rule_nests(t, h, below, a);
+        return rule_nests(t, h, depths, d, a);
     }
     true
 }
 
-// Whether list l is there and names only lists below.
-fn list_nests(t: &[u32], h: Layout, below: &[u32], l: u32) -> bool
+// Whether list l is there and names only lists that were found.
+fn list_nests(t: &[u32], h: Layout, depths: &[u32], d: u32, l: u32) -> bool
     requires { ⌜ Laid (now t) h ⌝ }
-    ensures { λ r. ⌜ r ≡ listNests (now (t .entry)) (flagged (now (below .entry))) l ⌝ }
+    ensures { λ r. ⌜ r ≡ listNests (now (t .entry)) (foundBy (now (depths .entry)) d) l ⌝ }
 {
     let lists = h.lists;
     if lists <= l {
@@ -63,7 +70,7 @@ fn list_nests(t: &[u32], h: Layout, below: &[u32], l: u32) -> bool
     let end = first + count;
     let mut i = first;
     while i < end {
-        if !item_nests(t, h, below, i) {
+        if !item_nests(t, h, depths, d, i) {
             return false;
         }
         i += 1;
@@ -71,42 +78,57 @@ fn list_nests(t: &[u32], h: Layout, below: &[u32], l: u32) -> bool
     true
 }
 
-// One level more: flags of the lists that name only lists below.
-fn nest_round(t: &[u32], h: Layout, below: &[u32]) -> [u32; 256]
-    requires { ⌜ Laid (now t) h × (h .lists ≤ 256) ⌝ }
-    ensures { λ r. ⌜ Round (now (t .entry)) (now (below .entry)) r ⌝ }
+// List l's word after round d + 1. A list that was found before is not looked at again.
+fn next_depth(t: &[u32], h: Layout, depths: &[u32], d: u32, l: u32) -> u32
+    requires { ⌜ Laid (now t) h × (d < 7) ⌝ }
+    ensures { λ r. ⌜ r ≡ nextDepth (now (t .entry)) (now (depths .entry)) d l ⌝ }
 {
-    let mut flags = [0u32; 256];
+    let depth = word(depths, l as usize);
+    if depth != 0 {
+        return depth;
+    }
+    if list_nests(t, h, depths, d, l) {
+        return d + 1;
+    }
+    0
+}
+
+// Round d + 1. Tells whether it found a list.
+fn find_level(t: &[u32], h: Layout, depths: &mut [u32], d: u32) -> bool
+    requires { ⌜ Laid (now t) h × (h .lists ≤ 256) × (d < 7) × Depths d (now t) (now depths) ⌝ }
+    ensures { λ r. ⌜ Level d (now (t .entry)) r (now (depths .exit)) ⌝ }
+{
+    let lists = h.lists;
+    let mut more = false;
     let mut l: u32 = 0;
-    while l < 256 {
-        let up = raised(list_nests(t, h, below, l));
-        flags[l as usize] = up;
+    while l < lists {
+        let depth = next_depth(t, h, depths, d, l);
+        put(depths, l as usize, depth);
+        more = more | (depth == d + 1);
         l += 1;
     }
-    flags
+    more
 }
 
-// Flags of the lists that are at most seven deep. A round that changes nothing is the last.
-fn nested_lists(t: &[u32], h: Layout) -> [u32; 256]
+// The depth of each list that is at most seven deep, 0 for any other. A round that finds none is the last.
+pub fn list_depths(t: &[u32], h: Layout) -> [u32; 256]
     requires { ⌜ Laid (now t) h × (h .lists ≤ 256) ⌝ }
-    ensures { λ r. ⌜ Nesting deepest (now (t .entry)) r ⌝ }
+    ensures { λ r. ⌜ Depths deepest (now (t .entry)) r ⌝ }
 {
-    let mut flags = [0u32; 256];
+    let mut depths = [0u32; 256];
     let mut d: u32 = 0;
     while d < 7 {
-        let next = nest_round(t, h, &flags);
-        if same(&next, &flags) {
-            return next;
+        if !find_level(t, h, &mut depths, d) {
+            return depths;
         }
-        flags = next;
         d += 1;
     }
-    flags
+    depths
 }
 
-// Whether a word keeps rule 7, by the flags of the lists that are at most seven deep.
-fn nests(t: &[u32], h: Layout, flags: &[u32], part: Part) -> bool
-    requires { ⌜ Laid (now t) h × Nesting deepest (now t) (now flags) ⌝ }
+// Whether a word keeps rule 7, by the depths of the lists that are at most seven deep.
+fn nests(t: &[u32], h: Layout, depths: &[u32], part: Part) -> bool
+    requires { ⌜ Laid (now t) h × Depths deepest (now t) (now depths) ⌝ }
     ensures { λ r. ⌜ r ≡ nesting (now (t .entry)) (partOf part) ⌝ }
 {
     match part {
@@ -117,25 +139,24 @@ fn nests(t: &[u32], h: Layout, flags: &[u32], part: Part) -> bool
         Part::Source(_) => true,
         Part::Expression(e) => within(t, h, e, 7),
         Part::Rule(_) => true,
-        Part::List(l) => flag(flags, l),
+        Part::List(l) => found(depths, 7, l),
         Part::Item(_) => true,
     }
 }
 
 // The place of the first word that breaks rule 7; the length where none does.
-pub fn first_deep(t: &[u32], h: Layout) -> usize
-    requires { ⌜ Laid (now t) h × (length (now t) ≡ h .length) × (h .lists ≤ 256) ⌝ }
+pub fn first_deep(t: &[u32], h: Layout, depths: &[u32]) -> usize
+    requires { ⌜ Laid (now t) h × (length (now t) ≡ h .length) × Depths deepest (now t) (now depths) ⌝ }
     ensures { λ r. ⌜ r ≡ lowest nesting (now (t .entry)) ⌝ }
 {
     let end = h.length;
-    let flags = nested_lists(t, h);
     let mut i: usize = 0;
     loop {
         if end <= i {
             break i;
         }
         let part = part_at(t, h, i);
-        if !nests(t, h, &flags, part) {
+        if !nests(t, h, depths, part) {
             break i;
         }
         i += 1;

@@ -1,17 +1,21 @@
 -- The check as a chain: what is left of it once the rules before a reason are kept, and what it gives where one is broken.
 -- Assumes nothing.
-use Prim.Native.Nat.{ℕ, _<_, _≤_, min}
+use Prim.Native.Nat.{ℕ, _+_, _<_, _≤_, min}
 use mathlib.Core.Path.{_≡_, refl}
 use mathlib.Core.Bool.{Bool, true, false, false≢true, _&&_}
 use mathlib.Core.List.{List}
 use native.Mathlib.Omega.{arith}
 use lib.Dec.{leb, eqb}
 use lib.ListN.{length}
-use borrow.Author.Tests.{lt-ltb, le-ltb, lt-leb, le-leb, leb-true}
+use borrow.Author.Tests.{lt-ltb, le-ltb, lt-leb, le-leb, leb-true, not-false}
 use Rattle.rulebook.specs.Words.{between}
-use Rattle.rulebook.specs.Table.{Part, ports, networks, sources, expressions, rules, lists, items}
+use Rattle.rulebook.specs.Table.{Part, ports, networks, sources, expressions, rules, lists, items, listsFrom, tableLength, atList, part}
+use Rattle.rulebook.specs.Expressions.{deepest}
 use Rattle.rulebook.specs.Reasons.{hasHeader, knownEdition, countsInside, exactLength, ownFields, names, nesting, owners, affordable, bound}
-use Rattle.rulebook.specs.Reasons.{Verdict, verdict, lowest, wholly, wordwise, check}
+use Rattle.rulebook.specs.Reasons.{Verdict, verdict, listWithin, breaks, lowest, wholly, wordwise, check}
+use Rattle.laws.proofs.Walks.{first-before}
+use Rattle.laws.proofs.Parts.{part-list}
+use Rattle.cost.specs.Costs.{Nested}
 use Rattle.tables.specs.Told.{refused, promised}
 
 -- from each reason on
@@ -101,3 +105,11 @@ few-lists t h =
     (between 1 256 (rules t)) (between 0 255 (lists t)) (between 0 2047 (items t)) h in
     let few : lists t ≤ 255 = leb-true (lists t) 255 (both (leb 0 (lists t)) (leb (lists t) 255) inside .1) in
     omega arith
+
+-- a table without a word that nests too deep: every list keeps rule 7
+pub no-deep-list : (t : List ℕ) (n r : ℕ) → length t ≡ n → n ≡ tableLength t → r ≡ lowest nesting t → n ≤ r → Nested t
+unfolding lowest breaks nesting
+no-deep-list t n r long exact found none l there =
+    let here : part t (listsFrom t + l) ≡ atList l = part-list t l there in
+    let kept : breaks nesting t (listsFrom t + l) ≡ false = first-before (breaks nesting t) 0 (length t) (listsFrom t + l) (omega arith) (omega arith) in
+    not-false (listWithin deepest t l) (rw here at kept)

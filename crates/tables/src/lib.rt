@@ -7,6 +7,7 @@ use cost::bound;
 use fields::first_misfit;
 use names::first_misnamed;
 use nesting::first_deep;
+use nesting::list_depths;
 use owners::first_clash;
 use words::sections::Layout;
 use words::sections::read_layout;
@@ -74,7 +75,8 @@ pub fn check(t: &[u32]) -> Checked
     if misnamed < length {
         return Checked::Misnamed(misnamed);
     }
-    let deep = first_deep(t, h);
+    let depths = list_depths(t, h);
+    let deep = first_deep(t, h, &depths);
     if deep < length {
         return Checked::TooDeep(deep);
     }
@@ -82,7 +84,7 @@ pub fn check(t: &[u32]) -> Checked
     if clash < length {
         return Checked::OwnersClash(clash);
     }
-    let b = bound(t, h);
+    let b = bound(t, h, &depths);
     if 4096 < b {
         return Checked::TooDear;
     }

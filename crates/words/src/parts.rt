@@ -18,7 +18,7 @@ pub enum Part {
     Item(u32),
 }
 
-// The table stands here for the proof alone: the layout says all that is read of it.
+// The table stands here for the proof alone: the layout says all that is read of it. The longest sections are asked for first.
 pub fn part_at(t: &[u32], h: Layout, i: usize) -> Part
     requires { ⌜ Laid (now t) h × (i < h .length) ⌝ }
     ensures { λ r. ⌜ partOf r ≡ part (now (t .entry)) i ⌝ }
@@ -29,30 +29,30 @@ pub fn part_at(t: &[u32], h: Layout, i: usize) -> Part
     let rule0 = h.rule0;
     let list0 = h.list0;
     let item0 = h.item0;
-    if i < 3 {
-        return Part::Header;
+    if item0 <= i {
+        return Part::Item((i - item0) as u32);
     }
-    if i < network0 {
-        return Part::Port((i - 3) as u32);
+    if list0 <= i {
+        return Part::List((i - list0) as u32);
     }
-    if i < source0 {
+    if rule0 <= i {
+        return Part::Rule((i - rule0) as u32);
+    }
+    if expression0 <= i {
+        return Part::Expression((i - expression0) as u32);
+    }
+    if source0 <= i {
+        return Part::Source((i - source0) as u32);
+    }
+    if network0 <= i {
         let j = i - network0;
         if j % 2 == 0 {
             return Part::Network((j / 2) as u32);
         }
         return Part::Waits((j / 2) as u32);
     }
-    if i < expression0 {
-        return Part::Source((i - source0) as u32);
+    if 3 <= i {
+        return Part::Port((i - 3) as u32);
     }
-    if i < rule0 {
-        return Part::Expression((i - expression0) as u32);
-    }
-    if i < list0 {
-        return Part::Rule((i - rule0) as u32);
-    }
-    if i < item0 {
-        return Part::List((i - list0) as u32);
-    }
-    Part::Item((i - item0) as u32)
+    Part::Header
 }

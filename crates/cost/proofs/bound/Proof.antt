@@ -10,16 +10,16 @@ use Rattle.cost.proofs.bound.Statement.{statement}
 use Rattle.cost.proofs.bound.Tie as tie
 
 abbrev Inv-loop : tie.InvT-loop
-Inv-loop t lists costs total₀ l₀ total l = (l ≤ lists) × (total ≤ 4097) × (capped (Reasons.bound t) ≡ capped (total + sum l (lists - l) (Reasons.costWithin 7 t)))
+Inv-loop t depths lists costs total₀ l₀ total l = (l ≤ lists) × (total ≤ 4097) × (capped (Reasons.bound t) ≡ capped (total + sum l (lists - l) (Reasons.costWithin 7 t)))
 
 abbrev μ-loop : tie.MeasureT-loop
-μ-loop t lists costs total₀ l₀ total l = lists - l
+μ-loop t depths lists costs total₀ l₀ total l = lists - l
 
 list-costs-requires : tie.Need-list-costs-requires Inv-loop μ-loop
-list-costs-requires c κs = c .before .pre
+list-costs-requires c κs = (c .before .before .pre .0, c .before .before .pre .1, c .before .before .pre .2)
 
 loop-holds : tie.Need-loop-holds Inv-loop μ-loop
-loop-holds c = (omega arith, omega arith, bound-start _ _ (c .before .before .pre .0))
+loop-holds c = (omega arith, omega arith, bound-start _ _ (c .before .before .before .pre .0))
 
 slice-aggregate-cost-in : tie.Need-slice-aggregate-cost-in Inv-loop μ-loop
 slice-aggregate-cost-in c = sym (c .before .before .before .list-costs .ensures .long)
@@ -40,11 +40,7 @@ loop-less : tie.Need-loop-less Inv-loop μ-loop
 loop-less c = omega arith
 
 loop-again : tie.Need-loop-again Inv-loop μ-loop
-loop-again c = (
-  omega arith,
-  omega (arith, c .cap .ensures),
-  c .before .before .before .before .loop .inv .2 ∙ cost-turn (Reasons.costWithin 7 (c .before .before .before .before .before .before .before .args .t .now)) _ _ _ _ _ (c .before .before .before .loop-test .taken) (cost-is _ _ (c .before .before .before .before .before .list-costs .ensures) _ _ (c .before .cost-in .ensures .value)) (c .cap .ensures),
-)
+loop-again c = (omega arith, omega (arith, c .cap .ensures), c .before .before .before .before .loop .inv .2 ∙ cost-turn (Reasons.costWithin 7 (c .before .before .before .before .before .before .before .before .args .t .now)) _ _ _ _ _ (c .before .before .before .loop-test .taken) (cost-is _ _ (c .before .before .before .before .before .list-costs .ensures) (c .before .before .before .before .before .before .before .before .pre .3) _ _ (omega (arith, c .before .before .before .loop-test .taken, c .before .before .before .before .before .before .before .before .pre .0 .lists .value)) (c .before .cost-in .ensures .value)) (c .cap .ensures))
 
 returns : tie.Need-returns Inv-loop μ-loop
 returns c = sym (c .before .loop .inv .2 ∙ cost-end _ _ _ _ (c .loop-test .left) (c .before .loop .inv .1))

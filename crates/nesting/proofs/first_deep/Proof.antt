@@ -10,13 +10,10 @@ use Rattle.nesting.proofs.first_deep.Statement.{statement}
 use Rattle.nesting.proofs.first_deep.Tie as tie
 
 abbrev Inv-loop : tie.InvT-loop
-Inv-loop t h end flags i₀ i = (i ≤ end) × (lowest nesting t ≡ first i (end - i) (breaks nesting t))
+Inv-loop t h depths end i₀ i = (i ≤ end) × (lowest nesting t ≡ first i (end - i) (breaks nesting t))
 
 abbrev μ-loop : tie.MeasureT-loop
-μ-loop t h end flags i₀ i = end - i
-
-nested-lists-requires : tie.Need-nested-lists-requires Inv-loop μ-loop
-nested-lists-requires c κs = (c .before .pre .0, c .before .pre .2)
+μ-loop t h depths end i₀ i = end - i
 
 loop-holds : tie.Need-loop-holds Inv-loop μ-loop
 loop-holds c = (omega arith, scan-start nesting _ _ (c .before .before .pre .1))
@@ -24,11 +21,8 @@ loop-holds c = (omega arith, scan-start nesting _ _ (c .before .before .pre .1))
 part-at-requires : tie.Need-part-at-requires Inv-loop μ-loop
 part-at-requires c κs = (c .before .before .before .before .pre .0, c .if1 .left)
 
-slice-aggregate-nests : tie.Need-slice-aggregate-nests Inv-loop μ-loop
-slice-aggregate-nests c = sym (c .before .before .before .before .nested-lists .ensures .long)
-
 nests-requires : tie.Need-nests-requires Inv-loop μ-loop
-nests-requires c κs = (c .before .before .before .before .before .before .pre .0, c .before .before .before .before .nested-lists .ensures)
+nests-requires c κs = (c .before .before .before .before .before .pre .0, c .before .before .before .before .before .pre .2)
 
 add-i : tie.Need-add-i Inv-loop μ-loop
 add-i c = omega arith
@@ -37,13 +31,13 @@ loop-less : tie.Need-loop-less Inv-loop μ-loop
 loop-less c = omega arith
 
 loop-again : tie.Need-loop-again Inv-loop μ-loop
-loop-again c = (omega arith, c .before .before .before .before .before .loop .inv .1 ∙ scan-turn nesting _ _ _ _ (c .before .before .before .before .if1 .left) (c .before .nests .ensures ∙ ap (nesting (c .before .before .before .before .before .before .before .before .args .t .now)) (c .before .before .before .part-at .ensures)) (c .if2 .left))
+loop-again c = (omega arith, c .before .before .before .before .loop .inv .1 ∙ scan-turn nesting _ _ _ _ (c .before .before .before .if1 .left) (c .before .nests .ensures ∙ ap (nesting (c .before .before .before .before .before .before .before .args .t .now)) (c .before .before .part-at .ensures)) (c .if2 .left))
 
 returns : tie.Need-returns Inv-loop μ-loop
 returns c = sym (c .before .loop .inv .1 ∙ first-end _ _ _ (c .if1 .taken))
 
 returns-2 : tie.Need-returns-2 Inv-loop μ-loop
-returns-2 c = sym (c .before .before .before .before .before .loop .inv .1 ∙ scan-here nesting _ _ _ _ (c .before .before .before .before .if1 .left) (c .before .nests .ensures ∙ ap (nesting (c .before .before .before .before .before .before .before .before .args .t .now)) (c .before .before .before .part-at .ensures)) (c .if2 .taken))
+returns-2 c = sym (c .before .before .before .before .loop .inv .1 ∙ scan-here nesting _ _ _ _ (c .before .before .before .if1 .left) (c .before .nests .ensures ∙ ap (nesting (c .before .before .before .before .before .before .before .args .t .now)) (c .before .before .part-at .ensures)) (c .if2 .taken))
 
 pub first-deep-spec : {M : Type 1} → statement M
 first-deep-spec =
@@ -51,10 +45,8 @@ first-deep-spec =
     (tie.spec
     Inv-loop
     μ-loop
-    nested-lists-requires
     loop-holds
     part-at-requires
-    slice-aggregate-nests
     nests-requires
     add-i
     loop-less

@@ -1,6 +1,6 @@
 -- `nesting::item_nests` meets its contract: each exit by the law of its kind. Assumes nothing.
 use mathlib.Core.Path.{_∙_}
-use Rattle.words.specs.Flags.{flagged}
+use Rattle.nesting.specs.Depths.{foundBy}
 use Rattle.nesting.proofs.Levels.{names-list, names-rule, names-none}
 use borrow.Author.Needs.{needs}
 use Rattle.nesting.proofs.item_nests.Statement.{statement}
@@ -15,20 +15,20 @@ item-kind-requires c κs = search needs
 item-a-requires : tie.Need-item-a-requires
 item-a-requires c κs = search needs
 
-flag-requires : tie.Need-flag-requires
-flag-requires c κs = search needs
+found-requires : tie.Need-found-requires
+found-requires c κs = search needs
 
 returns : tie.Need-returns
-returns c = c .flag .ensures ∙ names-list _ (flagged (c .before .before .before .before .before .before .before .args .below .now)) _ _ _ _ (c .before .before .before .before .item-word .ensures) (c .before .before .before .item-kind .ensures .value) (c .before .before .item-a .ensures .value) (c .before .if1 .taken)
+returns c = c .found .ensures ∙ names-list _ (foundBy (c .before .before .before .before .before .before .before .args .depths .now) (c .before .before .before .before .before .before .before .args .d)) _ _ _ _ (c .before .before .before .before .item-word .ensures) (c .before .before .before .item-kind .ensures .value) (c .before .before .item-a .ensures .value) (c .before .if1 .taken)
 
 rule-nests-requires : tie.Need-rule-nests-requires
 rule-nests-requires c κs = search needs
 
 returns-2 : tie.Need-returns-2
-returns-2 c = c .rule-nests .ensures ∙ names-rule _ (flagged (c .before .before .before .before .before .before .before .before .args .below .now)) _ _ _ _ (c .before .before .before .before .before .item-word .ensures) (c .before .before .before .before .item-kind .ensures .value) (c .before .before .before .item-a .ensures .value) (c .before .before .if1 .left) (c .before .if2 .taken)
+returns-2 c = c .rule-nests .ensures ∙ names-rule _ (foundBy (c .before .before .before .before .before .before .before .before .args .depths .now) (c .before .before .before .before .before .before .before .before .args .d)) _ _ _ _ (c .before .before .before .before .before .item-word .ensures) (c .before .before .before .before .item-kind .ensures .value) (c .before .before .before .item-a .ensures .value) (c .before .before .if1 .left) (c .before .if2 .taken)
 
 returns-3 : tie.Need-returns-3
-returns-3 c = names-none _ (flagged (c .before .before .before .before .before .before .before .args .below .now)) _ _ _ _ (c .before .before .before .before .item-word .ensures) (c .before .before .before .item-kind .ensures .value) (c .before .before .item-a .ensures .value) (c .before .if1 .left) (c .if2 .left)
+returns-3 c = names-none _ (foundBy (c .before .before .before .before .before .before .before .args .depths .now) (c .before .before .before .before .before .before .before .args .d)) _ _ _ _ (c .before .before .before .before .item-word .ensures) (c .before .before .before .item-kind .ensures .value) (c .before .before .item-a .ensures .value) (c .before .if1 .left) (c .if2 .left)
 
 pub item-nests-spec : {M : Type 1} → statement M
 item-nests-spec =
@@ -37,7 +37,7 @@ item-nests-spec =
     item-word-requires
     item-kind-requires
     item-a-requires
-    flag-requires
+    found-requires
     returns
     rule-nests-requires
     returns-2

@@ -5,17 +5,17 @@ use native.Mathlib.Omega.{arith}
 use borrow.Author.Tests.{not-true, not-false}
 use Rattle.rulebook.specs.Words.{all}
 use Rattle.rulebook.specs.Reasons.{itemNests}
-use Rattle.words.specs.Flags.{flagged}
+use Rattle.nesting.specs.Depths.{foundBy}
 use Rattle.walks.proofs.Walks.{whole, all-turn, all-fails, all-end}
 use Rattle.nesting.proofs.Levels.{list-absent, list-present}
 use Rattle.nesting.proofs.list_nests.Statement.{statement}
 use Rattle.nesting.proofs.list_nests.Tie as tie
 
 abbrev Inv-loop : tie.InvT-loop
-Inv-loop t h below l lists w first count end i₀ i = (i ≤ end) × (all first count (itemNests t (flagged below)) ≡ all i (end - i) (itemNests t (flagged below)))
+Inv-loop t h depths d l lists w first count end i₀ i = (i ≤ end) × (all first count (itemNests t (foundBy depths d)) ≡ all i (end - i) (itemNests t (foundBy depths d)))
 
 abbrev μ-loop : tie.MeasureT-loop
-μ-loop t h below l lists w first count end i₀ i = end - i
+μ-loop t h depths d l lists w first count end i₀ i = end - i
 
 returns : tie.Need-returns Inv-loop μ-loop
 returns c = list-absent _ _ (c .before .before .before .pre) _ _ (c .if1 .taken)

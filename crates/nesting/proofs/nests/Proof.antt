@@ -1,6 +1,7 @@
 -- `nesting::nests` meets its contract, arm by arm. Assumes nothing.
 use mathlib.Core.Path.{_∙_}
 use Rattle.rulebook.specs.Reasons.{nesting}
+use native.Mathlib.Omega.{arith}
 use borrow.Author.Needs.{needs}
 use Rattle.nesting.proofs.nests.Statement.{statement}
 use Rattle.nesting.proofs.nests.Tie as tie
@@ -32,8 +33,8 @@ enum-told-6 c = search needs
 enum-known-part-2 : tie.Need-enum-known-part-2
 enum-known-part-2 c = search needs
 
-flag-requires : tie.Need-flag-requires
-flag-requires c κs = search needs
+found-requires : tie.Need-found-requires
+found-requires c κs = search needs
 
 enum-told-7 : tie.Need-enum-told-7
 enum-told-7 c = search needs
@@ -68,7 +69,7 @@ returns-7 c = rw (c .enum-told6 .given .1)
 
 returns-8 : tie.Need-returns-8
 unfolding nesting
-returns-8 c = rw (c .before .before .part2 .given .1) (c .flag .ensures ∙ c .before .before .before .before .before .before .pre .1 .says _)
+returns-8 c = rw (c .before .before .part2 .given .1) (c .found .ensures ∙ c .before .before .before .before .before .before .pre .1 .says 7 _ (omega arith))
 
 returns-9 : tie.Need-returns-9
 unfolding nesting
@@ -87,7 +88,7 @@ nests-spec =
     within-requires
     enum-told-6
     enum-known-part-2
-    flag-requires
+    found-requires
     enum-told-7
     returns
     returns-2

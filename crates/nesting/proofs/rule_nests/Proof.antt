@@ -13,15 +13,15 @@ true-list-requires c κs = search needs
 false-list-requires : tie.Need-false-list-requires
 false-list-requires c κs = search needs
 
-flag-requires : tie.Need-flag-requires
-flag-requires c κs = search needs
+found-requires : tie.Need-found-requires
+found-requires c κs = search needs
 
-flag-requires-2 : tie.Need-flag-requires-2
-flag-requires-2 c κs = search needs
+found-requires-2 : tie.Need-found-requires-2
+found-requires-2 c κs = search needs
 
 returns : tie.Need-returns
 unfolding ruleNests
-returns c = rw (c .before .flag .ensures, c .flag2 .ensures, c .before .before .before .true-list .ensures .value, c .before .before .false-list .ensures .value, c .before .before .before .before .rule-word .ensures)
+returns c = rw (c .before .found .ensures, c .found2 .ensures, c .before .before .before .true-list .ensures .value, c .before .before .false-list .ensures .value, c .before .before .before .before .rule-word .ensures)
 
 pub rule-nests-spec : {M : Type 1} → statement M
 rule-nests-spec =
@@ -30,6 +30,6 @@ rule-nests-spec =
     rule-word-requires
     true-list-requires
     false-list-requires
-    flag-requires
-    flag-requires-2
+    found-requires
+    found-requires-2
     returns)

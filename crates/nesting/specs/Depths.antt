@@ -1,0 +1,28 @@
+-- The depths of lists, as they are found level by level: a word for each list, 0 as long as it is not found.
+use Prim.Native.Nat.{ℕ, _+_, _≤_}
+use mathlib.Core.Path.{_≡_}
+use mathlib.Core.Bool.{Bool, false, cond, _&&_}
+use mathlib.Core.List.{List}
+use lib.Dec.{leb, eqb}
+use lib.ListN.{length}
+use Rattle.rulebook.specs.Words.{word}
+use Rattle.rulebook.specs.Reasons.{listNests, listWithin}
+
+-- list l was found in the first d rounds
+unfoldable pub foundBy : List ℕ → ℕ → ℕ → Bool
+foundBy depths d l = leb 1 (word depths l) && leb (word depths l) d
+
+-- the word of list l after round d + 1
+unfoldable pub nextDepth : List ℕ → List ℕ → ℕ → ℕ → ℕ
+nextDepth t depths d l = cond (eqb (word depths l) 0) (cond (listNests t (foundBy depths d) l) (d + 1) 0) (word depths l)
+
+-- d rounds have found the lists that are at most d deep, each at its depth
+pub record Depths (d : ℕ) (t depths : List ℕ) : Type 0 where
+  pub long : length depths ≡ 256
+  pub small : (l : ℕ) → word depths l ≤ d
+  pub says : (e l : ℕ) → e ≤ d → foundBy depths e l ≡ listWithin e t l
+
+-- after round d + 1, and after one that found none
+pub record Level (d : ℕ) (t : List ℕ) (more : Bool) (depths : List ℕ) : Type 0 where
+  pub next : Depths (d + 1) t depths
+  pub none : more ≡ false → Depths d t depths
