@@ -58,7 +58,7 @@ fn outcome(t: &[u32], h: Layout, flags: &[u32], s: &[u32], r: u32) -> u32
     if nested != 0 {
         return 2;
     }
-    if !mentions(t, h, flags, table::rule_expression(w), 7) {
+    if !mentions(t, h.expression0, flags, table::rule_expression(w), 7) {
         return 2;
     }
     if evaluation::unready(t, h, s, r) {

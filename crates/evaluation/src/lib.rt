@@ -1,6 +1,7 @@
 // Evaluation of expressions and of rules, by the port words of a state or of a copy of one. Evaluation and the test for undefined
 // ports go down into the left and then the right argument, with one level less each time.
 ghost use mathlib.Core.Path.{_≡_};
+ghost use Rattle.rulebook.specs.Table.{expressionsFrom};
 ghost use Rattle.rulebook.specs.Expressions.{mentions, joined as joinedOf, holds as holdsOf};
 ghost use Rattle.rulebook.specs.Lists.{valueIn, undefinedIn, unready as unreadyOf, resultIn, listFor, choice as choiceOf};
 ghost use Rattle.words.specs.Field.{Field};
@@ -65,49 +66,49 @@ fn joined(kind: u32, a: bool, b: bool) -> bool
 }
 
 // Whether expression e, down to so many levels, holds by the values of the port words.
-pub fn holds(t: &[u32], h: Layout, values: &[u32], e: u32, levels: u32) -> bool
-    requires { ⌜ Laid (now t) h ⌝ }
+pub fn holds(t: &[u32], from: usize, values: &[u32], e: u32, levels: u32) -> bool
+    requires { ⌜ from ≡ expressionsFrom (now t) ⌝ }
     ensures { λ r. ⌜ r ≡ holdsOf levels (now (t .entry)) (valueIn (now (values .entry))) e ⌝ }
 {
     if levels == 0 {
         return false;
     }
-    let w = expression_word(t, h, e);
+    let w = expression_word(t, from, e);
     let kind = table::expression_kind(w);
     let condition = !((4 <= kind) & (kind <= 8));
     if condition {
         let value = value_in(values, table::condition_port(w));
         return condition_met(kind, value, table::condition_value(w));
     }
-    let a = holds(t, h, values, table::left(w), levels - 1);
+    let a = holds(t, from, values, table::left(w), levels - 1);
     if kind == 8 {
         return !a;
     }
-    let b = holds(t, h, values, table::right(w), levels - 1);
+    let b = holds(t, from, values, table::right(w), levels - 1);
     joined(kind, a, b)
 }
 
 // Whether expression e, down to so many levels, mentions a port that is undefined.
-fn mentions_undefined(t: &[u32], h: Layout, s: &[u32], e: u32, levels: u32) -> bool
-    requires { ⌜ Laid (now t) h ⌝ }
+fn mentions_undefined(t: &[u32], from: usize, s: &[u32], e: u32, levels: u32) -> bool
+    requires { ⌜ from ≡ expressionsFrom (now t) ⌝ }
     ensures { λ r. ⌜ r ≡ mentions levels (now (t .entry)) (undefinedIn (now (s .entry))) e ⌝ }
 {
     if levels == 0 {
         return false;
     }
-    let w = expression_word(t, h, e);
+    let w = expression_word(t, from, e);
     let kind = table::expression_kind(w);
     let condition = !((4 <= kind) & (kind <= 8));
     if condition {
         return undefined_in(s, table::condition_port(w));
     }
-    if mentions_undefined(t, h, s, table::left(w), levels - 1) {
+    if mentions_undefined(t, from, s, table::left(w), levels - 1) {
         return true;
     }
     if kind == 8 {
         return false;
     }
-    mentions_undefined(t, h, s, table::right(w), levels - 1)
+    mentions_undefined(t, from, s, table::right(w), levels - 1)
 }
 
 // Whether rule r mentions an undefined port.
@@ -116,7 +117,7 @@ pub fn unready(t: &[u32], h: Layout, s: &[u32], r: u32) -> bool
     ensures { λ b. ⌜ b ≡ unreadyOf (now (t .entry)) (now (s .entry)) r ⌝ }
 {
     let w = rule_word(t, h, r);
-    mentions_undefined(t, h, s, table::rule_expression(w), 7)
+    mentions_undefined(t, h.expression0, s, table::rule_expression(w), 7)
 }
 
 // Rule r's result: 0 false, 1 true.
@@ -125,7 +126,7 @@ pub fn result(t: &[u32], h: Layout, s: &[u32], r: u32) -> u32
     ensures { λ n. ⌜ n ≡ resultIn (now (t .entry)) (now (s .entry)) r ⌝ }
 {
     let w = rule_word(t, h, r);
-    words::raised(holds(t, h, s, table::rule_expression(w), 7))
+    words::raised(holds(t, h.expression0, s, table::rule_expression(w), 7))
 }
 
 // The list that rule r has for a result; 255 for none.

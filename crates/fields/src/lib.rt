@@ -61,7 +61,7 @@ fn expression_fields(t: &[u32], h: Layout, e: u32) -> bool
     requires { ⌜ Laid (now t) h ⌝ }
     ensures { λ r. ⌜ r ≡ ownFields (now (t .entry)) (atExpression e) ⌝ }
 {
-    let w = sections::expression_word(t, h, e);
+    let w = sections::expression_word(t, h.expression0, e);
     let kind = table::expression_kind(w);
     let value = table::condition_value(w);
     let zero = table::condition_zero(w);

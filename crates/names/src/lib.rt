@@ -95,7 +95,7 @@ fn expression_names(t: &[u32], h: Layout, e: u32) -> bool
     requires { ⌜ Laid (now t) h ⌝ }
     ensures { λ r. ⌜ r ≡ namesOf (now (t .entry)) (atExpression e) ⌝ }
 {
-    let w = sections::expression_word(t, h, e);
+    let w = sections::expression_word(t, h.expression0, e);
     let kind = table::expression_kind(w);
     let left = table::left(w);
     let right = table::right(w);

@@ -137,7 +137,7 @@ fn nests(t: &[u32], h: Layout, depths: &[u32], part: Part) -> bool
         Part::Network(_) => true,
         Part::Waits(_) => true,
         Part::Source(_) => true,
-        Part::Expression(e) => within(t, h, e, 7),
+        Part::Expression(e) => within(t, h.expression0, e, 7),
         Part::Rule(_) => true,
         Part::List(l) => found(depths, 7, l),
         Part::Item(_) => true,

@@ -3,7 +3,7 @@ ghost use mathlib.Core.Path.{_≡_};
 ghost use Prim.Native.Nat.{_<_};
 ghost use lib.ListN.{length};
 ghost use Rattle.rulebook.specs.Words.{first};
-ghost use Rattle.rulebook.specs.Table.{atNetwork, atSource, atRule, part, listsFrom, lists};
+ghost use Rattle.rulebook.specs.Table.{atNetwork, atSource, atRule, part, expressionsFrom, listsFrom, lists};
 ghost use Rattle.rulebook.specs.Expressions.{mentions};
 ghost use Rattle.rulebook.specs.Reasons.{strangersPort, itemOwned, owners, breaks, lowest};
 ghost use Rattle.words.specs.Sections.{Laid};
@@ -39,14 +39,14 @@ fn source_owned(t: &[u32], h: Layout, k: u32) -> bool
 
 // Whether expression e, down to so many levels, mentions a port that is a stranger's to o. It goes down like the mention test over
 // flags, and asks each port it meets for its owner: 256 flags put up for each rule cost more than all else of an honest table.
-fn mentions_stranger(t: &[u32], h: Layout, o: u32, e: u32, levels: u32) -> bool
-    requires { ⌜ Laid (now t) h ⌝ }
+fn mentions_stranger(t: &[u32], from: usize, o: u32, e: u32, levels: u32) -> bool
+    requires { ⌜ from ≡ expressionsFrom (now t) ⌝ }
     ensures { λ r. ⌜ r ≡ mentions levels (now (t .entry)) (strangersPort (now (t .entry)) o) e ⌝ }
 {
     if levels == 0 {
         return false;
     }
-    let w = sections::expression_word(t, h, e);
+    let w = sections::expression_word(t, from, e);
     let kind = table::expression_kind(w);
     let condition = !((4 <= kind) & (kind <= 8));
     if condition {
@@ -54,13 +54,13 @@ fn mentions_stranger(t: &[u32], h: Layout, o: u32, e: u32, levels: u32) -> bool
         let owner = table::port_owner(named);
         return !(owner == o) & !(owner == 0);
     }
-    if mentions_stranger(t, h, o, table::left(w), levels - 1) {
+    if mentions_stranger(t, from, o, table::left(w), levels - 1) {
         return true;
     }
     if kind == 8 {
         return false;
     }
-    mentions_stranger(t, h, o, table::right(w), levels - 1)
+    mentions_stranger(t, from, o, table::right(w), levels - 1)
 }
 
 fn rule_owned(t: &[u32], h: Layout, r: u32) -> bool
@@ -76,7 +76,7 @@ fn rule_owned(t: &[u32], h: Layout, r: u32) -> bool
     let false_word = sections::list_word(t, h, false_list);
     let true_owner = table::list_owner(true_word);
     let false_owner = table::list_owner(false_word);
-    let strange = mentions_stranger(t, h, owner, expression, 7);
+    let strange = mentions_stranger(t, h.expression0, owner, expression, 7);
     !strange
         & ((true_list == 255) | (true_owner == owner))
         & ((false_list == 255) | (false_owner == owner))

@@ -8,6 +8,7 @@ use lib.Dec.{ltb, eqb}
 use borrow.Author.Tests.{lt-ltb, le-ltb, eq-eqb, ne-eqb}
 use Rattle.rulebook.specs.Table.{Part, portsFrom, networksFrom, sourcesFrom, expressionsFrom, rulesFrom, listsFrom, itemsFrom}
 use Rattle.rulebook.specs.Table.{inHeader, atPort, atNetwork, atWaits, atSource, atExpression, atRule, atList, atItem, part}
+use Rattle.rulebook.specs.Words.{digit}
 use Rattle.words.specs.declared.sections.Layout.{Layout}
 use Rattle.words.specs.Sections.{Laid}
 
@@ -92,6 +93,11 @@ module _ (t : List ℕ) (h : Layout) (laid : Laid t h) (i : ℕ) where
         le-ltb i (listsFrom t) (omega arith),
         le-ltb i (itemsFrom t) (omega arith),
       ))
+
+-- the expressions start within the first 1,024 words, by the widths of the counts before them
+pub expressions-near : (t : List ℕ) → expressionsFrom t < 1024
+unfolding digit
+expressions-near t = omega arith
 
 -- no list stands before the lists
 

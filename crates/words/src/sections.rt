@@ -1,6 +1,6 @@
 // The header, read once: how many there are of each thing, and where each section starts. Handed on by value.
 ghost use mathlib.Core.Path.{_≡_};
-ghost use Rattle.rulebook.specs.Table.{portWord, networkWord, waitsWord, sourceWord, expressionWord, ruleWord, listWord, itemWord};
+ghost use Rattle.rulebook.specs.Table.{expressionsFrom, portWord, networkWord, waitsWord, sourceWord, expressionWord, ruleWord, listWord, itemWord};
 ghost use Rattle.words.specs.Sections.{Laid};
 use crate::table;
 use crate::word;
@@ -90,11 +90,12 @@ pub fn source_word(t: &[u32], h: Layout, k: u32) -> u32
     word(t, h.source0 + k as usize)
 }
 
-pub fn expression_word(t: &[u32], h: Layout, e: u32) -> u32
-    requires { ⌜ Laid (now t) h ⌝ }
+// Expressions are read down a tree, at each word again: the place of their section is handed on alone, not the whole layout.
+pub fn expression_word(t: &[u32], from: usize, e: u32) -> u32
+    requires { ⌜ from ≡ expressionsFrom (now t) ⌝ }
     ensures { λ r. ⌜ r ≡ expressionWord (now (t .entry)) e ⌝ }
 {
-    word(t, h.expression0 + e as usize)
+    word(t, from + e as usize)
 }
 
 pub fn rule_word(t: &[u32], h: Layout, r: u32) -> u32

@@ -14,7 +14,7 @@ rule-expression-requires : tie.Need-rule-expression-requires
 rule-expression-requires c κs = tt
 
 mentions-undefined-requires : tie.Need-mentions-undefined-requires
-mentions-undefined-requires c κs = c .before .before .before .before .pre
+mentions-undefined-requires c κs = c .before .before .before .before .pre .expression0
 
 returns : tie.Need-returns
 unfolding unready

@@ -1,16 +1,18 @@
--- `words::sections::expression_word` meets its contract: the layout's place is the table's. Assumes nothing.
+-- `words::sections::expression_word` meets its contract: the place handed in is the table's. Assumes nothing.
+use native.Mathlib.Omega.{arith}
+use Rattle.words.proofs.Places.{expressions-near}
 use borrow.Author.Needs.{needs}
 use Rattle.words.proofs.sections.expression_word.Statement.{statement}
 use Rattle.words.proofs.sections.expression_word.Tie as tie
 
 add-word : tie.Need-add-word
-add-word c = search needs
+add-word c = let near = expressions-near (c .before .args .t .now) in omega (arith, c .before .pre)
 
 word-requires : tie.Need-word-requires
 word-requires c κs = search needs
 
 returns : tie.Need-returns
-returns c = rw (← c .before .before .before .pre .expression0) (c .word .ensures)
+returns c = rw (← c .before .before .pre) (c .word .ensures)
 
 pub expression-word-spec : {M : Type 1} → statement M
 expression-word-spec = tie.close (tie.spec add-word word-requires returns)
