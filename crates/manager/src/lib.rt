@@ -1,9 +1,9 @@
 // The public entries. Each takes anything and checks for itself.
 ghost use mathlib.Core.Path.{_≡_};
-ghost use Rattle.rulebook.specs.Step.{refusedState};
+ghost use Rattle.rulebook.specs.State.{stateLength};
 ghost use Rattle.tables.specs.Told.{told, promised};
 ghost use Rattle.states.specs.Made.{Fresh};
-ghost use Rattle.rulebook.specs.Step.{step};
+ghost use Rattle.rulebook.specs.Step.{refusedState, step};
 ghost use Rattle.events.specs.Answers.{Told};
 ghost use lib.ListN.{length};
 ghost use Rattle.manager.specs.Answers.{stateNumber};
@@ -17,6 +17,13 @@ pub fn check_table(t: &[u32]) -> Checked
     ensures { λ r. ⌜ told r ≡ promised (now (t .entry)) ⌝ }
 {
     tables::check(t)
+}
+
+// How many words a state of this table has, for whoever lends them. It reads the header alone, so it says nothing of the table.
+pub fn state_words(t: &[u32]) -> usize
+    ensures { λ r. ⌜ r ≡ stateLength (now (t .entry)) ⌝ }
+{
+    states::state_length(t, words::sections::read_layout(t))
 }
 
 // Makes a fresh state in the lent words, or refuses and writes nothing.

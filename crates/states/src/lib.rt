@@ -26,7 +26,7 @@ pub enum Thing {
 }
 
 // How many words a state of the table has.
-fn state_length(t: &[u32], h: Layout) -> usize
+pub fn state_length(t: &[u32], h: Layout) -> usize
     requires { ⌜ Laid (now t) h ⌝ }
     ensures { λ r. ⌜ r ≡ stateLength (now (t .entry)) ⌝ }
 {

@@ -1,0 +1,16 @@
+-- `gateway::herringcart_check_table` meets its promise: the numbers of what the table check tells. Assumes nothing.
+use borrow.Author.Needs.{needs}
+use Rattle.gateway.proofs.herringcart_check_table.Statement.{statement}
+use Rattle.gateway.proofs.herringcart_check_table.Tie as tie
+
+check-table-requires : tie.Need-check-table-requires
+check-table-requires c κs = search needs
+
+numbers-requires : tie.Need-numbers-requires
+numbers-requires c κs = search needs
+
+returns : tie.Need-returns
+returns c = rw (c .before .check-table .ensures) at (c .numbers .ensures)
+
+pub herringcart-check-table-spec : {M : Type 1} → statement M
+herringcart-check-table-spec = tie.close (tie.spec check-table-requires numbers-requires returns)
