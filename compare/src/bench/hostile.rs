@@ -22,6 +22,8 @@ pub fn all() -> Vec<Hostile> {
         plain("lists 7 deep, deepest last", levels(7, Order::DeepLast, false)),
         plain("rules 7 deep, deepest first", levels(7, Order::DeepFirst, true)),
         plain("rules 7 deep, deepest last", levels(7, Order::DeepLast, true)),
+        plain("lists beside a row of seven", beside(false)),
+        plain("rules beside a row of seven", beside(true)),
         plain("lists 8 deep, the last only", levels(8, Order::DeepLast, false)),
         plain("lists, the last a ring", ring(false, false)),
         plain("lists, each a ring at its last item", ring(true, false)),
@@ -108,6 +110,21 @@ fn rule_item(draft: &mut Draft, true_list: u32, false_list: u32) -> Item {
     Item { kind: item::RULE, a: a as u32, b: 0 }
 }
 
+/// A row of seven lists, so that a search level by level needs all its rounds,
+/// and beside it as many lists as there can be that stand from the second
+/// round on and are read to their end in each: they share 255 items that name
+/// the end of the row.
+fn beside(by_rules: bool) -> Draft {
+    let mut draft = least();
+    let name = |a| Item { kind: item::LIST, a, b: 0 };
+    draft.items = (1..7).map(name).chain([Item::default()]).collect();
+    let item = if by_rules { rule_item(&mut draft, 6, 6) } else { name(6) };
+    draft.items.extend([item; FULL]);
+    draft.lists = (0..7).map(|first| List { first, count: 1, ..Default::default() }).collect();
+    draft.lists.resize(FULL, List { first: 7, count: 255, ..Default::default() });
+    draft
+}
+
 /// One list of calls; all others share 255 items that name it, but the last,
 /// which names the last list: a ring that every one of them leads into, or,
 /// with only the last list reading so far, that list alone.
@@ -171,7 +188,7 @@ fn expressions(deep: usize) -> Draft {
 
 /// The slow expressions in the rules that the slow lists name.
 fn both() -> Draft {
-    let lists = levels(7, Order::DeepFirst, true);
+    let lists = beside(true);
     let mut draft = Draft { rules: lists.rules, ..expressions(7) };
     for (number, rule) in draft.rules.iter_mut().enumerate() {
         rule.expression = 12 + number as u32;
