@@ -59,6 +59,11 @@ impl Lent {
     }
 }
 
+/// A number beside words; one that is no word shows as the largest.
+fn as_word(number: usize) -> u32 {
+    u32::try_from(number).unwrap_or(u32::MAX)
+}
+
 /// Fails with both sides' words where they differ.
 fn same(what: impl FnOnce() -> String, proved: &[u32], second: &[u32]) -> Result<(), Difference> {
     if proved == second {
@@ -98,14 +103,14 @@ fn compare_check(subject: &impl Subject, table: &[u32]) -> Result<(), Difference
     let (proved, second) = (subject.check(table), second::check(table));
     same(
         || "check: reason, place, B".into(),
-        &[proved.reason, proved.place as u32, proved.bound],
-        &[second.reason, second.place as u32, second.b as u32],
+        &[proved.reason, as_word(proved.place), proved.bound],
+        &[second.reason, as_word(second.place), as_word(second.b)],
     )?;
     // A missing header word counts as 0.
     let mut header = table[..table.len().min(HEADER)].to_vec();
     header.resize(HEADER, 0);
     let length = Table::of(&header).map_or(0, |header| state_length(&header));
-    same(|| "state words".into(), &[subject.state_words(table) as u32], &[length as u32])
+    same(|| "state words".into(), &[as_word(subject.state_words(table))], &[as_word(length)])
 }
 
 fn compare_fresh(subject: &impl Subject, table: &[u32], length: usize) -> Result<(), Difference> {
@@ -139,8 +144,8 @@ fn compare_event(
     let second = second::step(table, judged.words(), expected.words(), event);
     same(
         || what("answer, count"),
-        &[proved.number, proved.count as u32],
-        &[second.answer, second.count as u32],
+        &[proved.number, as_word(proved.count)],
+        &[second.answer, as_word(second.count)],
     )?;
     same_lent(&|| what("state"), state, judged)?;
     same_lent(&|| what("trace"), &trace, &expected)

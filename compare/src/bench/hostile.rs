@@ -25,13 +25,13 @@ pub fn all() -> Vec<Hostile> {
         plain("lists beside a row of seven", beside(false)),
         plain("rules beside a row of seven", beside(true)),
         plain("lists 8 deep, the last only", levels(8, Order::DeepLast, false)),
-        plain("lists, the last a ring", ring(false, false)),
+        plain("lists, the last one a ring", ring(false, false)),
         plain("lists, each a ring at its last item", ring(true, false)),
         plain("rules, each a ring at its last item", ring(true, true)),
         plain("lists 7 deep, the last item a stranger's", stranger()),
         asked("expressions 7 deep, 256 rules", expressions(7)),
         plain("expressions, the last 8 deep", expressions(8)),
-        plain("expressions and rules 7 deep at once", both()),
+        plain("expressions, and rules beside a row of seven", both()),
         asked("4,080 rule items of expressions 7 deep", rule_items()),
     ]
 }
@@ -65,38 +65,29 @@ fn levels(deep: usize, order: Order, by_rules: bool) -> Draft {
     let each = FULL / deep;
     let number = |level: usize, at: usize| {
         let list = level * each + at % each;
-        let list = if order == Order::DeepLast { list } else { deep * each - 1 - list };
-        list as u32
+        if order == Order::DeepLast { list as u32 } else { (deep * each - 1 - list) as u32 }
     };
-    let mut lists = vec![List::default(); deep * each];
+    draft.lists = vec![List::default(); deep * each];
     for level in 0..deep {
-        let first = draft.items.len() as u32;
-        let named = |at: usize| if at + 1 == FULL { (level - 1, at) } else { (0, at) };
+        let list = List { first: (level * FULL) as u32, count: FULL as u32, ..Default::default() };
+        for at in 0..each {
+            draft.lists[number(level, at) as usize] = list;
+        }
         for at in 0..FULL {
-            // Eight levels would need more items than there are.
-            if draft.items.len() == 2040 {
-                break;
-            }
+            let below = if at + 1 == FULL { level.saturating_sub(1) } else { 0 };
             let item = match level {
                 0 => Item::default(),
-                _ if by_rules => {
-                    let (level, at) = named(at);
-                    rule_item(&mut draft, number(level, at), number(level, at + 1))
-                }
-                _ => {
-                    let (level, at) = named(at);
-                    Item { kind: item::LIST, a: number(level, at), b: 0 }
-                }
+                _ if by_rules => rule_item(&mut draft, number(below, at), number(below, at + 1)),
+                _ => list_item(number(below, at)),
             };
             draft.items.push(item);
         }
-        let count = draft.items.len() as u32 - first;
-        for at in 0..each {
-            lists[number(level, at) as usize] = List { first, count, ..Default::default() };
-        }
     }
-    draft.lists = lists;
     draft
+}
+
+fn list_item(a: u32) -> Item {
+    Item { kind: item::LIST, a, b: 0 }
 }
 
 /// An item naming a rule with these two lists: one there is, or a new one.
@@ -116,37 +107,32 @@ fn rule_item(draft: &mut Draft, true_list: u32, false_list: u32) -> Item {
 /// the end of the row.
 fn beside(by_rules: bool) -> Draft {
     let mut draft = least();
-    let name = |a| Item { kind: item::LIST, a, b: 0 };
-    draft.items = (1..7).map(name).chain([Item::default()]).collect();
-    let item = if by_rules { rule_item(&mut draft, 6, 6) } else { name(6) };
+    draft.items = (1..7).map(list_item).chain([Item::default()]).collect();
+    let item = if by_rules { rule_item(&mut draft, 6, 6) } else { list_item(6) };
     draft.items.extend([item; FULL]);
     draft.lists = (0..7).map(|first| List { first, count: 1, ..Default::default() }).collect();
     draft.lists.resize(FULL, List { first: 7, count: 255, ..Default::default() });
     draft
 }
 
-/// One list of calls; all others share 255 items that name it, but the last,
-/// which names the last list: a ring that every one of them leads into, or,
-/// with only the last list reading so far, that list alone.
+/// One list of calls; all others share 255 items that name it, but for the
+/// last, which names the last list. Every list reads that item and so leads
+/// into the ring, or the last list alone does.
 fn ring(all: bool, by_rules: bool) -> Draft {
     let mut draft = least();
     let last = FULL as u32 - 1;
-    draft.items = vec![Item::default(); FULL];
-    let item =
-        if by_rules { rule_item(&mut draft, 0, 0) } else { Item { kind: item::LIST, a: 0, b: 0 } };
-    let back = if by_rules {
-        rule_item(&mut draft, last, 0)
-    } else {
-        Item { kind: item::LIST, a: last, b: 0 }
+    let mut name = |list: u32| match by_rules {
+        true => rule_item(&mut draft, list, 0),
+        false => list_item(list),
     };
-    draft.items.extend([item; FULL - 1]);
+    let (calls, back) = (name(0), name(last));
+    draft.items = vec![Item::default(); FULL];
+    draft.items.extend([calls; FULL - 1]);
     draft.items.push(back);
-    let calls = List { first: 0, count: 255, ..Default::default() };
-    let naming = List { first: 255, count: 255, ..Default::default() };
-    let short = List { first: 255, count: 254, ..Default::default() };
-    draft.lists = vec![if all { naming } else { short }; FULL];
-    draft.lists[0] = calls;
-    draft.lists[last as usize] = naming;
+    let list = |first, count| List { first, count, ..Default::default() };
+    draft.lists = vec![list(255, if all { 255 } else { 254 }); FULL];
+    draft.lists[0] = list(0, 255);
+    draft.lists[last as usize] = list(255, 255);
     draft
 }
 
@@ -203,14 +189,14 @@ fn both() -> Draft {
 /// whole of its rule's expression: the most that a run can evaluate, for a
 /// rule item without lists costs one trace word.
 fn rule_items() -> Draft {
+    const LISTS: u32 = 16;
     let mut draft = expressions(7);
-    draft.items = (0..FULL as u32).map(|a| Item { kind: item::RULE, a, b: 0 }).collect();
-    draft.lists = vec![List { first: 0, count: 255, ..Default::default() }; 16];
-    // These rules are in no item's reach, or a list would hold itself.
-    draft.items.iter_mut().for_each(|item| item.a = 16 + item.a % 240);
-    for (number, rule) in draft.rules.iter_mut().take(16).enumerate() {
-        rule.true_list = number as u32;
-        rule.false_list = number as u32;
+    // The first rules start the lists, the others are in the lists' items.
+    let item = |i| Item { kind: item::RULE, a: LISTS + i % (256 - LISTS), b: 0 };
+    draft.items = (0..FULL as u32).map(item).collect();
+    draft.lists = vec![List { first: 0, count: 255, ..Default::default() }; LISTS as usize];
+    for list in 0..LISTS {
+        draft.rules[list as usize] = rule(12 + list, list, list);
     }
     draft
 }

@@ -18,10 +18,10 @@ fn found(wrong: &impl Subject) -> Case {
     small
 }
 
-/// Loses the mark of a timer that expires.
-struct LosesMark;
+/// Has a timer undefined when it expires.
+struct Undefines;
 
-impl Subject for LosesMark {
+impl Subject for Undefines {
     fn step(&self, table: &[u32], state: &mut [u32], trace: &mut [u32], event: u32) -> Answer {
         let before = state.to_vec();
         let answer = herringcart::take_event(table, state, trace, event);
@@ -36,8 +36,8 @@ impl Subject for LosesMark {
 }
 
 #[test]
-fn lost_mark_is_found_and_its_case_made_small() {
-    let small = found(&LosesMark);
+fn wrong_bit_in_an_expiring_timer_is_found_and_its_case_made_small() {
+    let small = found(&Undefines);
     let table = Table::of(&small.table).expect("a header");
     assert_eq!((table.count(Section::Ports), small.events.len()), (1, 1));
     assert!(small.table.len() <= 6, "{small:X?}");

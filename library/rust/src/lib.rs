@@ -99,9 +99,12 @@ mod c {
 // valid for its whole length, which is at most isize::MAX bytes; what is lent
 // as &mut overlaps nothing else; and the borrows last for the whole call.
 
+// The calls always write these; were one not to, no 0 may hide it.
+const UNWRITTEN: (usize, u32) = (usize::MAX, u32::MAX);
+
 /// Checks a table: its first reason and place, or 0 and B.
 pub fn check_table(table: &[u32]) -> Check {
-    let (mut place, mut bound) = (0, 0);
+    let (mut place, mut bound) = UNWRITTEN;
     // SAFETY: see above; place and bound are locals of their own.
     let reason =
         unsafe { c::herringcart_check_table(table.as_ptr(), table.len(), &mut place, &mut bound) };
@@ -133,7 +136,7 @@ pub fn check_state(table: &[u32], state: &[u32]) -> u32 {
 /// Takes one event. Done, the state is the next one and the trace's first
 /// `count` words are new; refused, no word has changed.
 pub fn take_event(table: &[u32], state: &mut [u32], trace: &mut [u32], event: u32) -> Answer {
-    let mut count = 0;
+    let (mut count, _) = UNWRITTEN;
     // SAFETY: see above; count is a local of its own.
     let number = unsafe {
         c::herringcart_take_event(
