@@ -67,6 +67,11 @@ impl Shrinking<'_> {
             |case| case.state.len(),
             |case, at| Some(without_word(case, |c| &mut c.state, at)),
         );
+        for owner in 1..16 {
+            if let Some(less) = things::without_owner(&self.case, owner) {
+                self.take(less);
+            }
+        }
         self.clear(|case| &mut case.table);
         self.clear(|case| &mut case.state);
         self.clear(|case| &mut case.events);
@@ -143,6 +148,9 @@ impl Shrinking<'_> {
                 self.take(Case { room, ..self.case.clone() });
             }
         }
+        while self.case.room > 0
+            && self.take(Case { room: self.case.room - 1, ..self.case.clone() })
+        {}
     }
 }
 

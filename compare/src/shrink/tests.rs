@@ -66,6 +66,20 @@ fn word_written_past_the_trace_is_found_and_its_case_made_small() {
     assert!(small.table.len() <= 11, "{small:X?}");
 }
 
+#[test]
+fn one_thing_less_moves_the_names_of_later_ones() {
+    // Whatever is taken out, what is left is a table of one thing less, and both sides read it.
+    let case = Cases::new(1).next().expect("cases have no end").case;
+    for section in SECTIONS {
+        let count = super::things::count(&case, section);
+        for at in 0..count {
+            let less = super::things::without(&case, section, at).expect("a shaped table");
+            assert_eq!(super::things::count(&less, section), count - 1);
+            assert!(compare(&Proved, &less).is_ok());
+        }
+    }
+}
+
 /// Takes an expression nested seven deep for eight.
 struct CountsOneMore;
 

@@ -122,9 +122,34 @@ fn moved_event(word: u32, section: Section, at: usize) -> Option<u32> {
         event::WAKEUP | event::WAKEUP_VALID | event::WAKEUP_CLEAR => Section::Sources,
         _ => return Some(word),
     };
-    if of != section || (event.index as usize) < at {
+    if of != section {
         return Some(word);
     }
-    let moved = Event { index: event.index - 1, ..event };
+    let mut moved = event;
+    move_up(&mut moved.index, at);
     (event.index as usize != at).then(|| moved.word())
+}
+
+/// The case with an owner's things the platform's: none of them can lose its
+/// owner alone without a clash.
+pub fn without_owner(case: &Case, owner: u32) -> Option<Case> {
+    let mut draft = Draft::of(&shaped(case)?);
+    let mut less = case.clone();
+    let rid = |field: &mut u32| {
+        if *field == owner {
+            *field = PLATFORM;
+        }
+    };
+    draft.ports.iter_mut().for_each(|port| rid(&mut port.owner));
+    draft.networks.iter_mut().for_each(|(network, _)| rid(&mut network.owner));
+    draft.sources.iter_mut().for_each(|source| rid(&mut source.owner));
+    draft.rules.iter_mut().for_each(|rule| rid(&mut rule.owner));
+    draft.lists.iter_mut().for_each(|list| rid(&mut list.owner));
+    less.table = draft.words();
+    for word in &mut less.events {
+        let mut event = Event::of(*word);
+        rid(&mut event.owner);
+        *word = event.word();
+    }
+    Some(less)
 }
