@@ -32,6 +32,7 @@ pub fn all() -> Vec<Hostile> {
         asked("expressions 7 deep, 256 rules", expressions(7)),
         plain("expressions, the last 8 deep", expressions(8)),
         plain("expressions, and rules beside a row of seven", both()),
+        asked("255 lists chosen at once, last one first", chosen()),
         asked("4,080 rule items of expressions 7 deep", rule_items()),
     ]
 }
@@ -182,6 +183,19 @@ fn both() -> Draft {
     draft.rules.resize(256, rule(300, NO_LIST, NO_LIST));
     draft.lists = lists.lists;
     draft.items = lists.items;
+    draft
+}
+
+/// One event chooses every list there can be, by slow expressions, and the
+/// lists run in the order opposite to their numbers.
+fn chosen() -> Draft {
+    let mut draft = expressions(7);
+    draft.items = vec![Item::default(); 15];
+    let list = |priority| List { priority, first: 0, count: 15, ..Default::default() };
+    draft.lists = (0..FULL as u32).map(list).collect();
+    for number in 0..FULL as u32 {
+        draft.rules[number as usize] = rule(12 + number, number, number);
+    }
     draft
 }
 
