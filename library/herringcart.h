@@ -18,8 +18,10 @@
  *   - While the call runs, no other thread, interrupt or device writes what is lent, and none reads what the call
  *     writes. The table may stand in read-only memory, and any number of calls may read it at the same time.
  *
- * The calls keep nothing: no global or static data, no heap, no file, no lock. They may be interrupted, called again
- * from elsewhere on other states, and they always return. They call memcpy and memset, which every C compiler supplies.
+ * The calls keep nothing: no global or static data, no heap, no file, no lock. They may be interrupted and called again
+ * from elsewhere on other states. They need memcpy and memset of the C library and nothing else.
+ *
+ * That each call ends and what it gives is proved of the Rattle functions. The compiler and its back end are trusted.
  * A call takes at most HERRINGCART_STACK_BYTES of stack. That is measured, not proved: stack.c, run by the gate, makes
  * the calls go as deep as a table can. The deepest took 11 KiB, for lists and expressions nest at most seven deep and
  * the local arrays have 1 KiB each.
