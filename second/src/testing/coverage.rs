@@ -152,6 +152,12 @@ impl fmt::Display for Row {
 /// How many cases met each row.
 pub struct Coverage(BTreeMap<Row, usize>);
 
+impl Default for Coverage {
+    fn default() -> Self {
+        Coverage::new()
+    }
+}
+
 impl Coverage {
     /// Every row there must be, met by none yet.
     pub fn new() -> Self {

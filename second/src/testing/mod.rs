@@ -1,14 +1,15 @@
 //! Everything that `test` runs.
 
-mod coverage;
+pub mod coverage;
 mod demand3;
 mod fixed;
 mod properties;
+mod recorded;
 mod traces;
 
 use std::panic::catch_unwind;
 
-use crate::cases::{Cases, Made};
+use crate::cases::{Case, Cases, Made};
 use coverage::Coverage;
 
 /// Each seed's first cases are run.
@@ -60,7 +61,24 @@ pub fn test() -> bool {
     tally.failed == 0
 }
 
-fn generated(made: &Made, coverage: &mut Coverage) -> Result<(), String> {
+/// A fixed case that was run: whether it held, and what it asked of the rules.
+pub struct Ran {
+    pub name: &'static str,
+    pub outcome: Result<(), String>,
+    pub asked: Vec<Case>,
+}
+
+/// Runs the fixed cases for another program to be asked the same.
+pub fn run_fixed() -> Vec<Ran> {
+    let run = |(name, case): (&'static str, fn())| {
+        let outcome = catch_unwind(case).map_err(|panic| panic_text(&*panic));
+        Ran { name, outcome, asked: recorded::asked() }
+    };
+    fixed::all().into_iter().map(run).collect()
+}
+
+/// Tries everything on a generated case and counts what it met.
+pub fn generated(made: &Made, coverage: &mut Coverage) -> Result<(), String> {
     let tried = catch_unwind(|| properties::try_case(made));
     let met = tried.map_err(|panic| panic_text(&*panic))??;
     coverage.count(&met).map_err(|row| format!("met what cannot be: {row}"))

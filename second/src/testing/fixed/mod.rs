@@ -32,10 +32,10 @@ mod states;
 mod streams;
 mod timers;
 
+use super::recorded::{check, check_state, fresh, step};
 use crate::cases::draft::Draft;
 use crate::words::event::*;
 use crate::words::*;
-use crate::{check, fresh, step};
 
 pub fn all() -> Vec<(&'static str, fn())> {
     [

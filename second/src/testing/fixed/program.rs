@@ -4,7 +4,8 @@ use std::process::{Command, Output};
 
 use super::marked::MARKED;
 use super::*;
-use crate::program::{printed, run};
+use crate::program::run;
+use crate::testing::recorded::printed;
 
 fn bytes(words: &[u32]) -> Vec<u8> {
     words.iter().flat_map(|word| word.to_be_bytes()).collect()

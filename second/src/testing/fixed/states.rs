@@ -2,7 +2,6 @@
 
 use super::shape::BASE;
 use super::*;
-use crate::check_state;
 
 /// Ports 0 immediate mode, 1 the network's, 2 the source's, 3 immediate event,
 /// 4 timer of 3; rules 5 and 6; network 7 with E-ticks 5, L1 3, L2 10; source 8

@@ -2,7 +2,8 @@
 
 use super::marked::MARKED;
 use crate::cases::Case;
-use crate::stream::{case_words, read_case, result_words, write_words};
+use crate::stream::{case_words, read_case, write_words};
+use crate::testing::recorded::result_words;
 
 fn marked_case(room: usize) -> Case {
     Case { table: MARKED.to_vec(), state: vec![0; 4], room, events: vec![0x1100_0500] }

@@ -1,0 +1,152 @@
+//! One case through both sides, every answer and every lent word compared.
+
+use std::fmt;
+
+use second::cases::Case;
+use second::state::state_length;
+use second::stream::{STATE_FILL, TRACE_FILL};
+use second::words::{HEADER, Table};
+
+use crate::subject::Subject;
+
+/// The first thing the two sides say differently.
+#[derive(Clone, PartialEq, Eq, Debug)]
+pub struct Difference {
+    pub what: String,
+    pub proved: Vec<u32>,
+    pub second: Vec<u32>,
+}
+
+impl fmt::Display for Difference {
+    fn fmt(&self, f: &mut fmt::Formatter) -> fmt::Result {
+        let (proved, second) = (Words(&self.proved), Words(&self.second));
+        writeln!(f, "differs: {}\n  proved: {proved}\n  second: {second}", self.what)
+    }
+}
+
+/// Words in eight hex digits.
+pub struct Words<'a>(pub &'a [u32]);
+
+impl fmt::Display for Words<'_> {
+    fn fmt(&self, f: &mut fmt::Formatter) -> fmt::Result {
+        let words: Vec<String> = self.0.iter().map(|word| format!("{word:08X}")).collect();
+        f.write_str(&words.join(" "))
+    }
+}
+
+/// Guard words on each side of what is lent: more than one call could step
+/// over by a miscounted thing.
+const GUARDS: usize = 64;
+const GUARD: u32 = 0xC3C3_C3C3;
+
+/// Words lent out of the middle of a larger buffer, so that a word written
+/// outside them shows.
+#[derive(Clone, PartialEq, Eq)]
+struct Lent(Vec<u32>);
+
+impl Lent {
+    fn of(words: &[u32]) -> Self {
+        Lent([&[GUARD; GUARDS], words, &[GUARD; GUARDS]].concat())
+    }
+
+    fn filled(length: usize, fill: u32) -> Self {
+        Lent::of(&vec![fill; length])
+    }
+
+    fn words(&mut self) -> &mut [u32] {
+        let end = self.0.len() - GUARDS;
+        &mut self.0[GUARDS..end]
+    }
+}
+
+/// A number beside words; one that is no word shows as the largest.
+fn as_word(number: usize) -> u32 {
+    u32::try_from(number).unwrap_or(u32::MAX)
+}
+
+/// Fails with both sides' words where they differ.
+fn same(what: impl FnOnce() -> String, proved: &[u32], second: &[u32]) -> Result<(), Difference> {
+    if proved == second {
+        return Ok(());
+    }
+    Err(Difference { what: what(), proved: proved.to_vec(), second: second.to_vec() })
+}
+
+/// As `same`; where a guard differs, the guards are shown too.
+fn same_lent(what: &dyn Fn() -> String, proved: &Lent, second: &Lent) -> Result<(), Difference> {
+    if proved == second {
+        return Ok(());
+    }
+    let (mut proved, mut second) = (proved.clone(), second.clone());
+    same(what, proved.words(), second.words())?;
+    same(|| format!("{}, outside what was lent", what()), &proved.0, &second.0)
+}
+
+/// Everything both sides say of a case, in the order of the calls.
+pub fn compare(subject: &impl Subject, case: &Case) -> Result<(), Difference> {
+    let untouched = Lent::of(&case.table);
+    let mut table = untouched.clone();
+    compare_check(subject, table.words())?;
+    compare_fresh(subject, table.words(), case.state.len())?;
+    compare_fit(subject, table.words(), &case.state)?;
+    same_lent(&|| "table after the checks".into(), &table, &untouched)?;
+    let mut states = [Lent::of(&case.state), Lent::of(&case.state)];
+    for (number, &event) in case.events.iter().enumerate() {
+        let what = |part: &str| format!("event {number} ({event:08X}), {part}");
+        compare_event(subject, table.words(), case.room, event, &mut states, &what)?;
+        same_lent(&|| what("table"), &table, &untouched)?;
+    }
+    Ok(())
+}
+
+fn compare_check(subject: &impl Subject, table: &[u32]) -> Result<(), Difference> {
+    let (proved, second) = (subject.check(table), second::check(table));
+    same(
+        || "check: reason, place, B".into(),
+        &[proved.reason, as_word(proved.place), proved.bound],
+        &[second.reason, as_word(second.place), as_word(second.b)],
+    )?;
+    // A missing header word counts as 0.
+    let mut header = table[..table.len().min(HEADER)].to_vec();
+    header.resize(HEADER, 0);
+    let length = Table::of(&header).map_or(0, |header| state_length(&header));
+    same(|| "state words".into(), &[as_word(subject.state_words(table))], &[as_word(length)])
+}
+
+fn compare_fresh(subject: &impl Subject, table: &[u32], length: usize) -> Result<(), Difference> {
+    let mut proved = Lent::filled(length, STATE_FILL);
+    let mut second = proved.clone();
+    let answer = subject.fresh(table, proved.words());
+    same(|| "fresh, answer".into(), &[answer], &[second::fresh(table, second.words())])?;
+    same_lent(&|| "fresh, state".into(), &proved, &second)
+}
+
+fn compare_fit(subject: &impl Subject, table: &[u32], state: &[u32]) -> Result<(), Difference> {
+    let untouched = Lent::of(state);
+    let mut lent = untouched.clone();
+    let proved = subject.check_state(table, lent.words());
+    same(|| "state check".into(), &[proved], &[second::check_state(table, state)])?;
+    same_lent(&|| "state check, state".into(), &lent, &untouched)
+}
+
+/// One event; the states, the proved side's first, are passed on.
+fn compare_event(
+    subject: &impl Subject,
+    table: &[u32],
+    room: usize,
+    event: u32,
+    [state, judged]: &mut [Lent; 2],
+    what: &dyn Fn(&str) -> String,
+) -> Result<(), Difference> {
+    let mut trace = Lent::filled(room, TRACE_FILL);
+    let mut expected = trace.clone();
+    let proved = subject.step(table, state.words(), trace.words(), event);
+    let second = second::step(table, judged.words(), expected.words(), event);
+    same(
+        || what("answer, count"),
+        &[proved.number, as_word(proved.count)],
+        &[second.answer, as_word(second.count)],
+    )?;
+    same_lent(&|| what("state"), state, judged)?;
+    same_lent(&|| what("trace"), &trace, &expected)
+}

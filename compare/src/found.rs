@@ -1,0 +1,66 @@
+//! `compare fixed`: what the second program's fixed cases ask, and the cases
+//! that a hunt has found, through both sides.
+
+use std::collections::BTreeSet;
+use std::fs::{self, File};
+use std::io::BufReader;
+use std::path::{Path, PathBuf};
+
+use second::cases::Case;
+use second::stream::{case_words, read_case, write_words};
+use second::testing::run_fixed;
+
+use crate::differ::compare;
+use crate::generated::told;
+use crate::subject::Proved;
+
+/// Where found cases are kept: in the source, for they are fixed cases.
+pub fn folder() -> PathBuf {
+    Path::new(env!("CARGO_MANIFEST_DIR")).join("found")
+}
+
+pub fn fixed() -> Result<(), String> {
+    // A case that fails is told with its name, not by its panic.
+    std::panic::set_hook(Box::new(|_| {}));
+    let ran = run_fixed();
+    let fixed = ran.len();
+    let mut seen = BTreeSet::new();
+    for case in ran {
+        case.outcome.map_err(|what| format!("fixed case {}: {what}", case.name))?;
+        for asked in case.asked.iter().filter(|&asked| seen.insert(case_words(asked))) {
+            compare(&Proved, asked).map_err(|_| told(case.name, asked))?;
+        }
+    }
+    let found = replay(&folder())?;
+    println!("{fixed} fixed cases asked {} things: no difference", seen.len());
+    println!("{found} found cases: no difference");
+    Ok(())
+}
+
+/// Every case file of the folder; gives how many cases there were.
+fn replay(folder: &Path) -> Result<usize, String> {
+    let tell = |why: std::io::Error| format!("cannot read {}: {why}", folder.display());
+    let mut cases = 0;
+    for entry in fs::read_dir(folder).map_err(tell)? {
+        let path = entry.map_err(tell)?.path();
+        if path.extension().is_none_or(|kind| kind != "case") {
+            continue;
+        }
+        let mut input = BufReader::new(File::open(&path).map_err(tell)?);
+        while let Some(case) = read_case(&mut input).map_err(tell)? {
+            cases += 1;
+            compare(&Proved, &case).map_err(|_| told(&path.display().to_string(), &case))?;
+        }
+    }
+    Ok(cases)
+}
+
+/// Adds a case to the folder.
+pub fn keep(name: &str, case: &Case) -> Result<PathBuf, String> {
+    let path = folder().join(name).with_extension("case");
+    let mut bytes = vec![];
+    write_words(&mut bytes, &case_words(case))
+        .and_then(|()| fs::write(&path, bytes))
+        .map_err(|why| format!("cannot write {}: {why}", path.display()))?;
+    Ok(path)
+}

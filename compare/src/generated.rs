@@ -1,0 +1,49 @@
+//! `compare cases`: the second program's generator through both sides.
+
+use second::cases::{Case, Cases};
+use second::testing;
+use second::testing::coverage::Coverage;
+
+use crate::differ::{Words, compare};
+use crate::number;
+use crate::shrink::smallest_difference;
+use crate::subject::Proved;
+
+/// Seeds, each with how many of its first cases are run.
+pub fn cases(pairs: &[&str]) -> Result<(), String> {
+    let (pairs, rest) = pairs.as_chunks::<2>();
+    if !rest.is_empty() {
+        return Err("each seed needs its count".into());
+    }
+    let mut coverage = Coverage::new();
+    let (mut cases, mut events) = (0, 0);
+    for [seed, count] in pairs {
+        let (seed, count): (u64, usize) = (number(seed)?, number(count)?);
+        for (place, made) in Cases::new(seed).take(count).enumerate() {
+            compare(&Proved, &made.case)
+                .map_err(|_| told(&format!("case {place} of seed {seed}"), &made.case))?;
+            testing::generated(&made, &mut coverage)
+                .map_err(|what| format!("case {place} of seed {seed}, second program: {what}"))?;
+            events += made.case.events.len();
+        }
+        cases += count;
+    }
+    println!("cases  coverage\n{coverage}");
+    println!("{cases} cases, {events} events: no difference");
+    match &coverage.missing()[..] {
+        [] => Ok(()),
+        missing => Err(missing.iter().map(|row| format!("no case met: {row}\n")).collect()),
+    }
+}
+
+/// A case that differs, made as small as it goes, with what each side says.
+pub fn told(name: &str, case: &Case) -> String {
+    let (case, difference) = smallest_difference(&Proved, case);
+    let Case { table, state, room, events } = &case;
+    format!(
+        "{name}, made smaller:\ntable: {}\nstate: {}\nroom: {room}\nevents: {}\n{difference}",
+        Words(table),
+        Words(state),
+        Words(events)
+    )
+}

@@ -1,0 +1,52 @@
+//! The proved code, as linked from its library, beside the second program.
+
+mod bench;
+mod differ;
+mod found;
+mod generated;
+mod hunt;
+mod programs;
+mod shrink;
+mod subject;
+
+use std::process::ExitCode;
+
+const USAGE: &str = "usage: compare cases SEED COUNT [SEED COUNT ...]
+       compare fixed
+       compare hunt SECONDS
+       compare run TABLE EVENTS
+       compare programs DIR COUNT SEED PROGRAM...
+       compare bench
+       compare bench-programs PROGRAM...";
+
+fn main() -> ExitCode {
+    let args: Vec<String> = std::env::args().skip(1).collect();
+    let args: Vec<&str> = args.iter().map(String::as_str).collect();
+    let done = match args[..] {
+        ["cases", ref pairs @ ..] if !pairs.is_empty() => generated::cases(pairs),
+        ["fixed"] => found::fixed(),
+        ["hunt", seconds] => hunt::hunt(seconds),
+        ["run", table, events] => programs::run(table, events),
+        ["programs", folder, count, seed, ref program @ ..] if !program.is_empty() => {
+            programs::programs(folder, count, seed, program)
+        }
+        ["bench"] => bench::bench(),
+        ["bench-programs", ref program @ ..] if !program.is_empty() => bench::programs(program),
+        _ => {
+            eprintln!("{USAGE}");
+            return ExitCode::from(2);
+        }
+    };
+    match done {
+        Ok(()) => ExitCode::SUCCESS,
+        Err(message) => {
+            eprintln!("compare: {message}");
+            ExitCode::FAILURE
+        }
+    }
+}
+
+/// A number off the command line.
+fn number<N: std::str::FromStr>(text: &str) -> Result<N, String> {
+    text.parse().map_err(|_| format!("not a number: {text}"))
+}

@@ -1,0 +1,136 @@
+//! Both programs byte for byte, and the proved code as document 01's program.
+
+use std::fmt::Write as _;
+use std::fs;
+use std::io::{self, Write as _};
+use std::path::{Path, PathBuf};
+use std::process::{Command, Output};
+use std::time::Duration;
+
+use second::cases::{Case, Cases};
+use second::program::{printed, words};
+
+use crate::differ::Words;
+use crate::number;
+use crate::shrink::smallest;
+
+/// How long a case is made smaller; each try starts the program.
+const LIMIT: Duration = Duration::from_secs(60);
+
+/// Document 01's program over the proved library, in this process.
+pub fn run(table: &str, events: &str) -> Result<(), String> {
+    let read = |path: &str| fs::read(path).map_err(|why| format!("cannot read {path}: {why}"));
+    let (table, events) = (words(&read(table)?), words(&read(events)?));
+    let lines = by_library(&table, &events);
+    io::stdout().lock().write_all(lines.as_bytes()).map_err(|why| format!("cannot print: {why}"))
+}
+
+fn by_library(table: &[u32], events: &[u32]) -> String {
+    let check = herringcart::check_table(table);
+    if !check.accepted() {
+        return format!("{}\n{}\n", check.reason, check.place);
+    }
+    let mut state = vec![0; herringcart::state_words(table)];
+    let mut trace = vec![0; check.bound as usize];
+    herringcart::make_fresh(table, &mut state);
+    let mut lines = String::new();
+    for &event in events {
+        let answer = herringcart::take_event(table, &mut state, &mut trace, event);
+        let _ = writeln!(lines, "{}", answer.number);
+        for word in state.iter().chain(&trace[..answer.count]) {
+            let _ = writeln!(lines, "{word:08X}");
+        }
+    }
+    lines
+}
+
+/// The program's command line and the two files it is given.
+pub struct Program<'a> {
+    command: &'a [&'a str],
+    table: PathBuf,
+    events: PathBuf,
+}
+
+impl<'a> Program<'a> {
+    pub fn new(folder: &str, command: &'a [&'a str]) -> Result<Self, String> {
+        fs::create_dir_all(folder).map_err(|why| format!("cannot make {folder}: {why}"))?;
+        let file = |name: &str| Path::new(folder).join(name);
+        Ok(Program { command, table: file("table"), events: file("events") })
+    }
+
+    pub fn write(&self, table: &[u8], events: &[u8]) -> Result<(), String> {
+        fs::write(&self.table, table)
+            .and_then(|()| fs::write(&self.events, events))
+            .map_err(|why| format!("cannot write {}: {why}", self.table.display()))
+    }
+
+    /// Starts the program on its two files.
+    pub fn start(&self) -> Result<Output, String> {
+        let (name, arguments) = self.command.split_first().ok_or("no program")?;
+        let mut command = Command::new(name);
+        command.args(arguments).arg(&self.table).arg(&self.events);
+        command.output().map_err(|why| format!("cannot start {name}: {why}"))
+    }
+
+    /// Fails where its standard output is not the second program's.
+    fn compare(&self, table: &[u8], events: &[u8]) -> Result<(), String> {
+        self.write(table, events)?;
+        let output = self.start()?;
+        let expected = printed(table, events);
+        if output.stdout == expected.as_bytes() && output.status.code().is_some() {
+            return Ok(());
+        }
+        let given = String::from_utf8_lossy(&output.stdout);
+        let line = given.lines().zip(expected.lines()).take_while(|(g, e)| g == e).count();
+        Err(format!(
+            "{}, output differs at line {}: {:?} where the second program has {:?}; {}",
+            output.status,
+            line + 1,
+            given.lines().nth(line),
+            expected.lines().nth(line),
+            String::from_utf8_lossy(&output.stderr)
+        ))
+    }
+}
+
+/// Whole words, and for some cases bytes past the last, which are ignored.
+pub fn bytes(words: &[u32], past: usize) -> Vec<u8> {
+    let bytes = words.iter().flat_map(|word| word.to_be_bytes());
+    bytes.chain([0x5A, 0xA5, 0xFF].into_iter().take(past)).collect()
+}
+
+pub fn programs(folder: &str, count: &str, seed: &str, command: &[&str]) -> Result<(), String> {
+    let (count, seed): (usize, u64) = (number(count)?, number(seed)?);
+    let program = Program::new(folder, command)?;
+    for (place, made) in Cases::new(seed).take(count).enumerate() {
+        let past = place % 4;
+        let compare = |case: &Case| {
+            program.compare(&bytes(&case.table, past), &bytes(&case.events, 3 - past))
+        };
+        // The program makes its own state and lends B.
+        let case = Case { state: vec![], room: 0, ..made.case };
+        if let Err(what) = compare(&case) {
+            let case = smallest(&case, |case| compare(case).is_err(), LIMIT);
+            let what = compare(&case).err().unwrap_or(what);
+            let (table, events) = (Words(&case.table), Words(&case.events));
+            return Err(format!(
+                "case {place} of seed {seed}, made smaller:\ntable: {table}\nevents: {events}\n{what}"
+            ));
+        }
+    }
+    missing_files(&program)?;
+    println!("{count} cases of seed {seed}: the same bytes; an unreadable file is told");
+    Ok(())
+}
+
+/// A file that cannot be read is a message on standard error and no output.
+fn missing_files(program: &Program) -> Result<(), String> {
+    for missing in [&program.events, &program.table] {
+        fs::remove_file(missing).map_err(|why| why.to_string())?;
+        let output = program.start()?;
+        if !output.stdout.is_empty() || output.stderr.is_empty() {
+            return Err(format!("without {}: {output:?}", missing.display()));
+        }
+    }
+    Ok(())
+}

@@ -1,0 +1,161 @@
+//! Making a case smaller for as long as it still differs.
+
+mod things;
+
+#[cfg(test)]
+mod tests;
+
+use std::time::{Duration, Instant};
+
+use second::cases::Case;
+use second::stream::TRACE_FILL;
+use second::words::SECTIONS;
+
+use crate::differ::{Difference, compare};
+use crate::subject::Subject;
+
+/// The longest that one case is made smaller.
+const LIMIT: Duration = Duration::from_secs(20);
+
+/// The smallest case found that the two sides differ on, and how they differ.
+pub fn smallest_difference(subject: &impl Subject, case: &Case) -> (Case, Difference) {
+    let differs = |case: &Case| compare(subject, case).is_err();
+    let case = smallest(case, differs, LIMIT);
+    let difference = compare(subject, &case).err().unwrap_or_else(|| Difference {
+        what: "nothing any more: a side does not answer alike when asked again".into(),
+        proved: vec![],
+        second: vec![],
+    });
+    (case, difference)
+}
+
+/// Makes a case smaller while `differs` holds of it, until no way is left or
+/// the time is over.
+pub fn smallest(case: &Case, differs: impl Fn(&Case) -> bool, limit: Duration) -> Case {
+    let end = Instant::now() + limit;
+    let differs = |case: &Case| Instant::now() < end && differs(case);
+    let mut shrinking = Shrinking { case: case.clone(), differs: &differs };
+    loop {
+        let before = shrinking.case.clone();
+        shrinking.pass();
+        if shrinking.case == before || Instant::now() >= end {
+            return shrinking.case;
+        }
+    }
+}
+
+struct Shrinking<'a> {
+    case: Case,
+    differs: &'a dyn Fn(&Case) -> bool,
+}
+
+impl Shrinking<'_> {
+    /// Every way once, the ones that take most away first.
+    fn pass(&mut self) {
+        self.cut_events();
+        self.begin_later();
+        self.cut_events();
+        for section in SECTIONS.into_iter().rev() {
+            let count = |case: &Case| things::count(case, section);
+            self.cut(count, |case, at| things::without(case, section, at));
+        }
+        self.cut(
+            |case| case.table.len(),
+            |case, at| Some(without_word(case, |c| &mut c.table, at)),
+        );
+        self.cut(
+            |case| case.state.len(),
+            |case, at| Some(without_word(case, |c| &mut c.state, at)),
+        );
+        for owner in 1..16 {
+            if let Some(less) = things::without_owner(&self.case, owner) {
+                self.take(less);
+            }
+        }
+        self.clear(|case| &mut case.table);
+        self.clear(|case| &mut case.state);
+        self.clear(|case| &mut case.events);
+        self.less_room();
+    }
+
+    /// Takes the candidate if it is another case and differs.
+    fn take(&mut self, candidate: Case) -> bool {
+        let taken = candidate != self.case && (self.differs)(&candidate);
+        if taken {
+            self.case = candidate;
+        }
+        taken
+    }
+
+    fn cut_events(&mut self) {
+        let count = |case: &Case| case.events.len();
+        self.cut(count, |case, at| Some(without_word(case, |c| &mut c.events, at)));
+    }
+
+    /// Takes things out, by halves, quarters and so on down to one at a time,
+    /// from the last one on.
+    fn cut(
+        &mut self,
+        count: impl Fn(&Case) -> usize,
+        without: impl Fn(&Case, usize) -> Option<Case>,
+    ) {
+        let mut piece = count(&self.case);
+        while piece > 0 {
+            let mut end = count(&self.case);
+            while end > 0 {
+                let start = end.saturating_sub(piece);
+                let out = |case: Option<Case>, at| case.and_then(|case| without(&case, at));
+                if let Some(less) = (start..end).rev().fold(Some(self.case.clone()), out) {
+                    self.take(less);
+                }
+                end = start;
+            }
+            piece /= 2;
+        }
+    }
+
+    /// Begins with the state that the first event leaves, without that event.
+    fn begin_later(&mut self) {
+        while self.case.events.len() > 1 {
+            let mut later = self.case.clone();
+            let (event, mut trace) = (later.events.remove(0), vec![TRACE_FILL; later.room]);
+            second::step(&later.table, &mut later.state, &mut trace, event);
+            if !self.take(later) {
+                break;
+            }
+        }
+    }
+
+    /// Puts 0 in the place of words, and then of single bits.
+    fn clear(&mut self, words: impl Fn(&mut Case) -> &mut Vec<u32>) {
+        for at in 0..words(&mut self.case.clone()).len() {
+            let mut candidate = self.case.clone();
+            let word = std::mem::take(&mut words(&mut candidate)[at]);
+            if word == 0 || self.take(candidate) {
+                continue;
+            }
+            for bit in (0..32).map(|bit| 1 << bit).filter(|bit| word & bit != 0) {
+                let mut candidate = self.case.clone();
+                words(&mut candidate)[at] &= !bit;
+                self.take(candidate);
+            }
+        }
+    }
+
+    fn less_room(&mut self) {
+        for room in [0, second::check(&self.case.table).b, self.case.room / 2] {
+            if room < self.case.room {
+                self.take(Case { room, ..self.case.clone() });
+            }
+        }
+        while self.case.room > 0
+            && self.take(Case { room: self.case.room - 1, ..self.case.clone() })
+        {}
+    }
+}
+
+fn without_word(case: &Case, words: impl Fn(&mut Case) -> &mut Vec<u32>, at: usize) -> Case {
+    let mut less = case.clone();
+    words(&mut less).remove(at);
+    less
+}

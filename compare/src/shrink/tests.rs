@@ -1,0 +1,108 @@
+//! A side made wrong on purpose is found and its case made small.
+
+use herringcart::Answer;
+use second::cases::{Case, Cases};
+use second::words::*;
+
+use super::smallest_difference;
+use crate::differ::compare;
+use crate::subject::{Proved, Subject};
+
+/// The first of a seed's cases on which a wrong side shows, made small.
+fn found(wrong: &impl Subject) -> Case {
+    let mut cases = Cases::new(6).take(4000).map(|made| made.case);
+    let case = cases.find(|case| compare(wrong, case).is_err()).expect("a case that shows it");
+    assert!(compare(&Proved, &case).is_ok());
+    let (small, _) = smallest_difference(wrong, &case);
+    assert!(compare(wrong, &small).is_err() && compare(&Proved, &small).is_ok());
+    small
+}
+
+/// Has a timer undefined when it expires.
+struct Undefines;
+
+impl Subject for Undefines {
+    fn step(&self, table: &[u32], state: &mut [u32], trace: &mut [u32], event: u32) -> Answer {
+        let before = state.to_vec();
+        let answer = herringcart::take_event(table, state, trace, event);
+        for (old, new) in before.iter().zip(state) {
+            let (was, is) = (PortState::of(*old), PortState::of(*new));
+            if (was.value, is.value, was.remaining) == (timer::STARTED, timer::EXPIRED, 1) {
+                *new = PortState { defined: 0, ..is }.word();
+            }
+        }
+        answer
+    }
+}
+
+#[test]
+fn wrong_bit_in_an_expiring_timer_is_found_and_its_case_made_small() {
+    let small = found(&Undefines);
+    let table = Table::of(&small.table).expect("a header");
+    assert_eq!((table.count(Section::Ports), small.events.len()), (1, 1));
+    assert!(small.table.len() <= 6, "{small:X?}");
+}
+
+/// Writes a word behind the trace it is lent where a list asks a network.
+struct WritesPast;
+
+impl Subject for WritesPast {
+    fn step(&self, table: &[u32], state: &mut [u32], trace: &mut [u32], event: u32) -> Answer {
+        let answer = herringcart::take_event(table, state, trace, event);
+        let asks = |word: &u32| TraceWord::of(*word).kind == item::NETWORK_REQUEST;
+        if trace[..answer.count].iter().any(asks) {
+            // SAFETY: the comparison lends its words out of a larger buffer.
+            unsafe { *trace.as_mut_ptr().add(trace.len()) = 0 };
+        }
+        answer
+    }
+}
+
+#[test]
+fn word_written_past_the_trace_is_found_and_its_case_made_small() {
+    let small = found(&WritesPast);
+    assert_eq!((small.events.len(), small.room), (1, 2));
+    // Two ports, a network, an expression, a rule, a list, an item.
+    assert!(small.table.len() <= 11, "{small:X?}");
+}
+
+#[test]
+fn one_thing_less_moves_the_names_of_later_ones() {
+    // Whatever is taken out, what is left is a table of one thing less, and both sides read it.
+    let case = Cases::new(1).next().expect("cases have no end").case;
+    for section in SECTIONS {
+        let count = super::things::count(&case, section);
+        for at in 0..count {
+            let less = super::things::without(&case, section, at).expect("a shaped table");
+            assert_eq!(super::things::count(&less, section), count - 1);
+            assert!(compare(&Proved, &less).is_ok());
+        }
+    }
+}
+
+/// Takes an expression nested seven deep for eight.
+struct CountsOneMore;
+
+impl Subject for CountsOneMore {
+    fn check(&self, table: &[u32]) -> herringcart::Check {
+        let check = herringcart::check_table(table);
+        let deep = |table: &Table| {
+            let names = |e: usize| table.expression(e).arguments().collect();
+            let names: Vec<Vec<usize>> =
+                (0..table.count(Section::Expressions)).map(names).collect();
+            second::expressions::depths(&names).iter().position(|depth| *depth == Some(LEVELS))
+        };
+        match Table::of(table).filter(|_| check.accepted()) {
+            Some(read) if deep(&read).is_some() => herringcart::Check { reason: 7, ..check },
+            _ => check,
+        }
+    }
+}
+
+#[test]
+fn wrong_check_is_found_and_its_case_made_small() {
+    let small = found(&CountsOneMore);
+    assert!(small.events.is_empty() && small.state.is_empty());
+    // A port, seven expressions, a rule.
+    assert_eq!(small.table.len(), 12, "{small:X?}");
+}

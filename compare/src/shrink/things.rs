@@ -1,0 +1,155 @@
+//! A case without one thing of its table: the names of later things are moved
+//! up, and the thing's state word and events go with it.
+
+use second::cases::Case;
+use second::cases::draft::Draft;
+use second::state::{start, state_length};
+use second::words::*;
+
+/// The table where its words are as many as its header says; others are made
+/// smaller word by word only.
+fn shaped(case: &Case) -> Option<Table<'_>> {
+    let table = Table::of(&case.table)?;
+    let edition = Head::of(case.table[0]).edition;
+    (edition == EDITION && table.stated_length() == case.table.len()).then_some(table)
+}
+
+pub fn count(case: &Case, section: Section) -> usize {
+    shaped(case).map_or(0, |table| table.count(section))
+}
+
+pub fn without(case: &Case, section: Section, at: usize) -> Option<Case> {
+    let table = shaped(case)?;
+    let mut less = case.clone();
+    let has_state =
+        matches!(section, Section::Ports | Section::Rules | Section::Networks | Section::Sources);
+    if has_state && case.state.len() == state_length(&table) {
+        less.state.remove(start(&table, section) + at);
+    }
+    let mut draft = Draft::of(&table);
+    remove(&mut draft, section, at);
+    less.table = draft.words();
+    less.events = case.events.iter().filter_map(|&e| moved_event(e, section, at)).collect();
+    Some(less)
+}
+
+fn remove(draft: &mut Draft, section: Section, at: usize) {
+    match section {
+        Section::Ports => remove_port(draft, at),
+        Section::Networks => {
+            draft.networks.remove(at);
+            move_items(draft, &[item::NETWORK_REQUEST], at);
+        }
+        Section::Sources => {
+            draft.sources.remove(at);
+        }
+        Section::Expressions => remove_expression(draft, at),
+        Section::Rules => {
+            draft.rules.remove(at);
+            move_items(draft, &[item::RULE], at);
+        }
+        Section::Lists => remove_list(draft, at),
+        Section::Items => remove_item(draft, at),
+    }
+}
+
+/// A name of a later thing than the one taken out is one less.
+fn move_up(name: &mut u32, at: usize) {
+    if *name as usize > at {
+        *name -= 1;
+    }
+}
+
+fn move_items(draft: &mut Draft, kinds: &[u32], at: usize) {
+    draft.items.iter_mut().filter(|i| kinds.contains(&i.kind)).for_each(|i| move_up(&mut i.a, at));
+}
+
+fn remove_port(draft: &mut Draft, at: usize) {
+    draft.ports.remove(at);
+    draft.networks.iter_mut().for_each(|(network, _)| move_up(&mut network.port, at));
+    draft.sources.iter_mut().for_each(|source| move_up(&mut source.port, at));
+    for expression in &mut draft.expressions {
+        if let Expression::Condition(condition) = expression {
+            move_up(&mut condition.port, at);
+        }
+    }
+    move_items(draft, &[item::CLEAR_EVENT, item::START_TIMER, item::STOP_TIMER], at);
+}
+
+fn remove_expression(draft: &mut Draft, at: usize) {
+    draft.expressions.remove(at);
+    for expression in &mut draft.expressions {
+        if let Expression::Operator(operator) = expression {
+            move_up(&mut operator.left, at);
+            move_up(&mut operator.right, at);
+        }
+    }
+    draft.rules.iter_mut().for_each(|rule| move_up(&mut rule.expression, at));
+}
+
+/// A rule loses the list that is taken out.
+fn remove_list(draft: &mut Draft, at: usize) {
+    draft.lists.remove(at);
+    for rule in &mut draft.rules {
+        for name in [&mut rule.true_list, &mut rule.false_list] {
+            match *name {
+                list if list as usize == at => *name = NO_LIST,
+                NO_LIST => {}
+                _ => move_up(name, at),
+            }
+        }
+    }
+    move_items(draft, &[item::LIST], at);
+}
+
+fn remove_item(draft: &mut Draft, at: usize) {
+    draft.items.remove(at);
+    for list in &mut draft.lists {
+        if list.items().contains(&at) {
+            list.count -= 1;
+        } else {
+            move_up(&mut list.first, at);
+        }
+    }
+}
+
+/// None where the event speaks of the thing taken out.
+fn moved_event(word: u32, section: Section, at: usize) -> Option<u32> {
+    let event = Event::of(word);
+    let of = match event.kind {
+        event::MODE_REQUEST | event::EVENT_REQUEST => Section::Ports,
+        event::BUS_OFF => Section::Networks,
+        event::WAKEUP | event::WAKEUP_VALID | event::WAKEUP_CLEAR => Section::Sources,
+        _ => return Some(word),
+    };
+    if of != section {
+        return Some(word);
+    }
+    let mut moved = event;
+    move_up(&mut moved.index, at);
+    (event.index as usize != at).then(|| moved.word())
+}
+
+/// The case with an owner's things the platform's: none of them can lose its
+/// owner alone without a clash.
+pub fn without_owner(case: &Case, owner: u32) -> Option<Case> {
+    let mut draft = Draft::of(&shaped(case)?);
+    let mut less = case.clone();
+    let rid = |field: &mut u32| {
+        if *field == owner {
+            *field = PLATFORM;
+        }
+    };
+    draft.ports.iter_mut().for_each(|port| rid(&mut port.owner));
+    draft.networks.iter_mut().for_each(|(network, _)| rid(&mut network.owner));
+    draft.sources.iter_mut().for_each(|source| rid(&mut source.owner));
+    draft.rules.iter_mut().for_each(|rule| rid(&mut rule.owner));
+    draft.lists.iter_mut().for_each(|list| rid(&mut list.owner));
+    less.table = draft.words();
+    for word in &mut less.events {
+        let mut event = Event::of(*word);
+        rid(&mut event.owner);
+        *word = event.word();
+    }
+    Some(less)
+}

@@ -1,0 +1,30 @@
+//! What is compared with the second program: the proved code. It stands behind
+//! a trait so that the tests can put a wrong one in its place.
+
+use herringcart::{Answer, Check};
+
+pub trait Subject {
+    fn check(&self, table: &[u32]) -> Check {
+        herringcart::check_table(table)
+    }
+
+    fn state_words(&self, table: &[u32]) -> usize {
+        herringcart::state_words(table)
+    }
+
+    fn fresh(&self, table: &[u32], state: &mut [u32]) -> u32 {
+        herringcart::make_fresh(table, state)
+    }
+
+    fn check_state(&self, table: &[u32], state: &[u32]) -> u32 {
+        herringcart::check_state(table, state)
+    }
+
+    fn step(&self, table: &[u32], state: &mut [u32], trace: &mut [u32], event: u32) -> Answer {
+        herringcart::take_event(table, state, trace, event)
+    }
+}
+
+pub struct Proved;
+
+impl Subject for Proved {}

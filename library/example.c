@@ -1,0 +1,130 @@
+/* Runs document 01's marked table through the library, prints what each call gives and holds it against the document.
+ * Leaves with status 1 at the first difference. */
+#include "herringcart.h"
+
+#include <inttypes.h>
+#include <stdio.h>
+#include <stdlib.h>
+#include <string.h>
+
+#define TABLE_WORDS 12
+#define STATE_WORDS 4
+#define BOUND 3
+#define UNTOUCHED UINT32_C(0x55555555)
+
+/* Read-only memory: the calls only read the table. */
+static const uint32_t table[TABLE_WORDS] = {
+    0x01020100, 0x00010001, 0x00010002, 0x01000000, 0x21000000, 0x10102000,
+    0x030A0005, 0x00005000, 0x100000FF, 0x18380002, 0x40000002, 0x00001234,
+};
+
+static uint32_t state[STATE_WORDS];
+
+static void expect(const char *what, uint64_t given, uint64_t expected)
+{
+    if (given != expected) {
+        printf("DIFFERS: %s is %" PRIX64 ", document 01 has %" PRIX64 "\n", what, given, expected);
+        exit(1);
+    }
+}
+
+static void expect_words(const char *what, const uint32_t *given, const uint32_t *expected, size_t words)
+{
+    printf("  %s:", what);
+    for (size_t i = 0; i < words; i++)
+        printf(" %08" PRIX32, given[i]);
+    printf("\n");
+    for (size_t i = 0; i < words; i++)
+        expect(what, given[i], expected[i]);
+}
+
+/* What document 01 says of one event: its answer, the state after it, the trace words written. */
+struct expected {
+    const char *what;
+    uint32_t event;
+    size_t room;
+    uint32_t answer;
+    uint32_t state[STATE_WORDS];
+    size_t count;
+    uint32_t trace[BOUND];
+};
+
+static void take(const struct expected *e)
+{
+    uint32_t trace[BOUND] = {UNTOUCHED, UNTOUCHED, UNTOUCHED};
+    size_t count = 99;
+    uint32_t answer = herringcart_take_event(table, TABLE_WORDS, state, STATE_WORDS, trace, e->room, e->event, &count);
+    printf("%s, event %08" PRIX32 ": answer %" PRIu32 ", count %zu\n", e->what, e->event, answer, count);
+    expect("answer", answer, e->answer);
+    expect("count", count, e->count);
+    expect_words("state", state, e->state, STATE_WORDS);
+    expect_words("trace", trace, e->trace, e->count);
+    for (size_t i = e->count; i < BOUND; i++)
+        expect("a trace word past the count", trace[i], UNTOUCHED);
+}
+
+static void check(void)
+{
+    size_t place = 99;
+    uint32_t bound = 99;
+    uint32_t reason = herringcart_check_table(table, TABLE_WORDS, &place, &bound);
+    printf("check: reason %" PRIu32 ", place %zu, B %" PRIu32 "\n", reason, place, bound);
+    expect("reason", reason, 0);
+    expect("place", place, 0);
+    expect("B", bound, BOUND);
+    expect("state words", herringcart_state_words(table, TABLE_WORDS), STATE_WORDS);
+
+    /* Without its last word the table's length differs; with L1 0 its word 6 breaks its fields. */
+    expect("reason", herringcart_check_table(table, TABLE_WORDS - 1, &place, &bound), 4);
+    expect("B of a refused table", bound, 0);
+    uint32_t wrong[TABLE_WORDS];
+    memcpy(wrong, table, sizeof table);
+    wrong[6] = 0x000A0005;
+    expect("reason", herringcart_check_table(wrong, TABLE_WORDS, &place, &bound), 5);
+    expect("place", place, 6);
+}
+
+static void fresh(void)
+{
+    static const uint32_t zero[STATE_WORDS];
+    memset(state, 0xAA, sizeof state);
+    expect("fresh in three words", herringcart_make_fresh(table, TABLE_WORDS, state, STATE_WORDS - 1), 2);
+    expect("a word after a refusal", state[0], 0xAAAAAAAA);
+    expect("the state check", herringcart_check_state(table, TABLE_WORDS, state, STATE_WORDS), 2);
+    uint32_t answer = herringcart_make_fresh(table, TABLE_WORDS, state, STATE_WORDS);
+    printf("fresh: answer %" PRIu32 "\n", answer);
+    expect("answer", answer, 0);
+    expect_words("state", state, zero, STATE_WORDS);
+    expect("the state check", herringcart_check_state(table, TABLE_WORDS, state, STATE_WORDS), 0);
+}
+
+int main(void)
+{
+    static const struct expected refused[] = {
+        {"malformed", 0x21000500, BOUND, 4, {0}, 0, {0}},
+        {"no event port", 0x21000000, BOUND, 5, {0}, 0, {0}},
+        {"another's port", 0x12000500, BOUND, 6, {0}, 0, {0}},
+        {"two words of room", 0x11000500, 2, 3, {0}, 0, {0}},
+    };
+    static const struct expected run[] = {
+        {"request", 0x11000500, BOUND, 0, {0x81400000, 0, 0x40000000, 0x80000000}, 3, {0xF1000000, 0x41000002, 0x01001234}},
+        {"tick", 0, BOUND, 0, {0x81400000, 0x80800000, 0x40000000, 0x90000005}, 0, {0}},
+        {"bus-off", 0x51000000, BOUND, 0, {0x81400000, 0xC0C00000, 0x40000000, 0xA0080003}, 0, {0}},
+        {"tick 1", 0, BOUND, 0, {0x81400000, 0x80C00000, 0x40000000, 0xA0080002}, 0, {0}},
+        {"tick 2", 0, BOUND, 0, {0x81400000, 0x80C00000, 0x40000000, 0xA0080001}, 0, {0}},
+        {"tick 3, check again", 0, BOUND, 0, {0x81400000, 0x80800000, 0x40000000, 0x90080005}, 0, {0}},
+        {"tick 4", 0, BOUND, 0, {0x81400000, 0x80800000, 0x40000000, 0x90080004}, 0, {0}},
+        {"tick 5", 0, BOUND, 0, {0x81400000, 0x80800000, 0x40000000, 0x90080003}, 0, {0}},
+        {"tick 6", 0, BOUND, 0, {0x81400000, 0x80800000, 0x40000000, 0x90080002}, 0, {0}},
+        {"tick 7", 0, BOUND, 0, {0x81400000, 0x80800000, 0x40000000, 0x90080001}, 0, {0}},
+        {"tick 8, settled", 0, BOUND, 0, {0x81400000, 0x80800000, 0x40000000, 0x98000000}, 0, {0}},
+    };
+    check();
+    fresh();
+    for (size_t i = 0; i < sizeof refused / sizeof *refused; i++)
+        take(&refused[i]);
+    for (size_t i = 0; i < sizeof run / sizeof *run; i++)
+        take(&run[i]);
+    printf("as document 01 has it\n");
+    return 0;
+}

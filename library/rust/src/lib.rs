@@ -1,0 +1,154 @@
+//! The proved mode manager for Rust. Tables, states and traces are slices of
+//! 32-bit words, as document 01 lays them out; answers are document 01's
+//! numbers.
+//!
+//! Every call takes any words: it checks them for itself, and a refusal leaves
+//! every lent word as it was. Nothing is kept between calls, no heap is used,
+//! and calls on different states may run at the same time.
+//!
+//! ```
+//! // Document 01's marked table.
+//! let table = [
+//!     0x0102_0100, 0x0001_0001, 0x0001_0002, 0x0100_0000, 0x2100_0000, 0x1010_2000,
+//!     0x030A_0005, 0x0000_5000, 0x1000_00FF, 0x1838_0002, 0x4000_0002, 0x0000_1234,
+//! ];
+//! let check = herringcart::check_table(&table);
+//! assert!(check.accepted());
+//! let mut state = vec![0; herringcart::state_words(&table)];
+//! let mut trace = vec![0; check.bound as usize];
+//! assert_eq!(herringcart::make_fresh(&table, &mut state), 0);
+//! let answer = herringcart::take_event(&table, &mut state, &mut trace, 0x1100_0500);
+//! assert_eq!(answer.number, 0);
+//! assert_eq!(trace[..answer.count], [0xF100_0000, 0x4100_0002, 0x0100_1234]);
+//! ```
+#![no_std]
+
+/// What a table check gives.
+#[derive(Clone, Copy, PartialEq, Eq, Debug)]
+pub struct Check {
+    /// 0, or the first of document 01's reasons 1 to 9 that holds.
+    pub reason: u32,
+    /// The lowest word that breaks the rule; 0 for reasons 0 to 4 and 9.
+    pub place: usize,
+    /// B, how many trace words each event must be lent; 0 for a refused table.
+    pub bound: u32,
+}
+
+impl Check {
+    /// Whether events can be taken with this table.
+    pub fn accepted(self) -> bool {
+        self.reason == 0
+    }
+}
+
+/// What an event is answered with.
+#[derive(Clone, Copy, PartialEq, Eq, Debug)]
+pub struct Answer {
+    /// 0 done; 1 the table has a reason; 2 the state does not fit; 3 the trace
+    /// is shorter than B; 4 the event word is malformed; 5 no such thing; 6 the
+    /// thing has another owner.
+    pub number: u32,
+    /// How many words were written at the front of the trace; 0 if refused.
+    pub count: usize,
+}
+
+impl Answer {
+    /// Whether the event was taken.
+    pub fn done(self) -> bool {
+        self.number == 0
+    }
+}
+
+mod c {
+    // As library/herringcart.h declares them. A slice is lent as its pointer
+    // and its length in words.
+    unsafe extern "C" {
+        pub fn herringcart_check_table(
+            table: *const u32,
+            table_words: usize,
+            place: *mut usize,
+            bound: *mut u32,
+        ) -> u32;
+        pub fn herringcart_state_words(table: *const u32, table_words: usize) -> usize;
+        pub fn herringcart_make_fresh(
+            table: *const u32,
+            table_words: usize,
+            state: *mut u32,
+            state_words: usize,
+        ) -> u32;
+        pub fn herringcart_check_state(
+            table: *const u32,
+            table_words: usize,
+            state: *const u32,
+            state_words: usize,
+        ) -> u32;
+        pub fn herringcart_take_event(
+            table: *const u32,
+            table_words: usize,
+            state: *mut u32,
+            state_words: usize,
+            trace: *mut u32,
+            trace_words: usize,
+            event: u32,
+            count: *mut usize,
+        ) -> u32;
+    }
+}
+
+// Why each call below is sound: a slice's pointer is never null, aligned and
+// valid for its whole length, which is at most isize::MAX bytes; what is lent
+// as &mut overlaps nothing else; and the borrows last for the whole call.
+
+// The calls always write these; were one not to, no 0 may hide it.
+const UNWRITTEN: (usize, u32) = (usize::MAX, u32::MAX);
+
+/// Checks a table: its first reason and place, or 0 and B.
+pub fn check_table(table: &[u32]) -> Check {
+    let (mut place, mut bound) = UNWRITTEN;
+    // SAFETY: see above; place and bound are locals of their own.
+    let reason =
+        unsafe { c::herringcart_check_table(table.as_ptr(), table.len(), &mut place, &mut bound) };
+    Check { reason, place, bound }
+}
+
+/// How many words a state of this table has, P+R+N+S. This reads the header
+/// alone, with 0 for a missing word, and so says nothing of the table.
+pub fn state_words(table: &[u32]) -> usize {
+    // SAFETY: see above.
+    unsafe { c::herringcart_state_words(table.as_ptr(), table.len()) }
+}
+
+/// Makes a fresh state: 0; or 1 for a bad table and 2 for a wrong length, and
+/// then writes nothing.
+pub fn make_fresh(table: &[u32], state: &mut [u32]) -> u32 {
+    // SAFETY: see above.
+    unsafe {
+        c::herringcart_make_fresh(table.as_ptr(), table.len(), state.as_mut_ptr(), state.len())
+    }
+}
+
+/// Checks a state: 0 if it fits, 1 for a bad table, 2 if it does not fit.
+pub fn check_state(table: &[u32], state: &[u32]) -> u32 {
+    // SAFETY: see above.
+    unsafe { c::herringcart_check_state(table.as_ptr(), table.len(), state.as_ptr(), state.len()) }
+}
+
+/// Takes one event. Done, the state is the next one and the trace's first
+/// `count` words are new; refused, no word has changed.
+pub fn take_event(table: &[u32], state: &mut [u32], trace: &mut [u32], event: u32) -> Answer {
+    let (mut count, _) = UNWRITTEN;
+    // SAFETY: see above; count is a local of its own.
+    let number = unsafe {
+        c::herringcart_take_event(
+            table.as_ptr(),
+            table.len(),
+            state.as_mut_ptr(),
+            state.len(),
+            trace.as_mut_ptr(),
+            trace.len(),
+            event,
+            &mut count,
+        )
+    };
+    Answer { number, count }
+}

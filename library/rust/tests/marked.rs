@@ -1,0 +1,71 @@
+//! Document 01's marked table, number by number, through the wrapper.
+
+use herringcart::{Answer, Check, check_state, check_table, make_fresh, state_words, take_event};
+
+const TABLE: [u32; 12] = [
+    0x0102_0100, 0x0001_0001, 0x0001_0002, 0x0100_0000, 0x2100_0000, 0x1010_2000, 0x030A_0005,
+    0x0000_5000, 0x1000_00FF, 0x1838_0002, 0x4000_0002, 0x0000_1234,
+];
+const TICK: u32 = 0;
+const REQUEST: u32 = 0x1100_0500;
+const BUS_OFF: u32 = 0x5100_0000;
+const UNTOUCHED: u32 = 0x5555_5555;
+
+/// Takes one event with B trace words lent; gives the answer and the trace.
+fn take(state: &mut [u32], event: u32) -> (Answer, [u32; 3]) {
+    let mut trace = [UNTOUCHED; 3];
+    (take_event(&TABLE, state, &mut trace, event), trace)
+}
+
+fn quiet(state: &mut [u32], events: &[u32]) {
+    for &event in events {
+        assert_eq!(take(state, event), (Answer { number: 0, count: 0 }, [UNTOUCHED; 3]));
+    }
+}
+
+#[test]
+fn the_marked_run() {
+    assert_eq!(check_table(&TABLE), Check { reason: 0, place: 0, bound: 3 });
+    assert_eq!(state_words(&TABLE), 4);
+    let mut state = [0xAAAA_AAAA; 4];
+    assert_eq!(make_fresh(&TABLE, &mut state), 0);
+    assert_eq!((state, check_state(&TABLE, &state)), ([0; 4], 0));
+    let (answer, trace) = take(&mut state, REQUEST);
+    assert_eq!(answer, Answer { number: 0, count: 3 });
+    assert_eq!(trace, [0xF100_0000, 0x4100_0002, 0x0100_1234]);
+    assert_eq!(state, [0x8140_0000, 0, 0x4000_0000, 0x8000_0000]);
+    quiet(&mut state, &[TICK]);
+    assert_eq!(state, [0x8140_0000, 0x8080_0000, 0x4000_0000, 0x9000_0005]);
+    quiet(&mut state, &[BUS_OFF]);
+    assert_eq!(state, [0x8140_0000, 0xC0C0_0000, 0x4000_0000, 0xA008_0003]);
+    quiet(&mut state, &[TICK; 3]);
+    assert_eq!(state[3], 0x9008_0005);
+    quiet(&mut state, &[TICK; 5]);
+    assert_eq!(state[3], 0x9800_0000);
+}
+
+#[test]
+fn the_marked_refusals_change_nothing() {
+    let mut state = [0; 4];
+    for (event, number) in [(0x2100_0500, 4), (0x2100_0000, 5), (0x1200_0500, 6)] {
+        assert_eq!(take(&mut state, event), (Answer { number, count: 0 }, [UNTOUCHED; 3]));
+    }
+    let mut short = [UNTOUCHED; 2];
+    let answer = take_event(&TABLE, &mut state, &mut short, REQUEST);
+    assert_eq!((answer, short), (Answer { number: 3, count: 0 }, [UNTOUCHED; 2]));
+    assert_eq!(take_event(&TABLE[..11], &mut state, &mut short, REQUEST).number, 1);
+    assert_eq!(take_event(&TABLE, &mut state[..3], &mut short, REQUEST).number, 2);
+    assert_eq!(state, [0; 4]);
+}
+
+#[test]
+fn refused_tables_and_states() {
+    assert_eq!(check_table(&[]), Check { reason: 1, place: 0, bound: 0 });
+    let mut wrong = TABLE;
+    wrong[6] = 0;
+    assert_eq!(check_table(&wrong), Check { reason: 5, place: 6, bound: 0 });
+    let mut state = [7; 4];
+    assert_eq!((make_fresh(&wrong, &mut state), make_fresh(&TABLE, &mut state[..3])), (1, 2));
+    assert_eq!((check_state(&wrong, &state), check_state(&TABLE, &state)), (1, 2));
+    assert_eq!(state, [7; 4]);
+}
