@@ -143,6 +143,9 @@ fn item_names(t: &[u32], h: Layout, i: u32) -> bool
 {
     let w = sections::item_word(t, h, i);
     let kind = table::item_kind(w);
+    if kind == 0 {
+        return true;
+    }
     let a = table::item_a(w);
     let named = sections::port_word(t, a);
     let port_kind = table::port_kind(named);

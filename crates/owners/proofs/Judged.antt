@@ -1,14 +1,15 @@
 -- What the loops of rule 8 find, said of the rulebook's definitions. Assumes nothing.
 use Prim.Native.Nat.{ℕ, _+_, _-_, _<_, _≤_}
-use mathlib.Core.Path.{_≡_, refl, sym, _∙_}
-use mathlib.Core.Bool.{false, _&&_, not}
+use mathlib.Core.Path.{_≡_, refl, sym, ap, _∙_}
+use mathlib.Core.Bool.{Bool, true, false, _&&_, _||_, not, and-true, or-true}
 use mathlib.Core.List.{List}
 use native.Mathlib.Omega.{arith}
 use lib.ListN.{length}
-use lib.Dec.{eqb}
+use lib.Dec.{eqb, leb}
+use borrow.Author.Tests.{ne-eqb}
 use native.Mathlib.Nat.{zero-add}
-use Rattle.rulebook.specs.Words.{field, all, first}
-use Rattle.rulebook.specs.Table.{part, atList, portWord, listWord, stranger, listsFrom, itemsFrom, lists, items}
+use Rattle.rulebook.specs.Words.{field, implies, between, all, first}
+use Rattle.rulebook.specs.Table.{part, atList, portWord, networkWord, ruleWord, listWord, itemWord, itemA, portOwner, networkOwner, ruleOwner, listOwner, stranger, listsFrom, itemsFrom, lists, items}
 use Rattle.rulebook.specs.Reasons.{strangersPort, itemOwned, owners, breaks, lowest}
 use Rattle.walks.proofs.Walks.{first-before, first-after, first-none, same-first}
 use Rattle.words.specs.declared.sections.Layout.{Layout}
@@ -19,6 +20,53 @@ use Rattle.words.proofs.Places.{list-part, item-part}
 pub strange : (t : List ℕ) (o p w x : ℕ) → w ≡ portWord t p → x ≡ field 4 4 w → (not (eqb x o) && not (eqb x 0)) ≡ strangersPort t o p
 unfolding strangersPort stranger
 strange t o p w x hw hx = rw (hx, hw)
+
+-- An item of word w and kind k, where what it may name has owner o or not.
+
+judged : Bool → Bool → Bool → Bool → Bool → ℕ → Bool
+judged list rule port network free k =
+    implies (eqb k 5) list && implies (eqb k 6) rule && (free || implies (between 1 3 k) port) && (free || implies (eqb k 4) network)
+
+and-trues : (a : Bool) → (a && true && true) ≡ a
+and-trues true = refl
+and-trues false = refl
+
+module _ (list rule port network free : Bool) where
+  judged-call : judged list rule port network free 0 ≡ true
+  unfolding judged
+  judged-call = rw or-true
+
+  judged-list : judged list rule port network free 5 ≡ list
+  unfolding judged
+  judged-list = rw or-true (ap (λ (x : Bool). x && true) (and-trues list) ∙ and-true list)
+
+  judged-rule : judged list rule port network free 6 ≡ rule
+  unfolding judged
+  judged-rule = rw or-true (and-trues rule)
+
+  judged-other : (k : ℕ) → eqb k 5 ≡ false → eqb k 6 ≡ false
+      → judged list rule port network free k ≡ ((free || implies (between 1 3 k) port) && (free || implies (eqb k 4) network))
+  unfolding judged
+  judged-other k a b = rw (a, b)
+
+module _ (t : List ℕ) (o i w k : ℕ) (hw : w ≡ itemWord t i) (hk : k ≡ field 0 4 w) where
+  is-judged : itemOwned t o i ≡ judged (eqb (listOwner t (itemA t i)) o) (eqb (ruleOwner t (itemA t i)) o) (eqb (portOwner t (itemA t i)) o) (eqb (networkOwner t (itemA t i)) o) (eqb o 0) k
+  unfolding itemOwned judged
+  is-judged = rw (hk, hw)
+
+  pub call-owned : k ≡ 0 → true ≡ itemOwned t o i
+  call-owned e = sym (rw e at is-judged ∙ judged-call _ _ _ _ _)
+
+  module _ (a : ℕ) (ha : a ≡ field 4 12 w) where
+    pub list-owned : (v x : ℕ) → v ≡ listWord t a → x ≡ field 0 4 v → k ≡ 5 → eqb x o ≡ itemOwned t o i
+    list-owned v x hv hx e = sym (rw e at is-judged ∙ judged-list _ _ _ _ _ ∙ rw (hx, hv, ha, hw))
+
+    pub rule-owned : (v x : ℕ) → v ≡ ruleWord t a → x ≡ field 0 4 v → k ≡ 6 → eqb x o ≡ itemOwned t o i
+    rule-owned v x hv hx e = sym (rw e at is-judged ∙ judged-rule _ _ _ _ _ ∙ rw (hx, hv, ha, hw))
+
+    pub other-owned : (v x u y : ℕ) → v ≡ portWord t a → x ≡ field 4 4 v → u ≡ networkWord t a → y ≡ field 0 4 u → (k ≡ 5 → ⊥) → (k ≡ 6 → ⊥)
+        → ((eqb o 0 || (not (leb 1 k && leb k 3) || eqb x o)) && (eqb o 0 || (not (eqb k 4) || eqb y o))) ≡ itemOwned t o i
+    other-owned v x u y hv hx hu hy f g = sym (is-judged ∙ judged-other _ _ _ _ _ k (ne-eqb k 5 f) (ne-eqb k 6 g) ∙ rw (hx, hv, hy, hu, ha, hw))
 
 -- A list, judged with its items.
 

@@ -82,7 +82,7 @@ fn rule_owned(t: &[u32], h: Layout, r: u32) -> bool
         & ((false_list == 255) | (false_owner == owner))
 }
 
-// Whether item i may stand in a list of owner o.
+// Whether item i may stand in a list of owner o. Most items name nothing, so what is named is read by the item's kind.
 fn item_owned(t: &[u32], h: Layout, o: u32, i: u32) -> bool
     requires { ⌜ Laid (now t) h ⌝ }
     ensures { λ r. ⌜ r ≡ itemOwned (now (t .entry)) o i ⌝ }
@@ -90,17 +90,20 @@ fn item_owned(t: &[u32], h: Layout, o: u32, i: u32) -> bool
     let w = sections::item_word(t, h, i);
     let kind = table::item_kind(w);
     let a = table::item_a(w);
-    let list_word = sections::list_word(t, h, a);
-    let rule_word = sections::rule_word(t, h, a);
-    let port_word = sections::port_word(t, a);
-    let network_word = sections::network_word(t, h, a);
-    let list_owner = table::list_owner(list_word);
-    let rule_owner = table::rule_owner(rule_word);
-    let port_owner = table::port_owner(port_word);
-    let network_owner = table::network_owner(network_word);
-    (!(kind == 5) | (list_owner == o))
-        & (!(kind == 6) | (rule_owner == o))
-        & ((o == 0) | (!((1 <= kind) & (kind <= 3)) | (port_owner == o)))
+    if kind == 0 {
+        return true;
+    }
+    if kind == 5 {
+        let owner = table::list_owner(sections::list_word(t, h, a));
+        return owner == o;
+    }
+    if kind == 6 {
+        let owner = table::rule_owner(sections::rule_word(t, h, a));
+        return owner == o;
+    }
+    let port_owner = table::port_owner(sections::port_word(t, a));
+    let network_owner = table::network_owner(sections::network_word(t, h, a));
+    ((o == 0) | (!((1 <= kind) & (kind <= 3)) | (port_owner == o)))
         & ((o == 0) | (!(kind == 4) | (network_owner == o)))
 }
 

@@ -1,14 +1,30 @@
--- `names::item_names` meets its contract: the fields read are the rulebook's. Assumes nothing.
+use mathlib.Core.Path.{_≡_, sym, _∙_, ap}
+use Prim.Native.Nat.{ℕ}
+use mathlib.Core.Bool.{true}
+use mathlib.Core.List.{List}
+use Rattle.rulebook.specs.Words.{field}
+use Rattle.rulebook.specs.Table.{itemWord, itemKind, atItem}
 use Rattle.rulebook.specs.Reasons.{names, itemNames, portOfKind}
+-- `names::item_names` meets its contract: an outside call names nothing, and of another item the fields read are the rulebook's. Assumes nothing.
 use borrow.Author.Needs.{needs}
 use Rattle.names.proofs.item_names.Statement.{statement}
 use Rattle.names.proofs.item_names.Tie as tie
+
+-- an outside call
+call-names : (t : List ℕ) (i w k : ℕ) → w ≡ itemWord t i → k ≡ field 0 4 w → k ≡ 0 → true ≡ names t (atItem i)
+unfolding names itemNames
+call-names t i w k hw hk e =
+    let z : itemKind t i ≡ 0 = sym (hk ∙ ap (field 0 4) hw) ∙ e in
+    rw z
 
 item-word-requires : tie.Need-item-word-requires
 item-word-requires c κs = search needs
 
 item-kind-requires : tie.Need-item-kind-requires
 item-kind-requires c κs = search needs
+
+returns : tie.Need-returns
+returns c = call-names _ _ _ _ (c .before .before .item-word .ensures) (c .before .item-kind .ensures .value) (c .if1 .taken)
 
 item-a-requires : tie.Need-item-a-requires
 item-a-requires c κs = search needs
@@ -19,9 +35,9 @@ port-word-requires c κs = search needs
 port-kind-requires : tie.Need-port-kind-requires
 port-kind-requires c κs = search needs
 
-returns : tie.Need-returns
+returns-2 : tie.Need-returns-2
 unfolding names itemNames portOfKind
-returns c = rw (c .port-kind .ensures .value, c .before .port-word .ensures, c .before .before .item-a .ensures .value, c .before .before .before .item-kind .ensures .value, c .before .before .before .before .before .before .pre .ports .value, c .before .before .before .before .before .before .pre .networks .value, c .before .before .before .before .before .before .pre .lists .value, c .before .before .before .before .before .before .pre .rules .value, c .before .before .before .before .item-word .ensures)
+returns-2 c = rw (c .port-kind .ensures .value, c .before .port-word .ensures, c .before .before .item-a .ensures .value, c .before .before .before .before .item-kind .ensures .value, c .before .before .before .before .before .before .before .pre .ports .value, c .before .before .before .before .before .before .before .pre .networks .value, c .before .before .before .before .before .before .before .pre .lists .value, c .before .before .before .before .before .before .before .pre .rules .value, c .before .before .before .before .before .item-word .ensures)
 
 pub item-names-spec : {M : Type 1} → statement M
 item-names-spec =
@@ -29,7 +45,8 @@ item-names-spec =
     (tie.spec
     item-word-requires
     item-kind-requires
+    returns
     item-a-requires
     port-word-requires
     port-kind-requires
-    returns)
+    returns-2)
