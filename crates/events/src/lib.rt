@@ -76,6 +76,36 @@ pub enum Answer {
     NotItsOwner,
 }
 
+// An answer's number.
+pub fn number(answer: Answer) -> u32
+    ensures { λ r. ⌜ r ≡ numberOf answer ⌝ }
+{
+    match answer {
+        Answer::Done(_) => 0,
+        Answer::BadTable => 1,
+        Answer::UnfitState => 2,
+        Answer::ShortTrace => 3,
+        Answer::Malformed => 4,
+        Answer::NoSuchThing => 5,
+        Answer::NotItsOwner => 6,
+    }
+}
+
+// The count of trace words that an answer reports.
+pub fn count(answer: Answer) -> usize
+    ensures { λ r. ⌜ r ≡ countOf answer ⌝ }
+{
+    match answer {
+        Answer::Done(w) => w.count,
+        Answer::BadTable => 0,
+        Answer::UnfitState => 0,
+        Answer::ShortTrace => 0,
+        Answer::Malformed => 0,
+        Answer::NoSuchThing => 0,
+        Answer::NotItsOwner => 0,
+    }
+}
+
 // The answer of an event that is not taken.
 fn refused(heard: Heard) -> Answer
     ensures { λ r. ⌜ (numberOf r ≡ answerOf heard) × (countOf r ≡ 0) ⌝ }

@@ -1,11 +1,10 @@
 -- Two results that a promise of the calls for C allows are equal. Assumes nothing.
 use Prim.Native.Nat.{ℕ}
-use mathlib.Core.Path.{_≡_, sym, _∙_, ap}
-use mathlib.Core.List.{List, _++_}
-use lib.ListN.{length, drop}
+use mathlib.Core.Path.{_≡_, sym, _∙_}
+use mathlib.Core.List.{List}
 use Rattle.rulebook.specs.Step.{Result}
-use Rattle.tables.specs.Told.{Told}
-use Rattle.gateway.specs.Numbers.{Says, MadeFresh, TakenEvent}
+use Rattle.tables.specs.Told.{Told, Says}
+use Rattle.gateway.specs.Numbers.{MadeFresh, TakenEvent}
 
 pub one-saying : (x : Told) (r r′ p p′ b b′ : ℕ) → Says x r p b → Says x r′ p′ b′ → (r ≡ r′) × (p ≡ p′) × (b ≡ b′)
 one-saying x r r′ p p′ b b′ h k = (h .0 ∙ sym (k .0), h .1 ∙ sym (k .1), h .2 ∙ sym (k .2))

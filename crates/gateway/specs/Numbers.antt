@@ -5,11 +5,6 @@ use mathlib.Core.List.{List, _++_}
 use lib.ListN.{length, drop}
 use Rattle.rulebook.specs.State.{freshAnswer, freshState}
 use Rattle.rulebook.specs.Step.{Result}
-use Rattle.tables.specs.Told.{Told}
-
--- a table check's answer in three numbers: the reason, the place and B, 0 where there is none
-abbrev pub Says : Told → ℕ → ℕ → ℕ → Type 0
-Says x reason place bound = (reason ≡ x .reason) × (place ≡ x .place) × (bound ≡ x .bound)
 
 pub record MadeFresh (t s : List ℕ) (r : ℕ) (after : List ℕ) : Type 0 where
   pub answer : r ≡ freshAnswer t s

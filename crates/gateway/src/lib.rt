@@ -4,79 +4,12 @@ ghost use mathlib.Core.Path.{_≡_};
 ghost use lib.ListN.{length};
 ghost use Rattle.rulebook.specs.State.{stateLength};
 ghost use Rattle.rulebook.specs.Step.{refusedState, step};
-ghost use Rattle.tables.specs.Told.{told, promised};
+ghost use Rattle.tables.specs.Told.{Says, promised};
 ghost use Rattle.states.specs.Made.{numberOf as madeNumber};
-ghost use Rattle.events.specs.Answers.{numberOf, countOf};
 ghost use Rattle.manager.specs.Answers.{stateNumber};
-ghost use Rattle.gateway.specs.Numbers.{Says, MadeFresh, TakenEvent};
-use events::Answer;
+ghost use Rattle.gateway.specs.Numbers.{MadeFresh, TakenEvent};
 use manager::Fit;
 use states::Made;
-use tables::Checked;
-
-// A table check's answer in numbers.
-struct Said {
-    reason: u32,
-    place: usize,
-    bound: u32,
-}
-
-fn numbers(checked: Checked) -> Said
-    ensures { λ r. ⌜ Says (told checked) (r .reason) (r .place) (r .bound) ⌝ }
-{
-    match checked {
-        Checked::Accepted(b) => Said {
-            reason: 0,
-            place: 0,
-            bound: b,
-        },
-        Checked::TooShort => Said {
-            reason: 1,
-            place: 0,
-            bound: 0,
-        },
-        Checked::WrongEdition => Said {
-            reason: 2,
-            place: 0,
-            bound: 0,
-        },
-        Checked::WrongCounts => Said {
-            reason: 3,
-            place: 0,
-            bound: 0,
-        },
-        Checked::WrongLength => Said {
-            reason: 4,
-            place: 0,
-            bound: 0,
-        },
-        Checked::Misfit(i) => Said {
-            reason: 5,
-            place: i,
-            bound: 0,
-        },
-        Checked::Misnamed(i) => Said {
-            reason: 6,
-            place: i,
-            bound: 0,
-        },
-        Checked::TooDeep(i) => Said {
-            reason: 7,
-            place: i,
-            bound: 0,
-        },
-        Checked::OwnersClash(i) => Said {
-            reason: 8,
-            place: i,
-            bound: 0,
-        },
-        Checked::TooDear => Said {
-            reason: 9,
-            place: 0,
-            bound: 0,
-        },
-    }
-}
 
 fn made_number(made: Made) -> u32
     ensures { λ r. ⌜ r ≡ madeNumber made ⌝ }
@@ -98,40 +31,12 @@ fn fit_number(fit: Fit) -> u32
     }
 }
 
-fn answer_number(answer: Answer) -> u32
-    ensures { λ r. ⌜ r ≡ numberOf answer ⌝ }
-{
-    match answer {
-        Answer::Done(_) => 0,
-        Answer::BadTable => 1,
-        Answer::UnfitState => 2,
-        Answer::ShortTrace => 3,
-        Answer::Malformed => 4,
-        Answer::NoSuchThing => 5,
-        Answer::NotItsOwner => 6,
-    }
-}
-
-fn answer_count(answer: Answer) -> usize
-    ensures { λ r. ⌜ r ≡ countOf answer ⌝ }
-{
-    match answer {
-        Answer::Done(w) => w.count,
-        Answer::BadTable => 0,
-        Answer::UnfitState => 0,
-        Answer::ShortTrace => 0,
-        Answer::Malformed => 0,
-        Answer::NoSuchThing => 0,
-        Answer::NotItsOwner => 0,
-    }
-}
-
 // Checks a table: gives its reason, 0 if it is accepted, and writes the place and B.
 #[no_mangle]
 pub extern "C" fn herringcart_check_table(table: &[u32], place: &mut usize, bound: &mut u32) -> u32
     ensures { λ r. ⌜ Says (promised (now (table .entry))) r (now (place .exit)) (now (bound .exit)) ⌝ }
 {
-    let said = numbers(manager::check_table(table));
+    let said = tables::numbers(manager::check_table(table));
     *place = said.place;
     *bound = said.bound;
     said.reason
@@ -173,6 +78,6 @@ pub extern "C" fn herringcart_take_event(
     ensures { λ r. ⌜ TakenEvent (step (now (table .entry)) (now (state .entry)) (length (now (trace .entry))) event) (now (trace .entry)) r (now (count .exit)) (now (state .exit)) (now (trace .exit)) ⌝ }
 {
     let answer = manager::take_event(table, state, trace, event);
-    *count = answer_count(answer);
-    answer_number(answer)
+    *count = events::count(answer);
+    events::number(answer)
 }

@@ -1,7 +1,7 @@
 -- One level of lists, by what the code reads, and the rounds that find them. Assumes nothing.
 use Prim.Native.Nat.{ℕ, zero, suc, _+_, _-_, _<_, _≤_}
 use mathlib.Core.Path.{_≡_, refl, sym, ap, fun-ext, _∙_}
-use mathlib.Core.Bool.{Bool, true, false, cond, _&&_, _||_}
+use mathlib.Core.Bool.{Bool, true, false, _&&_, _||_}
 use mathlib.Core.List.{List}
 use native.Mathlib.Omega.{arith}
 use lib.Dec.{ltb, leb, eqb}
@@ -17,7 +17,7 @@ use Rattle.words.specs.declared.sections.Layout.{Layout}
 use Rattle.words.specs.Sections.{Laid}
 use Rattle.words.proofs.Fill.{zero-word}
 use Rattle.laws.proofs.Tests.{split, clash, and-left, and-right, and-both, and-one-false, or-none, or-intro, or-elim}
-use Rattle.nesting.specs.Depths.{foundBy, nextDepth, Depths, Level}
+use Rattle.nesting.specs.Depths.{foundBy, nextDepth, Depths}
 
 -- item i has the word w, of kind k and with a
 module _ (t : List ℕ) (below : ℕ → Bool) (i w k a : ℕ) (hw : w ≡ itemWord t i) (hk : k ≡ field 0 4 w) (ha : a ≡ field 4 12 w) where

@@ -1,5 +1,6 @@
 -- The table check's answer in document 01's numbers: reason and place, 0 and 0 for an accepted table, and B, 0 for a refused one.
 use Prim.Native.Nat.{ℕ}
+use mathlib.Core.Path.{_≡_}
 use mathlib.Core.Bool.{cond}
 use mathlib.Core.List.{List}
 use Rattle.rulebook.specs.Reasons.{check, accepted, bound as boundOf}
@@ -25,6 +26,10 @@ told (Misnamed i) = refused 6 i
 told (TooDeep i) = refused 7 i
 told (OwnersClash i) = refused 8 i
 told TooDear = refused 9 0
+
+-- a table check's answer in three numbers: the reason, the place and B, 0 where there is none
+abbrev pub Says : Told → ℕ → ℕ → ℕ → Type 0
+Says x reason place bound = (reason ≡ x .reason) × (place ≡ x .place) × (bound ≡ x .bound)
 
 unfoldable pub promised : List ℕ → Told
 promised t = record { reason = check t .reason; place = check t .place; bound = cond (accepted t) (boundOf t) 0 }

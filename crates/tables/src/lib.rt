@@ -2,7 +2,7 @@
 ghost use mathlib.Core.Path.{_≡_};
 ghost use Rattle.rulebook.specs.Reasons.{countsInside};
 ghost use Rattle.words.specs.Sections.{Laid};
-ghost use Rattle.tables.specs.Told.{told, promised};
+ghost use Rattle.tables.specs.Told.{told, promised, Says};
 use cost::bound;
 use fields::first_misfit;
 use names::first_misnamed;
@@ -26,6 +26,70 @@ pub enum Checked {
     TooDeep(usize),
     OwnersClash(usize),
     TooDear,
+}
+
+// A table check's answer in numbers.
+pub struct Said {
+    pub reason: u32,
+    pub place: usize,
+    pub bound: u32,
+}
+
+pub fn numbers(checked: Checked) -> Said
+    ensures { λ r. ⌜ Says (told checked) (r .reason) (r .place) (r .bound) ⌝ }
+{
+    match checked {
+        Checked::Accepted(b) => Said {
+            reason: 0,
+            place: 0,
+            bound: b,
+        },
+        Checked::TooShort => Said {
+            reason: 1,
+            place: 0,
+            bound: 0,
+        },
+        Checked::WrongEdition => Said {
+            reason: 2,
+            place: 0,
+            bound: 0,
+        },
+        Checked::WrongCounts => Said {
+            reason: 3,
+            place: 0,
+            bound: 0,
+        },
+        Checked::WrongLength => Said {
+            reason: 4,
+            place: 0,
+            bound: 0,
+        },
+        Checked::Misfit(i) => Said {
+            reason: 5,
+            place: i,
+            bound: 0,
+        },
+        Checked::Misnamed(i) => Said {
+            reason: 6,
+            place: i,
+            bound: 0,
+        },
+        Checked::TooDeep(i) => Said {
+            reason: 7,
+            place: i,
+            bound: 0,
+        },
+        Checked::OwnersClash(i) => Said {
+            reason: 8,
+            place: i,
+            bound: 0,
+        },
+        Checked::TooDear => Said {
+            reason: 9,
+            place: 0,
+            bound: 0,
+        },
+    }
 }
 
 fn counts_inside(t: &[u32], h: Layout) -> bool
