@@ -1,0 +1,3 @@
+-- What the program prints, and what the functions that lay it promise.
+pub mod Printed
+pub mod Promises
