@@ -51,7 +51,7 @@ traceAfter t s (e ∷ es) trace = traceAfter t (taken t s e .state) es (tracedBy
 -- one event e was taken and its lines stand at `at`
 pub record TookOne (t : List ℕ) (e : ℕ) (s trace out : List ℕ) (at next : ℕ) (s′ trace′ out′ : List ℕ) : Type 0 where
   pub state : s′ ≡ taken t s e .state
-  pub trace : trace′ ≡ tracedBy t s e trace
+  pub words : trace′ ≡ tracedBy t s e trace
   pub lines : PutAt (eventLines t s e) out at next out′
 
 -- the events from a word of the bytes on; none where answers 1 to 3 refuse table, state or room
@@ -66,5 +66,5 @@ pub record TookEvents (t s trace es out : List ℕ) (r : Taken) (s′ trace′ o
   pub full : r .events < length es → length out < length (runLines t s (take (r .events) es)) + most
   pub bytes : r .bytes ≡ length (runLines t s (take (r .events) es))
   pub state : s′ ≡ stateAfter t s (take (r .events) es)
-  pub trace : trace′ ≡ traceAfter t s (take (r .events) es) trace
+  pub words : trace′ ≡ traceAfter t s (take (r .events) es) trace
   pub lines : out′ ≡ lay out 0 (runLines t s (take (r .events) es))

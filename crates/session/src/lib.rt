@@ -128,7 +128,7 @@ struct Answered {
     count: usize,
 }
 
-fn answered(r: Answer) -> Answered
+fn answer_of(r: Answer) -> Answered
     ensures { λ a. ⌜ (a .number ≡ numberOf r) × (a .count ≡ countOf r) ⌝ }
 {
     match r {
@@ -196,7 +196,7 @@ fn take_one(
     ensures { λ r. ⌜ TookOne (now (t .entry)) e (now (s .entry)) (now (trace .entry)) (now (out .entry)) at r (now (s .exit)) (now (trace .exit)) (now (out .exit)) ⌝ }
 {
     let answer = events::handle(t, h, e, s, trace);
-    let told = answered(answer);
+    let told = answer_of(answer);
     let number = told.number;
     let count = told.count;
     lay_lines(out, at, number, s, trace, count)
@@ -210,10 +210,10 @@ fn ready(t: &[u32], s: &[u32], room: usize) -> bool
     let Checked::Accepted(b) = checked else {
         return false;
     };
-    if !states::fits(t, s) {
-        return false;
+    if states::fits(t, s) {
+        return b as usize <= room;
     }
-    b as usize <= room
+    false
 }
 
 // How many events were taken, and how many bytes their lines are.

@@ -1,0 +1,5 @@
+-- Laws of what a session lays.
+pub mod Lines
+pub mod Checks
+pub mod Steps
+pub mod Along
