@@ -1,19 +1,16 @@
 // `run TABLE EVENTS`: document 01's program. Thin: it opens, reads and writes; what is printed is laid by `session`.
-ghost use mathlib.Core.Path.{_≡_};
 ghost use Prim.Native.Nat.{_+_, _≤_};
 ghost use lib.ListN.{length};
+ghost use Rattle.io.specs.Counts.{Counts};
+
+mod space;
+
 use libc::STDERR_FILENO;
 use libc::STDOUT_FILENO;
 use text::input::read_words;
 use text::input::word_count;
 
-// A file opened, and how many bytes of the lent path name it; a descriptor below 0 where it could not be, which has been told then.
-struct File {
-    fd: i32,
-    named: usize,
-}
-
-// An argument that is not there, or that no path can be.
+// An argument that is not there, or that is no path.
 fn missing(name: &[u8]) {
     if os::errno() == libc::EINVAL {
         io::write_all(STDERR_FILENO, b"herringcart: ");
@@ -24,12 +21,20 @@ fn missing(name: &[u8]) {
     }
 }
 
+// A file, and how many bytes of the lent path name it; a descriptor below 0 where it cannot be opened, which has been told then.
+struct File {
+    fd: i32,
+    named: usize,
+}
+
 // Opens the file that the i-th argument names, or says on standard error why it cannot.
-fn open(i: usize, name: &[u8], path: &mut [u8]) -> File {
+fn open(i: usize, name: &[u8], path: &mut [u8]) -> File
+    ensures { λ r. ⌜ Counts (r .named) (now (path .exit)) ⌝ }
+{
     let named = os::arg(i, path);
     if os::errno() != 0 {
         missing(name);
-        return File { fd: -1, named: 0 };
+        return File { fd: -1, named };
     }
     let fd = os::open_read(&path[..named]);
     if fd < 0 {
@@ -38,29 +43,49 @@ fn open(i: usize, name: &[u8], path: &mut [u8]) -> File {
     File { fd, named }
 }
 
-// How much of a block was read; an error is told apart from the end of the file.
-enum Filled {
-    Bytes(usize),
-    Failed,
+// How many bytes were read into a block, and whether a read failed, which is told apart from the end of the file.
+struct Filled {
+    failed: bool,
+    bytes: usize,
+}
+
+// Reads once, into the block from a place on.
+fn read_some(fd: i32, block: &mut [u8], from: usize) -> Filled
+    requires { ⌜ from ≤ length (now block) ⌝ }
+    ensures { λ r. ⌜ from + r .bytes ≤ length (now (block .entry)) ⌝ }
+{
+    let part = &mut block[from..];
+    let got = libc::read(fd, part);
+    let bytes = io::count(got, part);
+    Filled {
+        failed: got < 0,
+        bytes,
+    }
 }
 
 // Reads until the block is full or the file ends, so that only a file's last block can end inside a word, from a pipe too.
-fn fill(fd: i32, block: &mut [u8]) -> Filled {
-    let mut done = 0;
-    while done < block.len() {
-        let got = libc::read(fd, &mut block[done..]);
-        if got < 0 {
-            return Filled::Failed;
+fn fill(fd: i32, block: &mut [u8]) -> Filled
+    ensures { λ r. ⌜ Counts (r .bytes) (now (block .exit)) ⌝ }
+{
+    let mut bytes = 0;
+    while bytes < block.len() {
+        let got = read_some(fd, block, bytes);
+        let n = got.bytes;
+        if n == 0 {
+            return Filled {
+                failed: got.failed,
+                bytes,
+            };
         }
-        if got == 0 {
-            return Filled::Bytes(done);
-        }
-        done += io::count(got, &block[done..]);
+        bytes += n;
     }
-    Filled::Bytes(done)
+    Filled {
+        failed: false,
+        bytes,
+    }
 }
 
-// Writes to standard output; where that fails it says so and answers false.
+// Writes to standard output, or says that it cannot and answers false.
 fn print(out: &[u8]) -> bool {
     let written = io::write_all(STDOUT_FILENO, out);
     if !written {
@@ -69,17 +94,17 @@ fn print(out: &[u8]) -> bool {
     written
 }
 
-// Runs the events of a block and prints their lines; false where they cannot be written.
+// Takes the events of a block and prints their lines; false where they cannot be written.
 fn run_block(t: &[u32], s: &mut [u32], trace: &mut [u32], block: &[u8], out: &mut [u8]) -> bool {
     let total = word_count(block);
     let mut from = 0;
     while from < total {
         let taken = session::take_events(t, s, trace, block, from, out);
-        let n = taken.bytes;
+        let bytes = taken.bytes;
         if taken.events == 0 {
             return false;
         }
-        if !print(&out[..n]) {
+        if !print(&out[..bytes]) {
             return false;
         }
         from += taken.events;
@@ -87,7 +112,7 @@ fn run_block(t: &[u32], s: &mut [u32], trace: &mut [u32], block: &[u8], out: &mu
     true
 }
 
-// Runs one block and reads the next; the bytes that it has, 0 to end.
+// Runs the n bytes of a block and reads the next one; the bytes that it has, 0 to end.
 fn next_block(
     t: &[u32],
     s: &mut [u32],
@@ -97,17 +122,19 @@ fn next_block(
     block: &mut [u8],
     n: usize,
     out: &mut [u8],
-) -> usize {
+) -> usize
+    requires { ⌜ Counts n (now block) ⌝ }
+    ensures { λ r. ⌜ Counts r (now (block .exit)) ⌝ }
+{
     if !run_block(t, s, trace, &block[..n], out) {
         return 0;
     }
-    match fill(fd, block) {
-        Filled::Bytes(m) => m,
-        Filled::Failed => {
-            os::fail(path);
-            0
-        }
+    let filled = fill(fd, block);
+    if filled.failed {
+        os::fail(path);
+        return 0;
     }
+    filled.bytes
 }
 
 // A proved loop has to end, and nothing says that a file does: the turns count down from a number that no run uses up.
@@ -119,8 +146,10 @@ fn run(
     path: &[u8],
     block: &mut [u8],
     first: usize,
-) {
-    let mut out = [0u8; 262144];
+)
+    requires { ⌜ Counts first (now block) ⌝ }
+{
+    let mut out = space::lines();
     let mut n = first;
     let mut turns = u64::MAX;
     while turns > 0 && n > 0 {
@@ -130,32 +159,28 @@ fn run(
 }
 
 fn print_reason(reason: u32, place: u32) {
-    let mut out = [0u8; 22];
+    let mut out = space::reason_lines();
     let n = session::lay_reason(&mut out, reason, place);
     print(&out[..n]);
 }
 
 // The session with a table: its reason, or its run from the fresh state.
-fn session(t: &[u32], fd: i32, path: &[u8], block: &mut [u8], n: usize) {
+fn play(t: &[u32], fd: i32, path: &[u8], block: &mut [u8], n: usize)
+    requires { ⌜ Counts n (now block) ⌝ }
+{
     let opening = session::open(t);
     if opening.reason != 0 {
         print_reason(opening.reason, opening.place);
         return;
     }
-    let mut states = [0u32; 360];
-    let mut traces = [0u32; 4096];
     let words = opening.state;
     let room = opening.trace;
-    manager::make_fresh(t, &mut states[..words]);
-    run(
-        t,
-        &mut states[..words],
-        &mut traces[..room],
-        fd,
-        path,
-        block,
-        n,
-    );
+    let mut states = space::state_words();
+    let mut traces = space::trace_words();
+    let s: &mut [u32] = &mut states[..words];
+    let trace: &mut [u32] = &mut traces[..room];
+    manager::make_fresh(t, s);
+    run(t, s, trace, fd, path, block, n);
 }
 
 // The events file is opened and its first block read before anything is printed.
@@ -167,14 +192,16 @@ fn events(t: &[u32], path: &mut [u8]) {
         return;
     }
     let mut block = io::large_buffer();
-    match fill(fd, &mut block) {
-        Filled::Bytes(n) => session(t, fd, &path[..named], &mut block, n),
-        Filled::Failed => os::fail(&path[..named]),
+    let filled = fill(fd, &mut block);
+    let n = filled.bytes;
+    if filled.failed {
+        os::fail(&path[..named]);
+        return;
     }
+    play(t, fd, &path[..named], &mut block, n);
     libc::close(fd);
 }
 
-// A table has at most 3,185 words. One word more is read: whatever stands behind it, the reason is the same.
 fn main() {
     let mut path = io::buffer();
     let file = open(1, b"TABLE", &mut path);
@@ -183,14 +210,15 @@ fn main() {
     if fd < 0 {
         return;
     }
-    let mut bytes = [0u8; 12744];
-    match fill(fd, &mut bytes) {
-        Filled::Bytes(n) => {
-            libc::close(fd);
-            let mut words = [0u32; 3186];
-            let count = read_words(&bytes[..n], &mut words);
-            events(&words[..count], &mut path);
-        }
-        Filled::Failed => os::fail(&path[..named]),
+    let mut bytes = space::table_bytes();
+    let filled = fill(fd, &mut bytes);
+    let n = filled.bytes;
+    if filled.failed {
+        os::fail(&path[..named]);
+        return;
     }
+    libc::close(fd);
+    let mut words = space::table_words();
+    let count = read_words(&bytes[..n], &mut words);
+    events(&words[..count], &mut path);
 }

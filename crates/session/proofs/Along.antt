@@ -10,6 +10,7 @@ use lib.Seq.{take-suc, getD-drop}
 use lib.Dec.{eqb}
 use borrow.Author.Count.{below-more}
 use Rattle.rulebook.specs.Step.{refusedCall}
+use Rattle.laws.proofs.Tests.{split}
 use Rattle.text.specs.Words.{wordsOf, wordAt}
 use Rattle.text.proofs.Lay.{lay-none}
 use Rattle.session.specs.declared.Taken.{Taken}
@@ -116,6 +117,7 @@ module _ (t s trace es out : List ℕ) where
           state = a .state;
           words = a .words;
           lines = a .lines .bytes;
+          inside = a .inside;
         }
 
 -- The events on offer.
@@ -133,7 +135,14 @@ module _ (t s trace bytes : List ℕ) (from : ℕ) where
         state = refl;
         words = refl;
         lines = sym (lay-none out 0);
+        inside = omega arith;
       }
+
+  -- never more than there are
+  pub offered-within : length (offered t s (length trace) bytes from) ≤ length (wordsOf bytes) - from
+  unfolding offered
+  offered-within =
+      split (eqb (refusedCall t s (length trace)) 0) (λ h. rw h (let l = length-drop from (wordsOf bytes) in omega arith)) (λ h. rw h (omega arith))
 
   module _ (h : eqb (refusedCall t s (length trace)) 0 ≡ true) where
     all-offered : offered t s (length trace) bytes from ≡ drop from (wordsOf bytes)

@@ -55,7 +55,7 @@ lines-long n s ws h =
 -- The two lines of a reason.
 
 pub reason-unlaid : (xs out : List ℕ) → length out < 22 → PutLines 22 xs out 0 out
-reason-unlaid xs out h = let q = lt-leb 22 (length out) h in record { count = rw q; bytes = rw q }
+reason-unlaid xs out h = let q = lt-leb 22 (length out) h in record { count = rw q; bytes = rw q; inside = omega arith }
 
 pub reason-laid : {out o₁ o₂ : List ℕ} {n₁ n₂ : ℕ} (k i : ℕ) → k < 2 ^ 32 → i < 2 ^ 32 → 22 ≤ length out → Put (decimalLine k) out 0 n₁ o₁ → Put (decimalLine i) o₁ n₁ n₂ o₂
     → PutLines 22 (reasonLines (verdict k i)) out n₂ o₂
@@ -68,7 +68,7 @@ reason-laid {out} k i hk hi h p q =
     let second = one-put {line = decimalLine i} (omega (arith, first .place)) q in
     let both = put-more {xs = decimalLine k} {ys = decimalLine i} (omega arith) first second in
     let enough = le-leb 22 (length out) h in
-    record { count = rw enough (both .place ∙ omega arith); bytes = rw enough (both .bytes) }
+    record { count = rw enough (both .place ∙ omega arith); bytes = rw enough (both .bytes); inside = omega (arith, both .place, length-append (decimalLine k) (decimalLine i)) }
 
 -- The lines of an event.
 

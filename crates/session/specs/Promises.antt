@@ -33,6 +33,8 @@ pub record PutAt (xs out : List ℕ) (at next : ℕ) (after : List ℕ) : Type 0
 pub record PutLines (room : ℕ) (xs out : List ℕ) (n : ℕ) (after : List ℕ) : Type 0 where
   pub count : n ≡ cond (leb room (length out)) (length xs) 0
   pub bytes : after ≡ cond (leb room (length out)) (lay out 0 xs) out
+  -- follows where `room` is enough; here for a caller that writes them
+  pub inside : n ≤ length out
 
 -- answers 1 to 3 refuse nothing
 pub record Ready (t s trace : List ℕ) : Type 0 where
@@ -68,3 +70,5 @@ pub record TookEvents (t s trace es out : List ℕ) (r : Taken) (s′ trace′ o
   pub state : s′ ≡ stateAfter t s (take (r .events) es)
   pub words : trace′ ≡ traceAfter t s (take (r .events) es) trace
   pub lines : out′ ≡ lay out 0 (runLines t s (take (r .events) es))
+  -- follows; here for a caller that writes them
+  pub inside : r .bytes ≤ length out
