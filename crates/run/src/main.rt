@@ -10,15 +10,15 @@ use libc::STDOUT_FILENO;
 use text::input::read_words;
 use text::input::word_count;
 
-// An argument that is not there, or that is no path.
+// An argument that is not there, or empty, or longer than a path can be.
 fn missing(name: &[u8]) {
-    if os::errno() == libc::EINVAL {
-        io::write_all(STDERR_FILENO, b"herringcart: ");
-        io::write_all(STDERR_FILENO, name);
-        io::write_all(STDERR_FILENO, b" is missing: run TABLE EVENTS\n");
-    } else {
+    if os::errno() == libc::ENAMETOOLONG {
         os::fail(name);
+        return;
     }
+    io::write_all(STDERR_FILENO, b"herringcart: ");
+    io::write_all(STDERR_FILENO, name);
+    io::write_all(STDERR_FILENO, b" is missing: run TABLE EVENTS\n");
 }
 
 // A file, and how many bytes of the lent path name it; a descriptor below 0 where it cannot be opened, which has been told then.
@@ -32,7 +32,7 @@ fn open(i: usize, name: &[u8], path: &mut [u8]) -> File
     ensures { λ r. ⌜ Counts (r .named) (now (path .exit)) ⌝ }
 {
     let named = os::arg(i, path);
-    if os::errno() != 0 {
+    if named == 0 {
         missing(name);
         return File { fd: -1, named };
     }

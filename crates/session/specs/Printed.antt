@@ -41,3 +41,7 @@ printed table events =
 -- the most bytes that one event prints: its answer's line, and nine bytes for each of 360 state words and 4,096 trace words
 abbrev pub most : ℕ
 most = 2 + 9 * (360 + 4096)
+
+-- how many words of a table file are read, one more than the longest table has: what stands behind them changes nothing
+abbrev pub tableWords : ℕ
+tableWords = 3186
