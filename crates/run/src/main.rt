@@ -1,6 +1,11 @@
 // `run TABLE EVENTS`: document 01's program. Thin: it opens, reads and writes; what is printed is laid by `session`.
 ghost use Prim.Native.Nat.{_+_, _≤_};
 ghost use lib.ListN.{length};
+ghost use mathlib.Core.Bool.{true};
+ghost use mathlib.Core.Path.{_≡_};
+ghost use Rattle.text.specs.Words.{wordsOf};
+ghost use Rattle.session.specs.Printed.{stateAfter, most};
+ghost use Rattle.session.specs.Promises.{Ready};
 ghost use Rattle.io.specs.Counts.{Counts};
 
 mod space;
@@ -95,15 +100,16 @@ fn print(out: &[u8]) -> bool {
 }
 
 // Takes the events of a block and prints their lines; false where they cannot be written.
-fn run_block(t: &[u32], s: &mut [u32], trace: &mut [u32], block: &[u8], out: &mut [u8]) -> bool {
+fn run_block(t: &[u32], s: &mut [u32], trace: &mut [u32], block: &[u8], out: &mut [u8]) -> bool
+    requires { ⌜ Ready (now t) (now s) (now trace) × (most ≤ length (now out)) ⌝ }
+    ensures { λ _. ⌜ Ready (now (t .entry)) (now (s .exit)) (now (trace .exit)) ⌝ }
+    ensures { λ ok. ⌜ (ok ≡ true → now (s .exit) ≡ stateAfter (now (t .entry)) (now (s .entry)) (wordsOf (now (block .entry)))) ⌝ }
+{
     let total = word_count(block);
     let mut from = 0;
     while from < total {
         let taken = session::take_events(t, s, trace, block, from, out);
         let bytes = taken.bytes;
-        if taken.events == 0 {
-            return false;
-        }
         if !print(&out[..bytes]) {
             return false;
         }
@@ -123,8 +129,8 @@ fn next_block(
     n: usize,
     out: &mut [u8],
 ) -> usize
-    requires { ⌜ Counts n (now block) ⌝ }
-    ensures { λ r. ⌜ Counts r (now (block .exit)) ⌝ }
+    requires { ⌜ Counts n (now block) × Ready (now t) (now s) (now trace) × (most ≤ length (now out)) ⌝ }
+    ensures { λ r. ⌜ Counts r (now (block .exit)) × Ready (now (t .entry)) (now (s .exit)) (now (trace .exit)) ⌝ }
 {
     if !run_block(t, s, trace, &block[..n], out) {
         return 0;
@@ -147,7 +153,7 @@ fn run(
     block: &mut [u8],
     first: usize,
 )
-    requires { ⌜ Counts first (now block) ⌝ }
+    requires { ⌜ Counts first (now block) × Ready (now t) (now s) (now trace) ⌝ }
 {
     let mut out = space::lines();
     let mut n = first;

@@ -33,6 +33,10 @@ ready-from t s trace h =
     let c = callable t s (length trace) (eqb-true _ _ h) in
     record { table = c .table; state = c .state; room = c .enough }
 
+pub ready-is : (t s trace : List ℕ) → Ready t s trace → eqb (refusedCall t s (length trace)) 0 ≡ true
+unfolding refusedCall refusedState
+ready-is t s trace ready = rw (ready .table, ready .state, le-ltb (length trace) (bound t) (ready .room))
+
 module _ (t s : List ℕ) (room : ℕ) where
   pub no-table : accepted t ≡ false → false ≡ eqb (refusedCall t s room) 0
   unfolding refusedCall refusedState

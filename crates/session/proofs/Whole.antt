@@ -9,20 +9,25 @@ use native.Mathlib.Omega.{arith}
 use lib.ListN.{length, take, drop, take-append-drop, length-drop}
 use lib.Seq.{drop-drop, take-append-seam}
 use lib.Dec.{eqb}
-use Rattle.rulebook.specs.Reasons.{accepted, check}
-use Rattle.rulebook.specs.State.{fits, fresh}
+use borrow.Author.Tests.{eq-eqb}
+use Rattle.rulebook.specs.Reasons.{accepted, check, bound}
+use Rattle.rulebook.specs.State.{fits, fresh, stateLength, freshAnswer, freshState}
 use Rattle.rulebook.specs.Step.{refusedCall}
 use Rattle.laws.proofs.Tests.{split}
-use Rattle.laws.proofs.Steps.{step-fits}
+use Rattle.laws.proofs.Steps.{step-fits, fresh-fits}
+use Rattle.states.specs.declared.Made.{Made}
+use Rattle.states.specs.Made.{Fresh}
 use Rattle.text.specs.Words.{wordsOf}
 use Rattle.text.specs.Puts.{lay}
 use Rattle.text.proofs.Digits.{below}
+use Rattle.session.specs.declared.Opening.{Opening}
 use Rattle.session.specs.declared.Taken.{Taken}
 use Rattle.session.specs.Printed.{taken, runLines, stateAfter, reasonLines, printed, most}
-use Rattle.session.specs.Promises.{Ready, offered, TookEvents}
+use Rattle.session.specs.Promises.{Opens, Ready, offered, TookEvents}
 use Rattle.session.specs.Blocks.{Calls, Blocks}
 use Rattle.session.specs.Blocks as blocks
-use Rattle.session.proofs.Along.{lines-append, state-append, offered-within, offered-long}
+use Rattle.session.proofs.Steps.{ready-is}
+use Rattle.session.proofs.Along.{lines-append, state-append, offered-long}
 
 -- the events that are left are those taken and those left then
 module _ (t s trace bytes : List ℕ) (from n : ℕ) (within : n ≤ length (offered t s (length trace) bytes from)) where
@@ -95,13 +100,13 @@ pub reason-printed : (table events : List ℕ) → accepted (wordsOf table) ≡ 
 unfolding printed
 reason-printed table events h = rw h
 
--- No call is stuck: with room for one event and an event left it takes one, and the state that it leaves fits again.
+-- No call is stuck: ready, with an event left and with room for one, it takes one, and what it leaves is ready again.
 
 module _ (t s trace bytes : List ℕ) (from : ℕ) (out : List ℕ) (r : Taken) (s₁ w₁ o₁ : List ℕ) (took : TookEvents t s trace (offered t s (length trace) bytes from) out r s₁ w₁ o₁) where
-  pub some-taken : eqb (refusedCall t s (length trace)) 0 ≡ true → from < length (wordsOf bytes) → most ≤ length out → 1 ≤ r .events
+  pub some-taken : Ready t s trace → from < length (wordsOf bytes) → most ≤ length out → 1 ≤ r .events
   unfolding runLines
-  some-taken h left room =
-      let long = offered-long t s trace bytes from h in
+  some-taken ready left room =
+      let long = offered-long t s trace bytes from (ready-is t s trace ready) in
       below (r .events) 1
       (λ none.
       let zero : r .events ≡ 0 = omega arith in
@@ -114,5 +119,32 @@ unfolding stateAfter
 fits-after t s [] h f = f
 fits-after t s (e ∷ es) h f = fits-after t (taken t s e .state) es h (step-fits t s _ e h f)
 
-pub fits-again : {t s trace es out : List ℕ} {r : Taken} {s₁ w₁ o₁ : List ℕ} → accepted t ≡ true → fits t s ≡ true → TookEvents t s trace es out r s₁ w₁ o₁ → fits t s₁ ≡ true
-fits-again h f p = rw (p .state) (fits-after _ _ _ h f)
+pub ready-again : {t s trace es out : List ℕ} {r : Taken} {s₁ w₁ o₁ : List ℕ} → Ready t s trace → length w₁ ≡ length trace → TookEvents t s trace es out r s₁ w₁ o₁ → Ready t s₁ w₁
+ready-again ready same p =
+    record {
+      table = ready .table;
+      state = rw (p .state) (fits-after _ _ _ (ready .table) (ready .state));
+      room = let b = ready .room in omega arith;
+    }
+
+-- What a caller of many calls keeps: the state to come is that of the events left.
+
+pub state-left : (t s trace bytes : List ℕ) (from : ℕ) {out : List ℕ} {r : Taken} {s₁ w₁ o₁ : List ℕ} → TookEvents t s trace (offered t s (length trace) bytes from) out r s₁ w₁ o₁
+    → stateAfter t s (drop from (wordsOf bytes)) ≡ stateAfter t s₁ (drop (from + r .events) (wordsOf bytes))
+state-left t s trace bytes from {r = r} p =
+    rw (left-then t s trace bytes from (r .events) (p .within))
+    (state-append t s (take (r .events) (offered t s (length trace) bytes from)) (drop (from + r .events) (wordsOf bytes)) ∙ rw (p .state))
+
+pub state-none : (t s bytes : List ℕ) (from : ℕ) → length (wordsOf bytes) ≤ from → stateAfter t s (drop from (wordsOf bytes)) ≡ s
+unfolding stateAfter
+state-none t s bytes from h = rw (drop-none from (wordsOf bytes) h)
+
+-- A fresh state of the sizes that an opening asks for is ready.
+pub opens-ready : {t s₀ s trace : List ℕ} {o : Opening} {m : Made} → Opens t o → o .reason ≡ 0 → length s₀ ≡ o .state → Fresh t s₀ m s → length trace ≡ o .trace → Ready t s trace
+unfolding freshAnswer freshState
+opens-ready {t} {s₀} {s} {trace} opens none long made room =
+    let ok : accepted t ≡ true = eq-eqb (check t .reason) 0 (sym (opens .reason) ∙ none) in
+    let right = eq-eqb (length s₀) (stateLength t) (long ∙ rw ok at (opens .state)) in
+    let is : s ≡ fresh t = rw (ok, right) at (made .state) in
+    let enough : length trace ≡ bound t = room ∙ rw ok at (opens .trace) in
+    record { table = ok; state = rw is (fresh-fits t ok); room = omega arith }

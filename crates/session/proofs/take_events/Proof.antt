@@ -70,7 +70,7 @@ read-word-requires c κs = search needs
 take-one-requires : tie.Need-take-one-requires Inv-loop μ-loop
 take-one-requires c κs =
     let l = c .before .before .before .before .before .before .before .loop in
-    let free = leb-true 40106 (c .before .before .before .before .before .past2 .result) (c .before .before .before .before .if2 .taken) in
+    let free = leb-true _ (c .before .before .before .before .before .past2 .result) (c .before .before .before .before .if2 .taken) in
     (c .before .before .before .before .before .before .before .before .before .before .read-layout .ensures, l .inv .ready, omega (arith, c .before .before .before .before .before .past2 .ensures))
 
 -- src/lib.rt:251:9
@@ -88,7 +88,7 @@ loop-again c =
     let l = c .before .before .before .before .before .before .before .before .before .before .before .before .before .before .loop in
     let ok = sym (c .before .before .before .before .before .before .before .before .before .before .before .before .before .before .before .before .before .before .before .ready .ensures) ∙ not-false _ (c .before .before .before .before .before .before .before .before .before .before .before .before .before .before .before .before .before .before .if1 .left) in
     let long = offered-long (a .t .now) (a .s .now) (a .trace .now) (a .bytes .now) (a .from) ok in
-    let free = leb-true 40106 (c .before .before .before .before .before .before .before .before .before .before .before .before .past2 .result) (c .before .before .before .before .before .before .before .before .before .before .before .if2 .taken) in
+    let free = leb-true _ (c .before .before .before .before .before .before .before .before .before .before .before .before .past2 .result) (c .before .before .before .before .before .before .before .before .before .before .before .if2 .taken) in
     next _ _ _ _ _ _ _ _ _ _ (l .inv) _ _ _ _ _ (omega (arith, c .before .before .before .before .before .before .before .before .before .before .before .before .before .before .before .past .ensures, c .before .before .before .before .before .before .before .before .before .before .before .before .before .before .before .before .word-count .ensures))
     (omega (arith, c .before .before .before .before .before .before .before .before .before .before .before .before .past2 .ensures, l .inv .outLong))
     (offered-at (a .t .now) (a .s .now) (a .trace .now) (a .bytes .now) (a .from) ok (l .i) _ (c .before .before .before .before .before .before .before .before .before .before .read-word .ensures)) (c .before .before .before .before .before .before .take-one .ensures)
@@ -109,7 +109,7 @@ same-length-4 c = c .before .before .before .loop .inv .outLong
 returns-2 : tie.Need-returns-2 Inv-loop μ-loop
 returns-2 c =
     let l = c .before .before .before .loop in
-    let full = leb-false 40106 (c .before .past2 .result) (c .if2 .left) in
+    let full = leb-false _ (c .before .past2 .result) (c .if2 .left) in
     end _ _ _ _ _ _ _ _ _ _ (l .inv) _ refl refl (λ h. omega (arith, c .before .past2 .ensures, l .inv .outLong))
 
 -- src/lib.rt:228:1
