@@ -1,7 +1,8 @@
--- `run::play` is safe: what an opening asks for fits. Assumes nothing.
+-- `run::play` is safe: what an opening asks for fits, and the fresh state is ready. Assumes nothing.
 use mathlib.Core.Path.{sym}
 use native.Mathlib.Omega.{arith}
 use lib.Seq.{length-take-le}
+use Rattle.session.proofs.Whole.{opens-ready}
 use borrow.Author.Needs.{needs}
 use Rattle.run.proofs.play.Statement.{statement}
 use Rattle.run.proofs.play.Tie as tie
@@ -56,7 +57,12 @@ make-fresh-requires c κs = search needs
 
 -- src/main.rt:183:5
 run-requires : tie.Need-run-requires
-run-requires c κs = search needs
+run-requires c κs =
+    let o = c .before .before .before .before .before .before .before .before .before .before .before .«open» .ensures in (
+      c .before .before .before .before .before .before .before .before .before .before .before .before .before .before .before .pre,
+      opens-ready o (c .before .before .before .before .before .before .before .before .before .if1 .left) (length-take-le _ _ (omega (arith, o .smallState, c .before .before .before .before .before .before .before .before .state-words .ensures))) (c .before .before .before .make-fresh .ensures)
+          (length-take-le _ _ (omega (arith, o .smallTrace, c .before .before .before .before .before .before .before .trace-words .ensures))),
+    )
 
 -- src/main.rt:168:1
 same-length : tie.Need-same-length
