@@ -1,14 +1,14 @@
 -- What the table check's answer says of sizes and places. Assumes nothing.
-use Prim.Native.Nat.{ℕ, _+_, _*_, _<_, _≤_}
-use mathlib.Core.Path.{_≡_, refl, sym, ap, _∙_}
-use mathlib.Core.Bool.{Bool, true, false, cond}
+use Prim.Native.Nat.{ℕ, _+_, _≤_}
+use mathlib.Core.Path.{_≡_, ap, _∙_}
+use mathlib.Core.Bool.{Bool, true, false}
 use mathlib.Core.List.{List}
 use native.Mathlib.Omega.{arith}
 use lib.ListN.{length}
-use lib.Dec.{ltb, eqb}
+use lib.Dec.{ltb}
 use borrow.Author.Tests.{ltb-true, eqb-true}
 use Rattle.rulebook.specs.Table.{Part, tableLength}
-use Rattle.rulebook.specs.Reasons.{hasHeader, knownEdition, countsInside, exactLength, ownFields, names, nesting, owners, affordable, bound, accepted, Verdict, verdict, lowest, wholly, wordwise, check}
+use Rattle.rulebook.specs.Reasons.{hasHeader, knownEdition, countsInside, exactLength, ownFields, names, nesting, owners, affordable, bound, accepted, Verdict, lowest, wholly, wordwise, check}
 use Rattle.rulebook.specs.State.{stateLength}
 use Rattle.laws.specs.Facts.{Counts}
 use Rattle.laws.proofs.Tests.{split}
@@ -18,7 +18,7 @@ use Rattle.words.specs.Sections.{Laid}
 use Rattle.tables.specs.declared.Checked.{Checked}
 use Rattle.tables.specs.Told.{Told, told, promised}
 use Rattle.session.specs.Promises.{Opens}
-use Rattle.tables.proofs.Chain.{from1, from2, from3, from4, from5, from6, from7, from8, from9, kept, broken}
+use Rattle.tables.proofs.Chain.{from1, from3, from4, from5, kept, broken}
 
 pub longest : (t : List ℕ) → Counts t → tableLength t ≤ 3185
 longest t c = let a = c .ports in let b = c .networks in let d = c .sources in let e = c .expressions in let f = c .rules in let g = c .lists in let h = c .items in omega arith

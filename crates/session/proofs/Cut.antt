@@ -1,5 +1,5 @@
 -- A table file may be cut behind 3,186 words: the check reads of a longer one only that it is longer. Assumes nothing.
-use Prim.Native.Nat.{ℕ, zero, suc, _+_, _*_, _<_, _≤_}
+use Prim.Native.Nat.{ℕ, zero, suc, _*_, _<_}
 use mathlib.Core.Path.{_≡_, refl, sym, ap, _∙_}
 use mathlib.Core.Bool.{true, false}
 use mathlib.Core.List.{List, [], _∷_}
@@ -11,10 +11,10 @@ use Rattle.rulebook.specs.Table.{tableLength}
 use Rattle.rulebook.specs.Reasons.{hasHeader, knownEdition, countsInside, exactLength, accepted, Verdict, verdict, wholly, check}
 use Rattle.laws.proofs.Tests.{split}
 use Rattle.laws.proofs.Facts.{facts, counts-of}
-use Rattle.tables.proofs.Chain.{from1, from2, from3, from4, from5, kept, broken}
+use Rattle.tables.proofs.Chain.{from1, from2, from4, from5, kept, broken}
 use Rattle.text.specs.Words.{wordsOf}
 use Rattle.text.proofs.Digits.{below}
-use Rattle.session.specs.Printed.{printed, reasonLines, tableWords}
+use Rattle.session.specs.Printed.{printed, tableWords}
 use Rattle.session.proofs.Checks.{longest}
 
 -- What the check is of a table that is too long: reason 2, 3 or 4.

@@ -3,14 +3,14 @@
 use Prim.Native.Nat.{ℕ, _+_, _*_, _<_, _≤_}
 use mathlib.Core.Path.{_≡_, refl, sym, ap, _∙_}
 use mathlib.Core.Bool.{true, false}
-use mathlib.Core.List.{List, _++_}
+use mathlib.Core.List.{List}
 use native.Mathlib.Omega.{arith}
-use lib.ListN.{length, take, drop, length-append, length-drop}
+use lib.ListN.{length, take, length-append, length-drop}
 use lib.Seq.{take-append-seam}
 use lib.Dec.{eqb, leb}
 use borrow.Author.Tests.{le-ltb, lt-ltb, le-leb, leb-false, leb-true, eqb-true}
 use Rattle.rulebook.specs.Reasons.{bound, accepted}
-use Rattle.rulebook.specs.State.{fits, stateLength}
+use Rattle.rulebook.specs.State.{fits}
 use Rattle.rulebook.specs.Events.{happen}
 use Rattle.rulebook.specs.Step.{Result, refusedState, refusedCall, step, handle}
 use Rattle.laws.proofs.Tests.{split}

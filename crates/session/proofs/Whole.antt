@@ -1,12 +1,12 @@
 -- Calls and blocks one after the other print what `printed` says of the whole, and none is ever stuck. Assumes nothing.
-use Prim.Native.Nat.{ℕ, zero, suc, _+_, _-_, _%_, _<_, _≤_}
+use Prim.Native.Nat.{ℕ, zero, suc, _+_, _%_, _<_, _≤_}
 use mathlib.Core.Path.{_≡_, refl, sym, ap, _∙_}
 use mathlib.Core.Bool.{true, false}
 use mathlib.Core.Logic.{_⊎_, ⊎-elim}
 use mathlib.Core.List.{List, [], _∷_, _++_, append-nil}
-use native.Mathlib.Nat.{zero-add, add-zero}
+use native.Mathlib.Nat.{add-zero}
 use native.Mathlib.Omega.{arith}
-use lib.ListN.{length, take, drop, take-append-drop, length-drop}
+use lib.ListN.{length, take, drop, take-append-drop}
 use lib.Seq.{drop-drop, take-append-seam}
 use lib.Dec.{eqb}
 use borrow.Author.Tests.{eq-eqb}

@@ -6,9 +6,6 @@ use lib.ListN.{length}
 use lib.Seq.{length-take-le}
 use Rattle.run.proofs.fill.Statement.{statement}
 use Rattle.run.proofs.fill.Tie as tie
-use Rattle.run.proofs.fill.Reads as reads
-use Rattle.run.proofs.fill.Lts as lts
-use Rattle.run.proofs.read_some.Reads as read-some-reads
 
 abbrev Inv-loop : tie.InvT-loop
 Inv-loop fd block₀ bytes₀ block bytes = (bytes ≤ length block) × (length block ≡ length block₀)
@@ -16,39 +13,30 @@ Inv-loop fd block₀ bytes₀ block bytes = (bytes ≤ length block) × (length 
 abbrev μ-loop : tie.MeasureT-loop
 μ-loop fd block₀ bytes₀ block bytes = length block₀ - bytes
 
--- src/main.rt:68:5
 loop-holds : tie.Need-loop-holds Inv-loop μ-loop
 loop-holds c = (omega arith, refl)
 
--- src/main.rt:69:13
 read-some-requires : tie.Need-read-some-requires Inv-loop μ-loop
 read-some-requires c κs = omega arith
 
--- src/main.rt:72:13
 same-length : tie.Need-same-length Inv-loop μ-loop
 same-length c = c .before .before .before .read-some .kept .1 .0 ∙ c .before .before .before .before .before .before .loop .inv .1
 
--- src/main.rt:72:13
 returns : tie.Need-returns Inv-loop μ-loop
 returns c = (omega (arith, c .before .before .before .read-some .kept .1 .0, c .before .before .before .before .before .before .loop .inv .0), sym (length-take-le _ _ (omega (arith, c .before .before .before .read-some .kept .1 .0, c .before .before .before .before .before .before .loop .inv .0))))
 
--- src/main.rt:77:9
 add-bytes : tie.Need-add-bytes Inv-loop μ-loop
 add-bytes c = omega (arith, c .before .before .before .read-some .ensures)
 
--- src/main.rt:68:5
 loop-less : tie.Need-loop-less Inv-loop μ-loop
 loop-less c = omega (arith, c .before .before .before .read-some .ensures)
 
--- src/main.rt:68:5
 loop-again : tie.Need-loop-again Inv-loop μ-loop
 loop-again c = (omega (arith, c .before .before .before .read-some .ensures, c .before .before .before .read-some .kept .1 .0), c .before .before .before .read-some .kept .1 .0 ∙ c .before .before .before .before .before .before .loop .inv .1)
 
--- src/main.rt:64:1
 same-length-2 : tie.Need-same-length-2 Inv-loop μ-loop
 same-length-2 c = c .before .loop .inv .1
 
--- src/main.rt:64:1
 returns-2 : tie.Need-returns-2 Inv-loop μ-loop
 returns-2 c = (c .before .loop .inv .0, sym (length-take-le _ _ (c .before .loop .inv .0)))
 

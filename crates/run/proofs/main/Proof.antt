@@ -5,107 +5,73 @@ use lib.Seq.{length-take-le}
 use borrow.Author.Needs.{needs}
 use Rattle.run.proofs.main.Statement.{statement}
 use Rattle.run.proofs.main.Tie as tie
-use Rattle.run.proofs.main.Reads as reads
-use Rattle.run.proofs.main.Lts as lts
-use Rattle.io.proofs.buffer.Reads as buffer-reads
-use Rattle.libc.proofs.close.Reads as close-reads
-use Rattle.os.proofs.fail.Reads as fail-reads
-use Rattle.run.proofs.events.Reads as events-reads
-use Rattle.run.proofs.fill.Reads as fill-reads
-use Rattle.run.proofs.open.Reads as open-reads
-use Rattle.run.proofs.space.table_bytes.Reads as table-bytes-reads
-use Rattle.run.proofs.space.table_words.Reads as table-words-reads
-use Rattle.text.proofs.input.read_words.Reads as read-words-reads
 
--- src/main.rt:206:20
 buffer-requires : tie.Need-buffer-requires
 buffer-requires c κs = search needs
 
--- src/main.rt:207:24
 slice-aggregate-open : tie.Need-slice-aggregate-open
 slice-aggregate-open c = search needs
 
--- src/main.rt:207:34
 slice-aggregate-open-2 : tie.Need-slice-aggregate-open-2
 slice-aggregate-open-2 c = search needs
 
--- src/main.rt:207:9
 open-requires : tie.Need-open-requires
 open-requires c κs = search needs
 
--- src/main.rt:211:9
 returns : tie.Need-returns
 returns c = search needs
 
--- src/main.rt:213:21
 table-bytes-requires : tie.Need-table-bytes-requires
 table-bytes-requires c κs = search needs
 
--- src/main.rt:214:27
 slice-aggregate-fill : tie.Need-slice-aggregate-fill
 slice-aggregate-fill c = search needs
 
--- src/main.rt:214:9
 fill-requires : tie.Need-fill-requires
 fill-requires c κs = search needs
 
--- src/main.rt:217:18
 array-share-prefix-path : tie.Need-array-share-prefix-path
 array-share-prefix-path c = search needs
 
--- src/main.rt:217:18
 slice-aggregate-fail : tie.Need-slice-aggregate-fail
 slice-aggregate-fail c = search needs
 
--- src/main.rt:217:9
 fail-requires : tie.Need-fail-requires
 fail-requires c κs = search needs
 
--- src/main.rt:218:9
 returns-2 : tie.Need-returns-2
 returns-2 c = search needs
 
--- src/main.rt:220:5
 close-requires : tie.Need-close-requires
 close-requires c κs = search needs
 
--- src/main.rt:221:21
 table-words-requires : tie.Need-table-words-requires
 table-words-requires c κs = search needs
 
--- src/main.rt:222:28
 array-share-prefix-bytes : tie.Need-array-share-prefix-bytes
 array-share-prefix-bytes c = search needs
 
--- src/main.rt:222:28
 slice-aggregate-read-words : tie.Need-slice-aggregate-read-words
 slice-aggregate-read-words c = search needs
 
--- src/main.rt:222:41
 slice-aggregate-read-words-2 : tie.Need-slice-aggregate-read-words-2
 slice-aggregate-read-words-2 c = search needs
 
--- src/main.rt:222:9
 read-words-requires : tie.Need-read-words-requires
 read-words-requires c κs = search needs
 
--- src/main.rt:223:12
 array-share-prefix-words : tie.Need-array-share-prefix-words
 array-share-prefix-words c = search needs
 
--- src/main.rt:223:12
 slice-aggregate-events : tie.Need-slice-aggregate-events
 slice-aggregate-events c = sym (length-take-le _ _ (omega (arith, c .before .before .read-words .ensures .count, c .before .before .read-words .kept .1 .0)))
 
--- src/main.rt:223:29
 slice-aggregate-events-2 : tie.Need-slice-aggregate-events-2
 slice-aggregate-events-2 c = search needs
 
--- src/main.rt:223:5
 events-requires : tie.Need-events-requires
 events-requires c κs = search needs
 
--- src/main.rt:205:1
 returns-3 : tie.Need-returns-3
 returns-3 c = search needs
 

@@ -7,10 +7,6 @@ use Rattle.io.specs.Counts.{Counts}
 use Rattle.session.specs.Promises.{Ready}
 use Rattle.run.proofs.run.Statement.{statement}
 use Rattle.run.proofs.run.Tie as tie
-use Rattle.run.proofs.run.Reads as reads
-use Rattle.run.proofs.run.Lts as lts
-use Rattle.run.proofs.next_block.Reads as next-block-reads
-use Rattle.run.proofs.space.lines.Reads as lines-reads
 
 abbrev Inv-loop : tie.InvT-loop
 Inv-loop t s₀ trace₀ fd path block₀ first out₀ n₀ turns₀ s trace block out n turns =
@@ -24,31 +20,24 @@ Inv-loop t s₀ trace₀ fd path block₀ first out₀ n₀ turns₀ s trace blo
 abbrev μ-loop : tie.MeasureT-loop
 μ-loop t s₀ trace₀ fd path block₀ first out₀ n₀ turns₀ s trace block out n turns = turns
 
--- src/main.rt:158:19
 lines-requires : tie.Need-lines-requires Inv-loop μ-loop
 lines-requires c κs = search needs
 
--- src/main.rt:161:5
 loop-holds : tie.Need-loop-holds Inv-loop μ-loop
 loop-holds c = (refl, refl, refl, c .lines .ensures, c .before .before .before .before .before .before .pre .0, c .before .before .before .before .before .before .pre .1)
 
--- src/main.rt:162:57
 slice-aggregate-next-block : tie.Need-slice-aggregate-next-block Inv-loop μ-loop
 slice-aggregate-next-block c = c .before .before .before .before .before .before .loop .inv .3
 
--- src/main.rt:162:9
 next-block-requires : tie.Need-next-block-requires Inv-loop μ-loop
 next-block-requires c κs = search needs
 
--- src/main.rt:163:9
 sub-turns : tie.Need-sub-turns Inv-loop μ-loop
 sub-turns c = omega arith
 
--- src/main.rt:161:5
 loop-less : tie.Need-loop-less Inv-loop μ-loop
 loop-less c = omega arith
 
--- src/main.rt:161:5
 loop-again : tie.Need-loop-again Inv-loop μ-loop
 loop-again c =
     let l = c .before .before .before .before .before .before .before .before .before .before .before .before .before .before .loop .inv in
@@ -61,35 +50,27 @@ loop-again c =
       c .before .before .before .before .before .before .before .next-block .ensures .1,
     )
 
--- src/main.rt:147:1
 same-length : tie.Need-same-length Inv-loop μ-loop
 same-length c = c .before .before .loop .inv .0
 
--- src/main.rt:147:1
 same-length-2 : tie.Need-same-length-2 Inv-loop μ-loop
 same-length-2 c = c .before .before .loop .inv .1
 
--- src/main.rt:147:1
 same-length-3 : tie.Need-same-length-3 Inv-loop μ-loop
 same-length-3 c = c .before .before .loop .inv .2
 
--- src/main.rt:147:1
 returns : tie.Need-returns Inv-loop μ-loop
 returns c = tt
 
--- src/main.rt:147:1
 same-length-4 : tie.Need-same-length-4 Inv-loop μ-loop
 same-length-4 c = c .before .loop .inv .0
 
--- src/main.rt:147:1
 same-length-5 : tie.Need-same-length-5 Inv-loop μ-loop
 same-length-5 c = c .before .loop .inv .1
 
--- src/main.rt:147:1
 same-length-6 : tie.Need-same-length-6 Inv-loop μ-loop
 same-length-6 c = c .before .loop .inv .2
 
--- src/main.rt:147:1
 returns-2 : tie.Need-returns-2 Inv-loop μ-loop
 returns-2 c = tt
 

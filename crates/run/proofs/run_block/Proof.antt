@@ -1,6 +1,6 @@
 -- `run::run_block` meets its contract: every turn of its loop takes an event at least, and the state to come is that of the events
 -- left. Assumes nothing.
-use Prim.Native.Nat.{_-_, _≤_}
+use Prim.Native.Nat.{_-_}
 use mathlib.Core.Path.{_≡_, refl, sym, _∙_}
 use mathlib.Core.Bool.{false≢true}
 use native.Mathlib.Omega.{arith}
@@ -14,11 +14,6 @@ use Rattle.session.proofs.Along.{offered-within}
 use Rattle.session.proofs.Whole.{some-taken, ready-again, state-left, state-none}
 use Rattle.run.proofs.run_block.Statement.{statement}
 use Rattle.run.proofs.run_block.Tie as tie
-use Rattle.run.proofs.run_block.Reads as reads
-use Rattle.run.proofs.run_block.Lts as lts
-use Rattle.run.proofs.print.Reads as print-reads
-use Rattle.session.proofs.take_events.Reads as take-events-reads
-use Rattle.text.proofs.input.word_count.Reads as word-count-reads
 
 abbrev Inv-loop : tie.InvT-loop
 Inv-loop t s₀ trace₀ block out₀ total from₀ s trace out from =
@@ -31,47 +26,36 @@ Inv-loop t s₀ trace₀ block out₀ total from₀ s trace out from =
 abbrev μ-loop : tie.MeasureT-loop
 μ-loop t s₀ trace₀ block out₀ total from₀ s trace out from = total - from
 
--- src/main.rt:108:9
 word-count-requires : tie.Need-word-count-requires Inv-loop μ-loop
 word-count-requires c κs = search needs
 
--- src/main.rt:110:5
 loop-holds : tie.Need-loop-holds Inv-loop μ-loop
 loop-holds c = (refl, refl, refl, c .before .before .before .before .before .before .pre .0, refl)
 
--- src/main.rt:111:13
 take-events-requires : tie.Need-take-events-requires Inv-loop μ-loop
 take-events-requires c κs = search needs
 
--- src/main.rt:113:19
 slice-reshare-prefix-print : tie.Need-slice-reshare-prefix-print Inv-loop μ-loop
 slice-reshare-prefix-print c = omega (arith, c .before .before .before .before .before .before .take-events .ensures .inside, c .before .before .before .before .before .before .take-events .kept .1 .1 .1 .1 .1 .0)
 
--- src/main.rt:113:19
 slice-aggregate-print : tie.Need-slice-aggregate-print Inv-loop μ-loop
 slice-aggregate-print c = sym (length-take-le _ _ (omega (arith, c .before .before .before .before .before .before .before .take-events .ensures .inside, c .before .before .before .before .before .before .before .take-events .kept .1 .1 .1 .1 .1 .0)))
 
--- src/main.rt:113:13
 print-requires : tie.Need-print-requires Inv-loop μ-loop
 print-requires c κs = search needs
 
--- src/main.rt:114:13
 same-length : tie.Need-same-length Inv-loop μ-loop
 same-length c = c .before .before .before .before .before .before .before .before .before .take-events .kept .1 .0 ∙ c .before .before .before .before .before .before .before .before .before .before .before .before .before .before .loop .inv .0
 
--- src/main.rt:114:13
 same-length-2 : tie.Need-same-length-2 Inv-loop μ-loop
 same-length-2 c = c .before .before .before .before .before .before .before .before .before .take-events .kept .1 .1 .0 ∙ c .before .before .before .before .before .before .before .before .before .before .before .before .before .before .loop .inv .1
 
--- src/main.rt:114:13
 same-length-3 : tie.Need-same-length-3 Inv-loop μ-loop
 same-length-3 c = c .before .before .before .before .before .before .before .before .before .take-events .kept .1 .1 .1 .1 .1 .0 ∙ c .before .before .before .before .before .before .before .before .before .before .before .before .before .before .loop .inv .2
 
--- src/main.rt:114:13
 returns : tie.Need-returns Inv-loop μ-loop
 returns c = (ready-again (c .before .before .before .before .before .before .before .before .before .before .before .before .before .before .loop .inv .3) (c .before .before .before .before .before .before .before .before .before .take-events .kept .1 .1 .0) (c .before .before .before .before .before .before .before .before .before .take-events .ensures), λ ok. absurd (false≢true ok))
 
--- src/main.rt:116:9
 add-from : tie.Need-add-from Inv-loop μ-loop
 add-from c =
     let a = c .before .before .before .before .before .before .before .before .before .before .before .before .before .before .before .before .before .before .before .before .before .before .args in
@@ -79,14 +63,12 @@ add-from c =
     let within = offered-within (a .t .now) (l .s) (l .trace) (a .block .now) (l .from) in
     omega (arith, c .before .before .before .before .before .before .before .before .before .before .take-events .ensures .within, c .before .before .before .before .before .before .before .before .before .before .before .before .before .before .before .before .word-count .ensures)
 
--- src/main.rt:110:5
 loop-less : tie.Need-loop-less Inv-loop μ-loop
 loop-less c =
     let l = c .before .before .before .before .before .before .before .before .before .before .before .before .before .before .before .loop in
     let some = some-taken _ _ _ _ _ _ _ _ _ _ (c .before .before .before .before .before .before .before .before .before .before .take-events .ensures) (l .inv .3) (omega (arith, c .before .before .before .before .before .before .before .before .before .before .before .before .before .before .before .before .word-count .ensures)) (omega (arith, c .before .before .before .before .before .before .before .before .before .before .before .before .before .before .before .before .before .before .before .before .before .before .pre .1, l .inv .2)) in
     omega arith
 
--- src/main.rt:110:5
 loop-again : tie.Need-loop-again Inv-loop μ-loop
 loop-again c =
     let l = c .before .before .before .before .before .before .before .before .before .before .before .before .before .before .before .loop in
@@ -99,19 +81,15 @@ loop-again c =
       l .inv .4 ∙ state-left _ _ _ _ _ p,
     )
 
--- src/main.rt:103:1
 same-length-4 : tie.Need-same-length-4 Inv-loop μ-loop
 same-length-4 c = c .before .loop .inv .0
 
--- src/main.rt:103:1
 same-length-5 : tie.Need-same-length-5 Inv-loop μ-loop
 same-length-5 c = c .before .loop .inv .1
 
--- src/main.rt:103:1
 same-length-6 : tie.Need-same-length-6 Inv-loop μ-loop
 same-length-6 c = c .before .loop .inv .2
 
--- src/main.rt:103:1
 returns-2 : tie.Need-returns-2 Inv-loop μ-loop
 returns-2 c =
     let a = c .before .before .before .before .before .before .before .before .args in

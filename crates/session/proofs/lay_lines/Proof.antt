@@ -3,28 +3,19 @@ use Rattle.session.proofs.Lines.{lines-laid}
 use borrow.Author.Needs.{needs}
 use Rattle.session.proofs.lay_lines.Statement.{statement}
 use Rattle.session.proofs.lay_lines.Tie as tie
-use Rattle.session.proofs.lay_lines.Reads as reads
-use Rattle.session.proofs.lay_lines.Lts as lts
-use Rattle.text.proofs.output.put_decimal_line.Reads as put-decimal-line-reads
-use Rattle.text.proofs.output.put_words.Reads as put-words-reads
 
--- src/lib.rt:178:9
 put-decimal-line-requires : tie.Need-put-decimal-line-requires
 put-decimal-line-requires c κs = search needs
 
--- src/lib.rt:179:9
 put-words-requires : tie.Need-put-words-requires
 put-words-requires c κs = search needs
 
--- src/lib.rt:181:9
 put-words-requires-2 : tie.Need-put-words-requires-2
 put-words-requires-2 c κs = search needs
 
--- src/lib.rt:167:1
 same-length : tie.Need-same-length
 same-length c = search needs
 
--- src/lib.rt:167:1
 returns : tie.Need-returns
 returns c = lines-laid _ _ (c .before .before .before .before .before .before .before .before .before .before .before .before .before .before .before .pre .0) (c .before .before .before .before .before .before .before .before .before .before .before .before .before .before .before .pre .1) (c .before .before .before .before .before .before .before .before .before .before .before .before .before .before .before .pre .2) (c .before .before .before .before .before .before .before .before .before .before .put-decimal-line .ensures) (c .before .before .before .before .before .before .put-words .ensures) (c .before .before .put-words2 .ensures)
 

@@ -3,27 +3,19 @@ use Rattle.session.proofs.Lines.{reason-unlaid, reason-laid}
 use borrow.Author.Needs.{needs}
 use Rattle.session.proofs.lay_reason.Statement.{statement}
 use Rattle.session.proofs.lay_reason.Tie as tie
-use Rattle.session.proofs.lay_reason.Reads as reads
-use Rattle.session.proofs.lay_reason.Lts as lts
-use Rattle.text.proofs.output.put_decimal_line.Reads as put-decimal-line-reads
 
--- src/lib.rt:119:9
 returns : tie.Need-returns
 returns c = reason-unlaid _ _ (c .if1 .taken)
 
--- src/lib.rt:121:9
 put-decimal-line-requires : tie.Need-put-decimal-line-requires
 put-decimal-line-requires c κs = search needs
 
--- src/lib.rt:122:5
 put-decimal-line-requires-2 : tie.Need-put-decimal-line-requires-2
 put-decimal-line-requires-2 c κs = search needs
 
--- src/lib.rt:115:1
 same-length : tie.Need-same-length
 same-length c = search needs
 
--- src/lib.rt:115:1
 returns-2 : tie.Need-returns-2
 returns-2 c = reason-laid _ _ (search needs) (search needs) (c .before .before .before .before .before .before .before .before .if1 .left) (c .before .before .before .before .before .before .put-decimal-line .ensures) (c .before .before .put-decimal-line2 .ensures)
 

@@ -6,57 +6,40 @@ use Rattle.session.proofs.Checks.{place-small, place-is, opens-none, op
 use borrow.Author.Needs.{needs}
 use Rattle.session.proofs.open.Statement.{statement}
 use Rattle.session.proofs.open.Tie as tie
-use Rattle.session.proofs.open.Reads as reads
-use Rattle.session.proofs.open.Lts as lts
-use Rattle.session.proofs.fault_of.Reads as fault-of-reads
-use Rattle.tables.proofs.check.Reads as check-reads
-use Rattle.words.proofs.sections.read_layout.Reads as read-layout-reads
 
--- src/lib.rt:92:9
 check-requires : tie.Need-check-requires
 check-requires c κs = search needs
 
--- src/lib.rt:93:9
 fault-of-requires : tie.Need-fault-of-requires
 fault-of-requires c κs = search needs
 
--- src/lib.rt:95:17
 cast-place : tie.Need-cast-place
 cast-place c = let p = place-small (c .before .before .before .before .args .t .now) in let q = place-is _ (c .before .before .check .result) (c .before .before .check .ensures) _ _ (c .before .fault-of .ensures .0) (c .before .fault-of .ensures .1) in omega arith
 
--- src/lib.rt:96:27
 enum-known-checked : tie.Need-enum-known-checked
 enum-known-checked c = search needs
 
--- src/lib.rt:97:9
 returns : tie.Need-returns
 returns c = opens-none _ (c .before .before .before .check .result) (c .before .before .before .check .ensures) _ _ (c .before .before .fault-of .ensures .0) (c .before .before .fault-of .ensures .1) (is-refused _ (c .before .before .before .check .result) (c .match .keys2) (c .before .before .before .check .ensures))
 
--- src/lib.rt:104:9
 read-layout-requires : tie.Need-read-layout-requires
 read-layout-requires c κs = search needs
 
--- src/lib.rt:105:18
 add-state : tie.Need-add-state
 add-state c = search needs
 
--- src/lib.rt:105:18
 add-state-2 : tie.Need-add-state-2
 add-state-2 c = search needs
 
--- src/lib.rt:105:18
 add-state-3 : tie.Need-add-state-3
 add-state-3 c = search needs
 
--- src/lib.rt:105:17
 cast-state : tie.Need-cast-state
 cast-state c = search needs
 
--- src/lib.rt:110:16
 cast-t12 : tie.Need-cast-t12
 cast-t12 c = search needs
 
--- src/lib.rt:89:1
 returns-2 : tie.Need-returns-2
 returns-2 c = let ok = is-accepted _ _ _ (c .before .before .before .before .before .checked .given .1) (c .before .before .before .before .before .before .before .before .before .check .ensures) in opens _ (c .before .before .before .before .before .before .before .before .before .check .result) (c .before .before .before .before .before .before .before .before .before .check .ensures) _ _ (c .before .before .before .before .before .before .before .before .fault-of .ensures .0) (c .before .before .before .before .before .before .before .before .fault-of .ensures .1) _ _ ok (lengths _ _ (c .before .before .before .read-layout .ensures)) (told-bound _ _ _ (c .before .before .before .before .before .checked .given .1) (c .before .before .before .before .before .before .before .before .before .check .ensures) ok)
 

@@ -6,36 +6,25 @@ use Rattle.session.proofs.Steps.{no-table, no-fit, room-decides}
 use borrow.Author.Needs.{needs}
 use Rattle.session.proofs.ready.Statement.{statement}
 use Rattle.session.proofs.ready.Tie as tie
-use Rattle.session.proofs.ready.Reads as reads
-use Rattle.session.proofs.ready.Lts as lts
-use Rattle.states.proofs.fits.Reads as fits-reads
-use Rattle.tables.proofs.check.Reads as check-reads
 
--- src/lib.rt:209:9
 check-requires : tie.Need-check-requires
 check-requires c κs = search needs
 
--- src/lib.rt:210:27
 enum-known-checked : tie.Need-enum-known-checked
 enum-known-checked c = search needs
 
--- src/lib.rt:211:9
 returns : tie.Need-returns
 returns c = no-table _ _ _ (is-refused _ (c .before .check .result) (c .match .keys2) (c .before .check .ensures))
 
--- src/lib.rt:213:8
 fits-requires : tie.Need-fits-requires
 fits-requires c κs = search needs
 
--- src/lib.rt:214:16
 cast-result : tie.Need-cast-result
 cast-result c = search needs
 
--- src/lib.rt:214:9
 returns-2 : tie.Need-returns-2
 returns-2 c = let ok = is-accepted _ _ _ (c .before .before .before .checked .given .1) (c .before .before .before .before .before .check .ensures) in rw (told-bound _ _ _ (c .before .before .before .checked .given .1) (c .before .before .before .before .before .check .ensures) ok) (room-decides _ _ _ ok (sym (c .before .fits2 .ensures) ∙ c .if1 .taken))
 
--- src/lib.rt:206:1
 returns-3 : tie.Need-returns-3
 returns-3 c = no-fit _ _ _ (is-accepted _ _ _ (c .before .before .before .checked .given .1) (c .before .before .before .before .before .check .ensures)) (sym (c .before .fits2 .ensures) ∙ c .if1 .left)
 

@@ -1,6 +1,6 @@
-use borrow.Author.Needs.{needs}
 -- `session::take_events` meets its promise. The loop's invariant: what `Along` says of the first i events. The measure is how many are
 -- left. Assumes nothing.
+use borrow.Author.Needs.{needs}
 use Prim.Native.Nat.{_-_}
 use mathlib.Core.Path.{refl, sym, _∙_}
 use native.Mathlib.Omega.{arith}
@@ -11,14 +11,6 @@ use Rattle.session.proofs.Steps.{ready-from}
 use Rattle.session.proofs.Along.{Along, begin, next, end, none-offered, offered-long, offered-at}
 use Rattle.session.proofs.take_events.Statement.{statement}
 use Rattle.session.proofs.take_events.Tie as tie
-use Rattle.session.proofs.take_events.Reads as reads
-use Rattle.session.proofs.take_events.Lts as lts
-use Rattle.session.proofs.ready.Reads as ready-reads
-use Rattle.session.proofs.take_one.Reads as take-one-reads
-use Rattle.text.proofs.input.read_word.Reads as read-word-reads
-use Rattle.text.proofs.input.word_count.Reads as word-count-reads
-use Rattle.text.proofs.number.past.Reads as past-reads
-use Rattle.words.proofs.sections.read_layout.Reads as read-layout-reads
 
 abbrev Inv-loop : tie.InvT-loop
 Inv-loop t s₀ trace₀ bytes from out₀ h total i₀ at₀ s trace out i at = Along t s₀ trace₀ (offered t s₀ (length trace₀) bytes from) out₀ i at s trace out
@@ -26,62 +18,48 @@ Inv-loop t s₀ trace₀ bytes from out₀ h total i₀ at₀ s trace out i at =
 abbrev μ-loop : tie.MeasureT-loop
 μ-loop t s₀ trace₀ bytes from out₀ h total i₀ at₀ s trace out i at = total - i
 
--- src/lib.rt:238:9
 ready-requires : tie.Need-ready-requires Inv-loop μ-loop
 ready-requires c κs = search needs
 
--- src/lib.rt:239:9
 same-length : tie.Need-same-length Inv-loop μ-loop
 same-length c = search needs
 
--- src/lib.rt:239:9
 returns : tie.Need-returns Inv-loop μ-loop
 returns c = none-offered _ _ _ _ _ _ (sym (c .before .ready .ensures) ∙ not-true _ (c .if1 .taken))
 
--- src/lib.rt:244:9
 read-layout-requires : tie.Need-read-layout-requires Inv-loop μ-loop
 read-layout-requires c κs = search needs
 
--- src/lib.rt:245:22
 word-count-requires : tie.Need-word-count-requires Inv-loop μ-loop
 word-count-requires c κs = search needs
 
--- src/lib.rt:245:9
 past-requires : tie.Need-past-requires Inv-loop μ-loop
 past-requires c κs = search needs
 
--- src/lib.rt:248:5
 loop-holds : tie.Need-loop-holds Inv-loop μ-loop
 loop-holds c = begin _ _ _ _ _ (ready-from _ _ _ (sym (c .before .before .before .before .ready .ensures) ∙ not-false _ (c .before .before .before .if1 .left)))
 
--- src/lib.rt:248:32
 past-requires-2 : tie.Need-past-requires-2 Inv-loop μ-loop
 past-requires-2 c κs = search needs
 
--- src/lib.rt:249:34
 add-read-word : tie.Need-add-read-word Inv-loop μ-loop
 add-read-word c = omega arith
 
--- src/lib.rt:249:13
 read-word-requires : tie.Need-read-word-requires Inv-loop μ-loop
 read-word-requires c κs = search needs
 
--- src/lib.rt:250:9
 take-one-requires : tie.Need-take-one-requires Inv-loop μ-loop
 take-one-requires c κs =
     let l = c .before .before .before .before .before .before .before .loop in
     let free = leb-true _ (c .before .before .before .before .before .past2 .result) (c .before .before .before .before .if2 .taken) in
     (c .before .before .before .before .before .before .before .before .before .before .read-layout .ensures, l .inv .ready, omega (arith, c .before .before .before .before .before .past2 .ensures))
 
--- src/lib.rt:251:9
 add-i : tie.Need-add-i Inv-loop μ-loop
 add-i c = omega arith
 
--- src/lib.rt:248:5
 loop-less : tie.Need-loop-less Inv-loop μ-loop
 loop-less c = omega arith
 
--- src/lib.rt:248:5
 loop-again : tie.Need-loop-again Inv-loop μ-loop
 loop-again c =
     let a = c .before .before .before .before .before .before .before .before .before .before .before .before .before .before .before .before .before .before .before .before .before .before .before .before .before .before .args in
@@ -93,38 +71,30 @@ loop-again c =
     (omega (arith, c .before .before .before .before .before .before .before .before .before .before .before .before .past2 .ensures, l .inv .outLong))
     (offered-at (a .t .now) (a .s .now) (a .trace .now) (a .bytes .now) (a .from) ok (l .i) _ (c .before .before .before .before .before .before .before .before .before .before .read-word .ensures)) (c .before .before .before .before .before .before .take-one .ensures)
 
--- src/lib.rt:228:1
 same-length-2 : tie.Need-same-length-2 Inv-loop μ-loop
 same-length-2 c = c .before .before .before .loop .inv .stateLong
 
--- src/lib.rt:228:1
 same-length-3 : tie.Need-same-length-3 Inv-loop μ-loop
 same-length-3 c = c .before .before .before .loop .inv .traceLong
 
--- src/lib.rt:228:1
 same-length-4 : tie.Need-same-length-4 Inv-loop μ-loop
 same-length-4 c = c .before .before .before .loop .inv .outLong
 
--- src/lib.rt:228:1
 returns-2 : tie.Need-returns-2 Inv-loop μ-loop
 returns-2 c =
     let l = c .before .before .before .loop in
     let full = leb-false _ (c .before .past2 .result) (c .if2 .left) in
     end _ _ _ _ _ _ _ _ _ _ (l .inv) _ refl refl (λ h. omega (arith, c .before .past2 .ensures, l .inv .outLong))
 
--- src/lib.rt:228:1
 same-length-5 : tie.Need-same-length-5 Inv-loop μ-loop
 same-length-5 c = c .before .loop .inv .stateLong
 
--- src/lib.rt:228:1
 same-length-6 : tie.Need-same-length-6 Inv-loop μ-loop
 same-length-6 c = c .before .loop .inv .traceLong
 
--- src/lib.rt:228:1
 same-length-7 : tie.Need-same-length-7 Inv-loop μ-loop
 same-length-7 c = c .before .loop .inv .outLong
 
--- src/lib.rt:228:1
 returns-3 : tie.Need-returns-3 Inv-loop μ-loop
 returns-3 c =
     let a = c .before .before .before .before .before .before .before .before .before .before .before .before .before .args in

@@ -4,21 +4,13 @@ use Rattle.session.proofs.Steps.{run-safe, number-small, count-few, roo
 use borrow.Author.Needs.{needs}
 use Rattle.session.proofs.take_one.Statement.{statement}
 use Rattle.session.proofs.take_one.Tie as tie
-use Rattle.session.proofs.take_one.Reads as reads
-use Rattle.session.proofs.take_one.Lts as lts
-use Rattle.events.proofs.handle.Reads as handle-reads
-use Rattle.session.proofs.answer_of.Reads as answer-of-reads
-use Rattle.session.proofs.lay_lines.Reads as lay-lines-reads
 
--- src/lib.rt:198:9
 handle-requires : tie.Need-handle-requires
 handle-requires c κs = (c .before .before .before .before .before .before .pre .0, few-rules _ _ (c .before .before .before .before .before .before .pre .1 .table) (c .before .before .before .before .before .before .pre .0 .rules .value), run-safe _ _ _ _ (c .before .before .before .before .before .before .pre .1))
 
--- src/lib.rt:199:9
 answer-of-requires : tie.Need-answer-of-requires
 answer-of-requires c κs = search needs
 
--- src/lib.rt:202:5
 lay-lines-requires : tie.Need-lay-lines-requires
 lay-lines-requires c κs =
     let r = c .before .before .before .before .before .before .before .before .handle .result in
@@ -27,19 +19,15 @@ lay-lines-requires c κs =
     let ok = c .before .before .before .before .before .before .before .before .before .before .before .before .before .before .before .pre .1 in
     (number-small _ _ _ _ ok r _ _ h _ _ (a .0) (a .1), count-few _ _ _ _ ok r _ _ h _ _ (a .0) (a .1), room-enough _ _ _ _ ok r _ _ h _ _ (a .0) (a .1) _ _ (c .before .before .before .before .before .before .before .before .before .before .before .before .before .before .before .pre .2))
 
--- src/lib.rt:186:1
 same-length : tie.Need-same-length
 same-length c = search needs
 
--- src/lib.rt:186:1
 same-length-2 : tie.Need-same-length-2
 same-length-2 c = search needs
 
--- src/lib.rt:186:1
 same-length-3 : tie.Need-same-length-3
 same-length-3 c = search needs
 
--- src/lib.rt:186:1
 returns : tie.Need-returns
 returns c =
     let a = c .before .before .before .before .before .before .answer-of .ensures in
