@@ -1,6 +1,5 @@
 // A session: what the program prints for a table and for events, laid into lent bytes. Files and their blocks are the program's.
 ghost use mathlib.Core.Path.{_≡_};
-ghost use mathlib.Core.List.{_++_};
 ghost use Prim.Native.Nat.{_+_, _*_, _≤_, _<_};
 ghost use lib.ListN.{length, take};
 ghost use lib.Dec.{eqb};
@@ -25,55 +24,22 @@ use words::sections::read_layout;
 pub const MOST: usize = 40106;
 
 // A reason and its place; 0 and 0 for an accepted table.
-struct Fault {
-    reason: u32,
-    place: usize,
-}
+struct Fault(u32, usize);
 
 fn fault_of(c: Checked) -> Fault
-    ensures { λ r. ⌜ (r .reason ≡ toldOf c .reason) × (r .place ≡ toldOf c .place) ⌝ }
+    ensures { λ r. ⌜ (r .0 ≡ toldOf c .reason) × (r .1 ≡ toldOf c .place) ⌝ }
 {
     match c {
-        Checked::Accepted(_) => Fault {
-            reason: 0,
-            place: 0,
-        },
-        Checked::TooShort => Fault {
-            reason: 1,
-            place: 0,
-        },
-        Checked::WrongEdition => Fault {
-            reason: 2,
-            place: 0,
-        },
-        Checked::WrongCounts => Fault {
-            reason: 3,
-            place: 0,
-        },
-        Checked::WrongLength => Fault {
-            reason: 4,
-            place: 0,
-        },
-        Checked::Misfit(i) => Fault {
-            reason: 5,
-            place: i,
-        },
-        Checked::Misnamed(i) => Fault {
-            reason: 6,
-            place: i,
-        },
-        Checked::TooDeep(i) => Fault {
-            reason: 7,
-            place: i,
-        },
-        Checked::OwnersClash(i) => Fault {
-            reason: 8,
-            place: i,
-        },
-        Checked::TooDear => Fault {
-            reason: 9,
-            place: 0,
-        },
+        Checked::Accepted(_) => Fault(0, 0),
+        Checked::TooShort => Fault(1, 0),
+        Checked::WrongEdition => Fault(2, 0),
+        Checked::WrongCounts => Fault(3, 0),
+        Checked::WrongLength => Fault(4, 0),
+        Checked::Misfit(i) => Fault(5, i),
+        Checked::Misnamed(i) => Fault(6, i),
+        Checked::TooDeep(i) => Fault(7, i),
+        Checked::OwnersClash(i) => Fault(8, i),
+        Checked::TooDear => Fault(9, 0),
     }
 }
 
@@ -91,8 +57,8 @@ pub fn open(t: &[u32]) -> Opening
 {
     let checked = tables::check(t);
     let fault = fault_of(checked);
-    let reason = fault.reason;
-    let place = fault.place as u32;
+    let reason = fault.0;
+    let place = fault.1 as u32;
     let Checked::Accepted(b) = checked else {
         return Opening {
             reason,
