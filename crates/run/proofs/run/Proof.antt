@@ -1,0 +1,97 @@
+-- `run::run` is safe and ends: its turns fall. Assumes nothing.
+use mathlib.Core.Path.{_≡_, refl, sym, _∙_}
+use native.Mathlib.Omega.{arith}
+use lib.ListN.{length}
+use borrow.Author.Needs.{needs}
+use Rattle.io.specs.Counts.{Counts}
+use Rattle.session.specs.Promises.{Ready}
+use Rattle.run.proofs.run.Statement.{statement}
+use Rattle.run.proofs.run.Tie as tie
+
+abbrev Inv-loop : tie.InvT-loop
+Inv-loop t s₀ trace₀ fd path block₀ first out₀ n₀ turns₀ s trace block out n turns =
+    (length s ≡ length s₀)
+    × (length trace ≡ length trace₀)
+    × (length block ≡ length block₀)
+    × (262144 ≡ length out)
+    × Counts n block
+    × Ready t s trace
+
+abbrev μ-loop : tie.MeasureT-loop
+μ-loop t s₀ trace₀ fd path block₀ first out₀ n₀ turns₀ s trace block out n turns = turns
+
+lines-requires : tie.Need-lines-requires Inv-loop μ-loop
+lines-requires c κs = search needs
+
+loop-holds : tie.Need-loop-holds Inv-loop μ-loop
+loop-holds c = (refl, refl, refl, c .lines .ensures, c .before .before .before .before .before .before .pre .0, c .before .before .before .before .before .before .pre .1)
+
+slice-aggregate-next-block : tie.Need-slice-aggregate-next-block Inv-loop μ-loop
+slice-aggregate-next-block c = c .before .before .before .before .before .before .loop .inv .3
+
+next-block-requires : tie.Need-next-block-requires Inv-loop μ-loop
+next-block-requires c κs = search needs
+
+sub-turns : tie.Need-sub-turns Inv-loop μ-loop
+sub-turns c = omega arith
+
+loop-less : tie.Need-loop-less Inv-loop μ-loop
+loop-less c = omega arith
+
+loop-again : tie.Need-loop-again Inv-loop μ-loop
+loop-again c =
+    let l = c .before .before .before .before .before .before .before .before .before .before .before .before .before .before .loop .inv in
+    let k = c .before .before .before .before .before .before .before .next-block .kept in (
+      k .1 .0 ∙ l .0,
+      k .1 .1 .0 ∙ l .1,
+      k .1 .1 .1 .1 .1 .0 ∙ l .2,
+      l .3 ∙ sym (k .1 .1 .1 .1 .1 .1 .1 .0),
+      c .before .before .before .before .before .before .before .next-block .ensures .0,
+      c .before .before .before .before .before .before .before .next-block .ensures .1,
+    )
+
+same-length : tie.Need-same-length Inv-loop μ-loop
+same-length c = c .before .before .loop .inv .0
+
+same-length-2 : tie.Need-same-length-2 Inv-loop μ-loop
+same-length-2 c = c .before .before .loop .inv .1
+
+same-length-3 : tie.Need-same-length-3 Inv-loop μ-loop
+same-length-3 c = c .before .before .loop .inv .2
+
+returns : tie.Need-returns Inv-loop μ-loop
+returns c = tt
+
+same-length-4 : tie.Need-same-length-4 Inv-loop μ-loop
+same-length-4 c = c .before .loop .inv .0
+
+same-length-5 : tie.Need-same-length-5 Inv-loop μ-loop
+same-length-5 c = c .before .loop .inv .1
+
+same-length-6 : tie.Need-same-length-6 Inv-loop μ-loop
+same-length-6 c = c .before .loop .inv .2
+
+returns-2 : tie.Need-returns-2 Inv-loop μ-loop
+returns-2 c = tt
+
+pub run-spec : {M : Type 1} → statement M
+run-spec =
+    tie.close
+    (tie.spec
+    Inv-loop
+    μ-loop
+    lines-requires
+    loop-holds
+    slice-aggregate-next-block
+    next-block-requires
+    sub-turns
+    loop-less
+    loop-again
+    same-length
+    same-length-2
+    same-length-3
+    returns
+    same-length-4
+    same-length-5
+    same-length-6
+    returns-2)

@@ -1,0 +1,90 @@
+-- Lines laid one behind the other, and how long they are. Assumes nothing.
+use Prim.Native.Nat.{ℕ, _+_, _*_, _^_, _<_, _≤_}
+use mathlib.Core.Path.{_≡_, ap, _∙_}
+use mathlib.Core.List.{List, _++_}
+use native.Mathlib.Omega.{arith}
+use lib.ListN.{length, take, length-append}
+use lib.Seq.{take-take, take-all, length-take-le}
+use borrow.Author.Tests.{le-leb, lt-leb}
+use Rattle.rulebook.specs.Reasons.{verdict}
+use Rattle.text.specs.declared.output.Laid.{Laid}
+use Rattle.text.specs.Lines.{decimal, decimalLine, hexLines}
+use Rattle.text.specs.Puts.{Put, PutWords}
+use Rattle.text.proofs.Digits.{length-hexes}
+use Rattle.text.proofs.Decimal.{decimal-one, length-decimal}
+use Rattle.text.proofs.Lay.{length-lay, lay-more}
+use Rattle.text.proofs.Puts.{laid}
+use Rattle.session.specs.Printed.{lines, reasonLines}
+use Rattle.session.specs.Promises.{PutAt, PutLines}
+
+pub put-more : {xs ys out : List ℕ} {at n₁ n₂ : ℕ} {o₁ o₂ : List ℕ} → at + length xs ≤ length out → PutAt xs out at n₁ o₁ → PutAt ys o₁ n₁ n₂ o₂
+    → PutAt (xs ++ ys) out at n₂ o₂
+put-more {xs} {ys} {out} {at} h p q =
+    let l : length (xs ++ ys) ≡ length xs + length ys = simp length-append in
+    record { place = omega (arith, p .place, q .place); bytes = q .bytes ∙ rw (p .place, p .bytes) (lay-more out at xs ys h) }
+
+-- the place after, and the length of what was laid into
+pub put-length : {xs out : List ℕ} {at n : ℕ} {o : List ℕ} → at + length xs ≤ length out → PutAt xs out at n o → length o ≡ length out
+put-length {xs} {out} {at} h p = ap length (p .bytes) ∙ length-lay out at xs h
+
+pub one-put : {line out : List ℕ} {at next : ℕ} {after : List ℕ} → at + length line ≤ length out → Put line out at next after → PutAt line out at next after
+one-put {line} {out} {at} {next} {after} h p =
+    let q = laid line out at next after p h in
+    record { place = q .0; bytes = q .1 }
+
+-- the first `to` words, where there is room for their lines
+pub words-put : {out : List ℕ} {at : ℕ} {ws : List ℕ} {to : ℕ} {r : Laid} {after : List ℕ} → to ≤ length ws → at + 9 * to ≤ length out → PutWords out at ws 0 to r after
+    → PutAt (hexLines (take to ws)) out at (r .next) after
+words-put {out} {at} {ws} {to} {r} h room p =
+    let n : r .words ≡ to = omega (arith, p .count) in
+    let l : length (hexLines (take to ws)) ≡ 9 * to = length-hexes (take to ws) ∙ ap (λ (k : ℕ). 9 * k) (length-take-le to ws h) in
+    record { place = omega (arith, p .place); bytes = rw (n, take-take to to ws (omega arith)) at (p .bytes) }
+
+pub digit-long : (n : ℕ) → n < 10 → length (decimalLine n) ≡ 2
+digit-long n h = rw (decimal-one n h)
+
+pub decimal-long : (n : ℕ) → n < 2 ^ 32 → length (decimalLine n) ≤ 11
+decimal-long n h = let l = length-decimal n h in simp length-append (omega arith)
+
+pub lines-long : (n : ℕ) (s ws : List ℕ) → n < 10 → length (lines n s ws) ≡ 2 + 9 * (length s + length ws)
+unfolding lines
+lines-long n s ws h =
+    let one : length (decimal n) ≡ 1 = rw (decimal-one n h) in
+    simp (length-append, length-hexes) (omega arith)
+
+-- The two lines of a reason.
+
+pub reason-unlaid : (xs out : List ℕ) → length out < 22 → PutLines 22 xs out 0 out
+reason-unlaid xs out h = let q = lt-leb 22 (length out) h in record { count = rw q; bytes = rw q; inside = omega arith }
+
+pub reason-laid : {out o₁ o₂ : List ℕ} {n₁ n₂ : ℕ} (k i : ℕ) → k < 2 ^ 32 → i < 2 ^ 32 → 22 ≤ length out → Put (decimalLine k) out 0 n₁ o₁ → Put (decimalLine i) o₁ n₁ n₂ o₂
+    → PutLines 22 (reasonLines (verdict k i)) out n₂ o₂
+unfolding reasonLines
+reason-laid {out} k i hk hi h p q =
+    let a = decimal-long k hk in
+    let b = decimal-long i hi in
+    let first = one-put {line = decimalLine k} (omega arith) p in
+    let long = put-length {xs = decimalLine k} (omega arith) first in
+    let second = one-put {line = decimalLine i} (omega (arith, first .place)) q in
+    let both = put-more {xs = decimalLine k} {ys = decimalLine i} (omega arith) first second in
+    let enough = le-leb 22 (length out) h in
+    record { count = rw enough (both .place ∙ omega arith); bytes = rw enough (both .bytes); inside = omega (arith, both .place, length-append (decimalLine k) (decimalLine i)) }
+
+-- The lines of an event.
+
+pub lines-laid : {out s ws o₁ o₂ o₃ : List ℕ} {at n₁ : ℕ} {r₂ r₃ : Laid} (k m : ℕ) → k < 10 → m ≤ length ws → at + (2 + 9 * (length s + m)) ≤ length out
+    → Put (decimalLine k) out at n₁ o₁ → PutWords o₁ n₁ s 0 (length s) r₂ o₂ → PutWords o₂ (r₂ .next) ws 0 m r₃ o₃
+    → PutAt (lines k s (take m ws)) out at (r₃ .next) o₃
+unfolding lines
+lines-laid {out} {s} {ws} {o₁} {o₂} {o₃} {at} {n₁} {r₂} {r₃} k m hk hm room p q r =
+    let d = digit-long k hk in
+    let first = one-put {line = decimalLine k} (omega arith) p in
+    let l₁ = put-length {xs = decimalLine k} (omega arith) first in
+    let all = take-all (length s) s (omega arith) in
+    let state : PutAt (hexLines s) o₁ n₁ (r₂ .next) o₂ = rw all at (words-put {ws = s} {to = length s} (omega arith) (omega (arith, first .place)) q) in
+    let h₂ = length-hexes s in
+    let two = put-more {xs = decimalLine k} {ys = hexLines s} (omega arith) first state in
+    let long : length (decimalLine k ++ hexLines s) ≡ 2 + 9 * length s = length-append (decimalLine k) (hexLines s) ∙ omega arith in
+    let l₂ = put-length {xs = decimalLine k ++ hexLines s} (omega arith) two in
+    let words = words-put {ws = ws} {to = m} hm (omega (arith, two .place)) r in
+    put-more {xs = decimalLine k ++ hexLines s} {ys = hexLines (take m ws)} (omega arith) two words

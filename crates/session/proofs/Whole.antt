@@ -1,0 +1,150 @@
+-- Calls and blocks one after the other print what `printed` says of the whole, and none is ever stuck. Assumes nothing.
+use Prim.Native.Nat.{ℕ, zero, suc, _+_, _%_, _<_, _≤_}
+use mathlib.Core.Path.{_≡_, refl, sym, ap, _∙_}
+use mathlib.Core.Bool.{true, false}
+use mathlib.Core.Logic.{_⊎_, ⊎-elim}
+use mathlib.Core.List.{List, [], _∷_, _++_, append-nil}
+use native.Mathlib.Nat.{add-zero}
+use native.Mathlib.Omega.{arith}
+use lib.ListN.{length, take, drop, take-append-drop}
+use lib.Seq.{drop-drop, take-append-seam}
+use lib.Dec.{eqb}
+use borrow.Author.Tests.{eq-eqb}
+use Rattle.rulebook.specs.Reasons.{accepted, check, bound}
+use Rattle.rulebook.specs.State.{fits, fresh, stateLength, freshAnswer, freshState}
+use Rattle.rulebook.specs.Step.{refusedCall}
+use Rattle.laws.proofs.Tests.{split}
+use Rattle.laws.proofs.Steps.{step-fits, fresh-fits}
+use Rattle.states.specs.declared.Made.{Made}
+use Rattle.states.specs.Made.{Fresh}
+use Rattle.text.specs.Words.{wordsOf}
+use Rattle.text.specs.Puts.{lay}
+use Rattle.text.proofs.Digits.{below}
+use Rattle.session.specs.declared.Opening.{Opening}
+use Rattle.session.specs.declared.Taken.{Taken}
+use Rattle.session.specs.Printed.{taken, runLines, stateAfter, reasonLines, printed, most}
+use Rattle.session.specs.Promises.{Opens, Ready, offered, TookEvents}
+use Rattle.session.specs.Blocks.{Calls, Blocks}
+use Rattle.session.specs.Blocks as blocks
+use Rattle.session.proofs.Steps.{ready-is}
+use Rattle.session.proofs.Along.{lines-append, state-append, offered-long}
+
+-- the events that are left are those taken and those left then
+module _ (t s trace bytes : List ℕ) (from n : ℕ) (within : n ≤ length (offered t s (length trace) bytes from)) where
+  left-then : drop from (wordsOf bytes) ≡ take n (offered t s (length trace) bytes from) ++ drop (from + n) (wordsOf bytes)
+  unfolding offered
+  left-then =
+      split (eqb (refusedCall t s (length trace)) 0)
+      (λ h. rw h (sym (take-append-drop n (drop from (wordsOf bytes))) ∙ rw (drop-drop n from (wordsOf bytes))))
+      (λ h. let none : n ≡ 0 = (let w : n ≤ 0 = rw (offered, h) at within in omega arith) in rw (h, none, add-zero))
+
+-- what stands at the front of the bytes after a call
+front : {t s trace es out : List ℕ} {r : Taken} {s₁ w₁ o₁ : List ℕ} → TookEvents t s trace es out r s₁ w₁ o₁ → take (r .bytes) o₁ ≡ runLines t s (take (r .events) es)
+unfolding lay
+front p = rw (p .lines, p .bytes) (take-append-seam _ _)
+
+drop-none : (n : ℕ) (xs : List ℕ) → length xs ≤ n → drop n xs ≡ []
+drop-none zero [] h = refl
+drop-none zero (x ∷ xs) h = absurd (omega arith)
+drop-none (suc n) [] h = refl
+drop-none (suc n) (x ∷ xs) h = drop-none n xs (omega arith)
+
+pub calls-print : (t bytes : List ℕ) (from : ℕ) (s ls s₂ : List ℕ) → Calls t bytes from s ls s₂
+    → (ls ≡ runLines t s (drop from (wordsOf bytes))) × (s₂ ≡ stateAfter t s (drop from (wordsOf bytes)))
+unfolding runLines stateAfter
+calls-print t bytes from s ls s₂ (blocks.ended h) = rw (drop-none from (wordsOf bytes) h) (refl, refl)
+calls-print t bytes from s ls s₂ (blocks.call {trace = w} {s₁ = s₁} {r = r} p rest) =
+    let es = offered t s (length w) bytes from in
+    let i = calls-print t bytes (from + r .events) s₁ _ s₂ rest in
+    let next = drop (from + r .events) (wordsOf bytes) in
+    rw (left-then t s w bytes from (r .events) (p .within), lines-append t s (take (r .events) es) next, state-append t s (take (r .events) es) next)
+    (rw (front p, i .0, p .state), i .1 ∙ rw (p .state))
+
+-- The words of two parts of a file, the first of whole words.
+words-append : (xs ys : List ℕ) → length xs % 4 ≡ 0 → wordsOf (xs ++ ys) ≡ wordsOf xs ++ wordsOf ys
+unfolding wordsOf
+words-append (a ∷ b ∷ c ∷ d ∷ xs) ys h = rw (words-append xs ys (four h))
+  where
+    four : suc (suc (suc (suc (length xs)))) % 4 ≡ 0 → length xs % 4 ≡ 0
+    four h = omega arith
+words-append (a ∷ b ∷ c ∷ []) ys h = absurd (omega arith)
+words-append (a ∷ b ∷ []) ys h = absurd (omega arith)
+words-append (a ∷ []) ys h = absurd (omega arith)
+words-append [] ys h = refl
+
+two-parts : (xs ys : List ℕ) → (length xs % 4 ≡ 0) ⊎ (ys ≡ []) → wordsOf (xs ++ ys) ≡ wordsOf xs ++ wordsOf ys
+unfolding wordsOf
+two-parts xs ys h = ⊎-elim (words-append xs ys) none h
+  where
+    none : ys ≡ [] → wordsOf (xs ++ ys) ≡ wordsOf xs ++ wordsOf ys
+    none e =
+        ap (λ (v : List ℕ). wordsOf (xs ++ v)) e
+        ∙ ap wordsOf (append-nil xs)
+        ∙ sym (append-nil (wordsOf xs))
+        ∙ ap (λ (v : List ℕ). wordsOf xs ++ wordsOf v) (sym e)
+
+pub blocks-print : (t s file ls : List ℕ) → Blocks t s file ls → ls ≡ runLines t s (wordsOf file)
+unfolding runLines wordsOf
+blocks-print t s file ls blocks.ended = refl
+blocks-print t s file ls (blocks.block {bytes = bytes} {rest = rest} {s₁ = s₁} whole calls more) =
+    let c = calls-print t bytes 0 s _ s₁ calls in
+    rw (two-parts bytes rest whole, lines-append t s (wordsOf bytes) (wordsOf rest), c .0, blocks-print t s₁ rest _ more, c .1)
+
+-- The program.
+
+pub run-printed : (table events ls : List ℕ) → accepted (wordsOf table) ≡ true → Blocks (wordsOf table) (fresh (wordsOf table)) events ls → ls ≡ printed table events
+unfolding printed
+run-printed table events ls h b = rw h (blocks-print (wordsOf table) (fresh (wordsOf table)) events ls b)
+
+pub reason-printed : (table events : List ℕ) → accepted (wordsOf table) ≡ false → reasonLines (check (wordsOf table)) ≡ printed table events
+unfolding printed
+reason-printed table events h = rw h
+
+-- No call is stuck: ready, with an event left and with room for one, it takes one, and what it leaves is ready again.
+
+module _ (t s trace bytes : List ℕ) (from : ℕ) (out : List ℕ) (r : Taken) (s₁ w₁ o₁ : List ℕ) (took : TookEvents t s trace (offered t s (length trace) bytes from) out r s₁ w₁ o₁) where
+  pub some-taken : Ready t s trace → from < length (wordsOf bytes) → most ≤ length out → 1 ≤ r .events
+  unfolding runLines
+  some-taken ready left room =
+      let long = offered-long t s trace bytes from (ready-is t s trace ready) in
+      below (r .events) 1
+      (λ none.
+      let zero : r .events ≡ 0 = omega arith in
+      let full : length out < most = rw zero at (took .full (omega arith)) in
+      absurd (omega arith))
+      (λ some. some)
+
+fits-after : (t s es : List ℕ) → accepted t ≡ true → fits t s ≡ true → fits t (stateAfter t s es) ≡ true
+unfolding stateAfter
+fits-after t s [] h f = f
+fits-after t s (e ∷ es) h f = fits-after t (taken t s e .state) es h (step-fits t s _ e h f)
+
+pub ready-again : {t s trace es out : List ℕ} {r : Taken} {s₁ w₁ o₁ : List ℕ} → Ready t s trace → length w₁ ≡ length trace → TookEvents t s trace es out r s₁ w₁ o₁ → Ready t s₁ w₁
+ready-again ready same p =
+    record {
+      table = ready .table;
+      state = rw (p .state) (fits-after _ _ _ (ready .table) (ready .state));
+      room = let b = ready .room in omega arith;
+    }
+
+-- What a caller of many calls keeps: the state to come is that of the events left.
+
+pub state-left : (t s trace bytes : List ℕ) (from : ℕ) {out : List ℕ} {r : Taken} {s₁ w₁ o₁ : List ℕ} → TookEvents t s trace (offered t s (length trace) bytes from) out r s₁ w₁ o₁
+    → stateAfter t s (drop from (wordsOf bytes)) ≡ stateAfter t s₁ (drop (from + r .events) (wordsOf bytes))
+state-left t s trace bytes from {r = r} p =
+    rw (left-then t s trace bytes from (r .events) (p .within))
+    (state-append t s (take (r .events) (offered t s (length trace) bytes from)) (drop (from + r .events) (wordsOf bytes)) ∙ rw (p .state))
+
+pub state-none : (t s bytes : List ℕ) (from : ℕ) → length (wordsOf bytes) ≤ from → stateAfter t s (drop from (wordsOf bytes)) ≡ s
+unfolding stateAfter
+state-none t s bytes from h = rw (drop-none from (wordsOf bytes) h)
+
+-- A fresh state of the sizes that an opening asks for is ready.
+pub opens-ready : {t s₀ s trace : List ℕ} {o : Opening} {m : Made} → Opens t o → o .reason ≡ 0 → length s₀ ≡ o .state → Fresh t s₀ m s → length trace ≡ o .trace → Ready t s trace
+unfolding freshAnswer freshState
+opens-ready {t} {s₀} {s} {trace} opens none long made room =
+    let ok : accepted t ≡ true = eq-eqb (check t .reason) 0 (sym (opens .reason) ∙ none) in
+    let right = eq-eqb (length s₀) (stateLength t) (long ∙ rw ok at (opens .state)) in
+    let is : s ≡ fresh t = rw (ok, right) at (made .state) in
+    let enough : length trace ≡ bound t = room ∙ rw ok at (opens .trace) in
+    record { table = ok; state = rw is (fresh-fits t ok); room = omega arith }

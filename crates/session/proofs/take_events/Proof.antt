@@ -1,0 +1,132 @@
+-- `session::take_events` meets its promise. The loop's invariant: what `Along` says of the first i events. The measure is how many are
+-- left. Assumes nothing.
+use borrow.Author.Needs.{needs}
+use Prim.Native.Nat.{_-_}
+use mathlib.Core.Path.{refl, sym, _∙_}
+use native.Mathlib.Omega.{arith}
+use lib.ListN.{length}
+use borrow.Author.Tests.{not-true, not-false, leb-true, leb-false}
+use Rattle.session.specs.Promises.{offered}
+use Rattle.session.proofs.Steps.{ready-from}
+use Rattle.session.proofs.Along.{Along, begin, next, end, none-offered, offered-long, offered-at}
+use Rattle.session.proofs.take_events.Statement.{statement}
+use Rattle.session.proofs.take_events.Tie as tie
+
+abbrev Inv-loop : tie.InvT-loop
+Inv-loop t s₀ trace₀ bytes from out₀ h total i₀ at₀ s trace out i at = Along t s₀ trace₀ (offered t s₀ (length trace₀) bytes from) out₀ i at s trace out
+
+abbrev μ-loop : tie.MeasureT-loop
+μ-loop t s₀ trace₀ bytes from out₀ h total i₀ at₀ s trace out i at = total - i
+
+ready-requires : tie.Need-ready-requires Inv-loop μ-loop
+ready-requires c κs = search needs
+
+same-length : tie.Need-same-length Inv-loop μ-loop
+same-length c = search needs
+
+returns : tie.Need-returns Inv-loop μ-loop
+returns c = none-offered _ _ _ _ _ _ (sym (c .before .ready .ensures) ∙ not-true _ (c .if1 .taken))
+
+read-layout-requires : tie.Need-read-layout-requires Inv-loop μ-loop
+read-layout-requires c κs = search needs
+
+word-count-requires : tie.Need-word-count-requires Inv-loop μ-loop
+word-count-requires c κs = search needs
+
+past-requires : tie.Need-past-requires Inv-loop μ-loop
+past-requires c κs = search needs
+
+loop-holds : tie.Need-loop-holds Inv-loop μ-loop
+loop-holds c = begin _ _ _ _ _ (ready-from _ _ _ (sym (c .before .before .before .before .ready .ensures) ∙ not-false _ (c .before .before .before .if1 .left)))
+
+past-requires-2 : tie.Need-past-requires-2 Inv-loop μ-loop
+past-requires-2 c κs = search needs
+
+add-read-word : tie.Need-add-read-word Inv-loop μ-loop
+add-read-word c = omega arith
+
+read-word-requires : tie.Need-read-word-requires Inv-loop μ-loop
+read-word-requires c κs = search needs
+
+take-one-requires : tie.Need-take-one-requires Inv-loop μ-loop
+take-one-requires c κs =
+    let l = c .before .before .before .before .before .before .before .loop in
+    let free = leb-true _ (c .before .before .before .before .before .past2 .result) (c .before .before .before .before .if2 .taken) in
+    (c .before .before .before .before .before .before .before .before .before .before .read-layout .ensures, l .inv .ready, omega (arith, c .before .before .before .before .before .past2 .ensures))
+
+add-i : tie.Need-add-i Inv-loop μ-loop
+add-i c = omega arith
+
+loop-less : tie.Need-loop-less Inv-loop μ-loop
+loop-less c = omega arith
+
+loop-again : tie.Need-loop-again Inv-loop μ-loop
+loop-again c =
+    let a = c .before .before .before .before .before .before .before .before .before .before .before .before .before .before .before .before .before .before .before .before .before .before .before .before .before .before .args in
+    let l = c .before .before .before .before .before .before .before .before .before .before .before .before .before .before .loop in
+    let ok = sym (c .before .before .before .before .before .before .before .before .before .before .before .before .before .before .before .before .before .before .before .ready .ensures) ∙ not-false _ (c .before .before .before .before .before .before .before .before .before .before .before .before .before .before .before .before .before .before .if1 .left) in
+    let long = offered-long (a .t .now) (a .s .now) (a .trace .now) (a .bytes .now) (a .from) ok in
+    let free = leb-true _ (c .before .before .before .before .before .before .before .before .before .before .before .before .past2 .result) (c .before .before .before .before .before .before .before .before .before .before .before .if2 .taken) in
+    next _ _ _ _ _ _ _ _ _ _ (l .inv) _ _ _ _ _ (omega (arith, c .before .before .before .before .before .before .before .before .before .before .before .before .before .before .before .past .ensures, c .before .before .before .before .before .before .before .before .before .before .before .before .before .before .before .before .word-count .ensures))
+    (omega (arith, c .before .before .before .before .before .before .before .before .before .before .before .before .past2 .ensures, l .inv .outLong))
+    (offered-at (a .t .now) (a .s .now) (a .trace .now) (a .bytes .now) (a .from) ok (l .i) _ (c .before .before .before .before .before .before .before .before .before .before .read-word .ensures)) (c .before .before .before .before .before .before .take-one .ensures)
+
+same-length-2 : tie.Need-same-length-2 Inv-loop μ-loop
+same-length-2 c = c .before .before .before .loop .inv .stateLong
+
+same-length-3 : tie.Need-same-length-3 Inv-loop μ-loop
+same-length-3 c = c .before .before .before .loop .inv .traceLong
+
+same-length-4 : tie.Need-same-length-4 Inv-loop μ-loop
+same-length-4 c = c .before .before .before .loop .inv .outLong
+
+returns-2 : tie.Need-returns-2 Inv-loop μ-loop
+returns-2 c =
+    let l = c .before .before .before .loop in
+    let full = leb-false _ (c .before .past2 .result) (c .if2 .left) in
+    end _ _ _ _ _ _ _ _ _ _ (l .inv) _ refl refl (λ h. omega (arith, c .before .past2 .ensures, l .inv .outLong))
+
+same-length-5 : tie.Need-same-length-5 Inv-loop μ-loop
+same-length-5 c = c .before .loop .inv .stateLong
+
+same-length-6 : tie.Need-same-length-6 Inv-loop μ-loop
+same-length-6 c = c .before .loop .inv .traceLong
+
+same-length-7 : tie.Need-same-length-7 Inv-loop μ-loop
+same-length-7 c = c .before .loop .inv .outLong
+
+returns-3 : tie.Need-returns-3 Inv-loop μ-loop
+returns-3 c =
+    let a = c .before .before .before .before .before .before .before .before .before .before .before .before .before .args in
+    let ok = sym (c .before .before .before .before .before .before .ready .ensures) ∙ not-false _ (c .before .before .before .before .before .if1 .left) in
+    let long = offered-long (a .t .now) (a .s .now) (a .trace .now) (a .bytes .now) (a .from) ok in
+    end _ _ _ _ _ _ _ _ _ _ (c .before .loop .inv) _ refl refl (λ h. absurd (omega (arith, c .before .before .past .ensures, c .before .before .before .word-count .ensures)))
+
+pub take-events-spec : {M : Type 1} → statement M
+take-events-spec =
+    tie.close
+    (tie.spec
+    Inv-loop
+    μ-loop
+    ready-requires
+    same-length
+    returns
+    read-layout-requires
+    word-count-requires
+    past-requires
+    loop-holds
+    past-requires-2
+    add-read-word
+    read-word-requires
+    take-one-requires
+    add-i
+    loop-less
+    loop-again
+    same-length-2
+    same-length-3
+    same-length-4
+    returns-2
+    same-length-5
+    same-length-6
+    same-length-7
+    returns-3)

@@ -1,0 +1,4 @@
+-- What the program prints, and what the functions that lay it promise.
+pub mod Printed
+pub mod Promises
+pub mod Blocks
