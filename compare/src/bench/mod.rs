@@ -122,7 +122,7 @@ fn hostile_tables() {
         let times = [check, event, yardstick, second].map(|ns| format!("{:>10.1}", ns / 1000.0));
         let reason = second::check(&words).reason;
         let proved = check.max(event);
-        let flag = if proved > MOST { "  OVER" } else { "" };
+        let flag = if proved > MOST { " OVER" } else { "" };
         let ratio = event / yardstick;
         let (name, length, times) = (hostile.name, words.len(), times.concat());
         println!("{name:<44}{length:>6}{reason:>7}{times}{ratio:>7.2}{flag}");

@@ -33,7 +33,7 @@ pub fn accept(table: &Table, notes: &mut Notes) -> Result<(Sets, u32), Refusal> 
     nest_lists(table, &sets, notes).map_err(|number| (7, table.starts().lists + number))?;
     owners(table, &sets, notes).map_err(|place| (8, place))?;
     // Each cost is held just above the dearest, so the sum cannot overflow.
-    let b = notes.nests.iter().map(|nest| u32::from(nest.cost)).sum();
+    let b = notes.nests.iter().map(|nest| nest.cost).sum();
     if b > DEAREST { Err((9, 0)) } else { Ok((sets, b)) }
 }
 

@@ -11,8 +11,6 @@ mod table;
 mod tests;
 
 use herringcart::Answer;
-#[cfg(test)]
-use herringcart::Check;
 
 use arbitration::Run;
 use check::accept;
@@ -31,30 +29,6 @@ fn with_notes<T>(table: &Table, call: impl FnOnce(Notes) -> T) -> T {
         call(Memory::<SMALL, SMALL>::new().notes(table))
     } else {
         call(Memory::<512, 255>::new().notes(table))
-    }
-}
-
-/// The first reason and its place, or 0 and B.
-#[cfg(test)]
-fn check_table(words: &[u32]) -> Check {
-    let check = |table: Table| with_notes(&table, |mut notes| accept(&table, &mut notes));
-    match Table::of(words).map_err(|reason| (reason, 0)).and_then(check) {
-        Ok((_, bound)) => Check { reason: 0, place: 0, bound },
-        Err((reason, place)) => Check { reason, place, bound: 0 },
-    }
-}
-
-/// 0 if the state fits, 1 for a bad table, 2 if it does not fit.
-#[cfg(test)]
-fn check_state(words: &[u32], state: &[u32]) -> u32 {
-    match Table::of(words) {
-        Ok(table) if check_table(words).accepted() => {
-            // Only its sections are wanted, which are made for writing.
-            let mut state = state.to_vec();
-            let fits = State::of(&table, &mut state).is_some_and(|state| state.fits(&table));
-            if fits { 0 } else { 2 }
-        }
-        _ => 1,
     }
 }
 

@@ -11,9 +11,10 @@ const HELD: u32 = 4097;
 /// What is known of a list; nothing where its depth is 0.
 #[derive(Clone, Copy, Default)]
 pub struct Nest {
+    pub cost: u32,
     depth: u8,
+    owner: u8,
     pub clashes: bool,
-    pub cost: u16,
 }
 
 /// What the check learns and the step uses, one for each expression or list.
@@ -52,48 +53,40 @@ impl<const E: usize, const L: usize> Memory<E, L> {
 /// Gives the first expression that nests too deep.
 #[inline]
 pub fn nest_expressions(table: &Table, notes: &mut Notes) -> Result<(), usize> {
+    let kept = notes.depths.iter_mut().zip(notes.mentions.iter_mut());
+    for (&word, (depth, mentions)) in table.expressions.iter().zip(kept) {
+        if top(word) < 4 {
+            (*depth, *mentions) = (1, 1 << named_port(word));
+        }
+    }
     for number in 0..table.expressions.len() {
-        nest_expression(table.expressions, notes, number, LEVELS).ok_or(number)?;
+        if notes.depths[number] == 0 {
+            read_operator(table.expressions, notes, number, LEVELS).ok_or(number)?;
+        }
     }
     Ok(())
 }
 
-/// Its depth and mentions; None where it nests deeper than these levels.
-#[inline]
-fn nest_expression(
-    expressions: &[u32],
-    notes: &mut Notes,
-    number: usize,
-    levels: u8,
-) -> Option<(u8, u64)> {
-    let depth = notes.depths[number];
-    if depth == 0 {
-        return read_expression(expressions, notes, number, levels);
-    }
-    (depth <= levels).then_some((depth, notes.mentions[number]))
-}
-
-fn read_expression(
-    expressions: &[u32],
-    notes: &mut Notes,
-    number: usize,
-    levels: u8,
-) -> Option<(u8, u64)> {
+/// Finds an operator's depth, and what it mentions; None where it nests deeper
+/// than these levels.
+fn read_operator(words: &[u32], notes: &mut Notes, number: usize, levels: u8) -> Option<u8> {
     let below = levels.checked_sub(1)?;
-    let word = expressions[number];
-    let (depth, mentions) = if top(word) < 4 {
-        (1, 1 << named_port(word))
-    } else {
-        let [left, right] = arguments(word);
-        // NOT's right is no name; its left stands for it.
-        let right = if top(word) == NOT { left } else { right };
-        let left = nest_expression(expressions, notes, left, below)?;
-        let right = nest_expression(expressions, notes, right, below)?;
-        (1 + left.0.max(right.0), left.1 | right.1)
-    };
-    notes.depths[number] = depth;
-    notes.mentions[number] = mentions;
-    Some((depth, mentions))
+    let [left, right] = arguments(words[number]);
+    // NOT's right is no name; its left stands for it.
+    let right = if top(words[number]) == NOT { left } else { right };
+    let mut depth = 0;
+    for argument in [left, right] {
+        depth = depth.max(match notes.depths[argument] {
+            0 => read_operator(words, notes, argument, below)?,
+            known => known,
+        });
+    }
+    if depth > below {
+        return None;
+    }
+    notes.mentions[number] = notes.mentions[left] | notes.mentions[right];
+    notes.depths[number] = depth + 1;
+    Some(depth + 1)
 }
 
 /// Gives the first list that nests too deep.
@@ -105,19 +98,20 @@ pub fn nest_lists(table: &Table, sets: &Sets, notes: &mut Notes) -> Result<(), u
     Ok(())
 }
 
+/// What is known of a list or is now read; None where that nests deeper than
+/// these levels. One known already may be deeper: its reader sees to that.
 #[inline]
-fn nest_list(
+fn nest_list<'n>(
     table: &Table,
     sets: &Sets,
-    nests: &mut [Nest],
+    nests: &'n mut [Nest],
     number: u32,
     levels: u8,
-) -> Option<Nest> {
-    let nest = nests[number as usize];
-    if nest.depth == 0 {
-        return read_list(table, sets, nests, number, levels);
+) -> Option<&'n Nest> {
+    if nests[number as usize].depth == 0 {
+        read_list(table, sets, nests, number, levels)?;
     }
-    (nest.depth <= levels).then_some(nest)
+    Some(&nests[number as usize])
 }
 
 fn read_list(
@@ -126,16 +120,11 @@ fn read_list(
     nests: &mut [Nest],
     number: u32,
     levels: u8,
-) -> Option<Nest> {
+) -> Option<()> {
     let below = levels.checked_sub(1)?;
     let list = table.lists[number as usize];
-    let owner = top(list);
-    // What items 0 to 4 may name: the platform's lists anybody's things.
-    let (ports, networks) = match owner {
-        0 => (u64::MAX, u64::MAX),
-        _ => (sets.ports_of[owner as usize], sets.networks_of[owner as usize]),
-    };
-    let own = [u64::MAX, ports, ports, ports, networks];
+    let owner = top(list) as u8;
+    let own = own_things(sets, owner);
     let (mut depth, mut cost, mut clashes) = (0, 1, false);
     for &item in table.items_of(list) {
         let (kind, named) = (top(item), named(item));
@@ -145,19 +134,31 @@ fn read_list(
         } else if kind == 5 {
             let nest = nest_list(table, sets, nests, named, below)?;
             depth = depth.max(nest.depth);
-            cost += u32::from(nest.cost);
-            clashes |= top(table.lists[named as usize]) != owner;
+            cost += nest.cost;
+            clashes |= nest.owner != owner;
         } else {
             let rule = table.rules[named as usize];
             let (deepest, dearer) = nest_rule(table, sets, nests, rule, below)?;
             depth = depth.max(deepest);
             cost += 1 + dearer;
-            clashes |= top(rule) != owner;
+            clashes |= top(rule) as u8 != owner;
         }
     }
-    let nest = Nest { depth: depth + 1, clashes, cost: cost.min(HELD) as u16 };
-    nests[number as usize] = nest;
-    Some(nest)
+    if depth > below {
+        return None;
+    }
+    nests[number as usize] = Nest { cost: cost.min(HELD), depth: depth + 1, owner, clashes };
+    Some(())
+}
+
+/// What the items 0 to 4 of an owner's lists may name: the platform's anybody's things.
+#[inline]
+fn own_things(sets: &Sets, owner: u8) -> [u64; 5] {
+    let (ports, networks) = match owner {
+        0 => (u64::MAX, u64::MAX),
+        _ => (sets.ports_of[owner as usize], sets.networks_of[owner as usize]),
+    };
+    [u64::MAX, ports, ports, ports, networks]
 }
 
 /// The depth of a rule's deeper list and the cost of its dearer one.
@@ -174,7 +175,7 @@ fn nest_rule(
         if list != NO_LIST {
             let nest = nest_list(table, sets, nests, list, levels)?;
             depth = depth.max(nest.depth);
-            cost = cost.max(u32::from(nest.cost));
+            cost = cost.max(nest.cost);
         }
     }
     Some((depth, cost))
