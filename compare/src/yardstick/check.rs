@@ -24,36 +24,34 @@ pub struct Sets {
     pub networks_of: [u64; 16],
 }
 
-/// The sets and B, or the first reason above 4 that holds.
-pub fn accept(table: &Table, notes: &mut Notes) -> Result<(Sets, u32), Refusal> {
+/// B, or the first reason above 4 that holds; fills the empty sets and notes.
+pub fn accept(table: &Table, sets: &mut Sets, notes: &mut Notes) -> Result<u32, Refusal> {
     own_fields(table).map_err(|place| (5, place))?;
-    let mut sets = Sets::of(table);
-    names(table, &mut sets).map_err(|place| (6, place))?;
+    sets.fill(table);
+    names(table, sets).map_err(|place| (6, place))?;
     nest_expressions(table, notes).map_err(|number| (7, table.starts().expressions + number))?;
-    nest_lists(table, &sets, notes).map_err(|number| (7, table.starts().lists + number))?;
-    owners(table, &sets, notes).map_err(|place| (8, place))?;
+    nest_lists(table, sets, notes).map_err(|number| (7, table.starts().lists + number))?;
+    owners(table, sets, notes).map_err(|place| (8, place))?;
     // Each cost is held just above the dearest, so the sum cannot overflow.
     let b = notes.nests.iter().map(|nest| nest.cost).sum();
-    if b > DEAREST { Err((9, 0)) } else { Ok((sets, b)) }
+    if b > DEAREST { Err((9, 0)) } else { Ok(b) }
 }
 
 impl Sets {
     #[inline]
-    fn of(table: &Table) -> Self {
-        let mut sets = Sets::default();
+    fn fill(&mut self, table: &Table) {
         let mut kinds = [0; 4];
         for (number, &port) in table.ports.iter().enumerate() {
             let bit = 1 << number;
             kinds[port_kind(port) as usize] |= bit;
-            sets.ports_of[port_owner(port) as usize] |= bit;
+            self.ports_of[port_owner(port) as usize] |= bit;
             // Kind, deferred and has-initial are the top four bits.
-            sets.free |= if top(port) == 0b0010 { bit } else { 0 };
+            self.free |= if top(port) == 0b0010 { bit } else { 0 };
         }
         for (number, [network, _]) in table.networks.iter().enumerate() {
-            sets.networks_of[top(*network) as usize] |= 1 << number;
+            self.networks_of[top(*network) as usize] |= 1 << number;
         }
-        [sets.modes, sets.events, sets.timers, _] = kinds;
-        sets
+        [self.modes, self.events, self.timers, _] = kinds;
     }
 }
 

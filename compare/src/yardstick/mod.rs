@@ -13,7 +13,7 @@ mod tests;
 use herringcart::Answer;
 
 use arbitration::Run;
-use check::accept;
+use check::{Sets, accept};
 use nesting::{Memory, Notes};
 use state::State;
 use table::Table;
@@ -52,7 +52,8 @@ fn take(
     trace: &mut [u32],
     event: u32,
 ) -> Result<usize, u32> {
-    let (sets, b) = accept(table, &mut notes).map_err(|_| 1u32)?;
+    let mut sets = Sets::default();
+    let b = accept(table, &mut sets, &mut notes).map_err(|_| 1u32)?;
     let state = State::of(table, state).filter(|state| state.fits(table)).ok_or(2u32)?;
     if trace.len() < b as usize {
         return Err(3);

@@ -5,7 +5,7 @@ use herringcart::{Answer, Check};
 use second::cases::{Case, Cases};
 use second::testing::run_fixed;
 
-use super::check::accept;
+use super::check::{Sets, accept};
 use super::state::State;
 use super::table::Table;
 use super::{take_event, with_notes};
@@ -18,9 +18,11 @@ struct Yardstick;
 
 impl Subject for Yardstick {
     fn check(&self, table: &[u32]) -> Check {
-        let check = |table: Table| with_notes(&table, |mut notes| accept(&table, &mut notes));
+        let check = |table: Table| {
+            with_notes(&table, |mut notes| accept(&table, &mut Sets::default(), &mut notes))
+        };
         match Table::of(table).map_err(|reason| (reason, 0)).and_then(check) {
-            Ok((_, bound)) => Check { reason: 0, place: 0, bound },
+            Ok(bound) => Check { reason: 0, place: 0, bound },
             Err((reason, place)) => Check { reason, place, bound: 0 },
         }
     }
