@@ -8,6 +8,7 @@ mod hunt;
 mod programs;
 mod shrink;
 mod subject;
+mod yardstick;
 
 use std::process::ExitCode;
 

@@ -1,8 +1,9 @@
-//! `compare bench`: the proved calls beside the second program's, in one run.
+//! `compare bench`: the proved event call beside the yardstick's and the second
+//! program's, in one run.
 
-mod hostile;
+pub mod hostile;
 mod programs;
-mod sized;
+pub mod sized;
 mod timing;
 
 use std::fs;
@@ -11,6 +12,7 @@ use std::path::Path;
 
 use second::program::words;
 
+use crate::yardstick;
 pub use programs::programs;
 use timing::best;
 
@@ -35,10 +37,11 @@ pub fn example(name: &str) -> Option<[Vec<u32>; 2]> {
 }
 
 pub fn bench() -> Result<(), String> {
-    println!("ns per event, best of five; trace words per event");
+    println!("ns per event, best of five; trace words per event; p/y and p/s are proved/yardstick");
+    println!("and proved/second");
     println!(
-        "{:<44}{:>7}{:>7}{:>8}{:>11}{:>11}{:>7}",
-        "", "words", "B", "trace", "proved", "second", "ratio"
+        "{:<44}{:>6}{:>6}{:>8}{:>10}{:>10}{:>10}{:>7}{:>7}",
+        "", "words", "B", "trace", "proved", "yardstick", "second", "p/y", "p/s"
     );
     row("marked table, its run", &MARKED, &marked_run())?;
     match example("truck") {
@@ -53,85 +56,77 @@ pub fn bench() -> Result<(), String> {
     for blocks in [3, 9, 29, 85] {
         row(&format!("{blocks} blocks"), &sized::sized(blocks).words(), &sized::events())?;
     }
-    hostile_tables()
+    hostile_tables();
+    Ok(())
 }
 
-/// One line: a run of events from a fresh state, again and again.
+/// The three event calls, each giving its count.
+type Call = fn(&[u32], &mut [u32], &mut [u32], u32) -> usize;
+
+const CALLS: [Call; 3] = [
+    |table, state, trace, event| herringcart::take_event(table, state, trace, event).count,
+    |table, state, trace, event| yardstick::take_event(table, state, trace, event).count,
+    |table, state, trace, event| second::step(table, state, trace, event).count,
+];
+
+/// Nanoseconds per event for each call, of a run from a fresh state, again and
+/// again; and how many trace words a run writes.
+fn timed(table: &[u32], events: &[u32]) -> ([f64; 3], usize) {
+    let mut start = vec![0; herringcart::state_words(table)];
+    second::fresh(table, &mut start);
+    let (mut state, mut trace) = (start.clone(), vec![0; second::check(table).b]);
+    let mut written = 0;
+    let times = CALLS.map(|call| {
+        best(|| {
+            state.copy_from_slice(&start);
+            let table = black_box(table);
+            let take = |&event| call(table, &mut state, &mut trace, event);
+            written = events.iter().map(take).sum();
+            events.len()
+        })
+    });
+    (times, written)
+}
+
+/// One line of an accepted table.
 fn row(name: &str, table: &[u32], events: &[u32]) -> Result<(), String> {
     let check = second::check(table);
     if check.reason != 0 {
         return Err(format!("{name}: {check:?}"));
     }
-    let mut start = vec![0; herringcart::state_words(table)];
-    second::fresh(table, &mut start);
-    let (mut state, mut trace) = (start.clone(), vec![0; check.b]);
-    let mut written = 0;
-    let proved = best(|| {
-        state.copy_from_slice(&start);
-        let mut take = |&event| herringcart::take_event(table, &mut state, &mut trace, event).count;
-        written = events.iter().map(&mut take).sum();
-        events.len()
-    });
-    let second = best(|| {
-        state.copy_from_slice(&start);
-        for &event in events {
-            second::step(table, &mut state, &mut trace, event);
-        }
-        events.len()
-    });
+    let ([proved, yardstick, second], written) = timed(table, events);
     let (words, b, trace) = (table.len(), check.b, written as f64 / events.len() as f64);
-    let ratio = proved / second;
-    println!("{name:<44}{words:>7}{b:>7}{trace:>8.1}{proved:>11.0}{second:>11.0}{ratio:>7.2}");
+    let [by_yardstick, by_second] = [proved / yardstick, proved / second];
+    println!(
+        "{name:<44}{words:>6}{b:>6}{trace:>8.1}{proved:>10.0}{yardstick:>10.0}{second:>10.0}\
+         {by_yardstick:>7.2}{by_second:>7.2}"
+    );
     Ok(())
 }
 
-/// The tables made to be slow, by check and by event.
-fn hostile_tables() -> Result<(), String> {
+/// The tables made to be slow, by the proved check and by event.
+fn hostile_tables() {
     println!("hostile tables: microseconds a call, best of five");
     println!(
-        "{:<44}{:>7}{:>7}{:>10}{:>10}{:>10}{:>10}",
-        "", "words", "reason", "check", "second", "event", "second"
+        "{:<44}{:>6}{:>7}{:>10}{:>10}{:>10}{:>10}{:>7}",
+        "", "words", "reason", "check", "event", "yardstick", "second", "p/y"
     );
     let mut slowest: f64 = 0.0;
     for hostile in hostile::all() {
-        let [checks, events] = slow(&hostile.draft.words(), hostile.event);
-        let micro =
-            [checks, events].concat().into_iter().map(|ns| format!("{:>10.1}", ns / 1000.0));
         let words = hostile.draft.words();
+        let check = best(|| {
+            black_box(herringcart::check_table(black_box(&words)));
+            1
+        });
+        let ([event, yardstick, second], _) = timed(&words, &[hostile.event]);
+        let times = [check, event, yardstick, second].map(|ns| format!("{:>10.1}", ns / 1000.0));
         let reason = second::check(&words).reason;
-        let proved = checks[0].max(events[0]);
-        let flag = if proved > MOST { "  OVER 2 ms" } else { "" };
-        let micro: String = micro.collect();
-        println!("{:<44}{:>7}{reason:>7}{micro}{flag}", hostile.name, words.len());
+        let proved = check.max(event);
+        let flag = if proved > MOST { " OVER" } else { "" };
+        let ratio = event / yardstick;
+        let (name, length, times) = (hostile.name, words.len(), times.concat());
+        println!("{name:<44}{length:>6}{reason:>7}{times}{ratio:>7.2}{flag}");
         slowest = slowest.max(proved);
     }
-    println!("slowest proved call: {:.1} us", slowest / 1000.0);
-    Ok(())
-}
-
-/// Check and event, each the proved side's and the second program's.
-fn slow(table: &[u32], event: u32) -> [[f64; 2]; 2] {
-    let b = second::check(table).b;
-    let mut start = vec![0; herringcart::state_words(table)];
-    second::fresh(table, &mut start);
-    let (mut state, mut trace) = (start.clone(), vec![0; b]);
-    let by_proved = best(|| {
-        black_box(herringcart::check_table(table));
-        1
-    });
-    let by_second = best(|| {
-        black_box(second::check(table));
-        1
-    });
-    let proved = best(|| {
-        state.copy_from_slice(&start);
-        herringcart::take_event(table, &mut state, &mut trace, event);
-        1
-    });
-    let second = best(|| {
-        state.copy_from_slice(&start);
-        second::step(table, &mut state, &mut trace, event);
-        1
-    });
-    [[by_proved, by_second], [proved, second]]
+    println!("slowest proved call: {:.1} us; OVER is above 2 ms", slowest / 1000.0);
 }

@@ -1,0 +1,65 @@
+//! A clock for the proved code, no judge of it: document 01's event call in
+//! safe Rust made for speed. Every call makes every check, on the stack alone.
+
+mod arbitration;
+mod check;
+mod events;
+mod nesting;
+mod state;
+mod table;
+#[cfg(test)]
+mod tests;
+
+use herringcart::Answer;
+
+use arbitration::Run;
+use check::{Sets, accept};
+use nesting::{Memory, Notes};
+use state::State;
+use table::Table;
+
+/// Tables with no more expressions and lists than this have smaller notes, for
+/// to clear the large ones takes longer than all else in a small table.
+const SMALL: usize = 48;
+
+/// Hands the notes that the table needs to a call.
+#[inline]
+fn with_notes<T>(table: &Table, call: impl FnOnce(Notes) -> T) -> T {
+    if table.expressions.len() <= SMALL && table.lists.len() <= SMALL {
+        call(Memory::<SMALL, SMALL>::new().notes(table))
+    } else {
+        call(Memory::<512, 255>::new().notes(table))
+    }
+}
+
+/// One event, as document 01 has it. Not inlined, as the proved call is not.
+#[inline(never)]
+pub fn take_event(words: &[u32], state: &mut [u32], trace: &mut [u32], event: u32) -> Answer {
+    let Ok(table) = Table::of(words) else {
+        return Answer { number: 1, count: 0 };
+    };
+    match with_notes(&table, |notes| take(&table, notes, state, trace, event)) {
+        Ok(count) => Answer { number: 0, count },
+        Err(number) => Answer { number, count: 0 },
+    }
+}
+
+/// The count, or the answer of a refusal; nothing is written before the last check.
+fn take(
+    table: &Table,
+    mut notes: Notes,
+    state: &mut [u32],
+    trace: &mut [u32],
+    event: u32,
+) -> Result<usize, u32> {
+    let mut sets = Sets::default();
+    let b = accept(table, &mut sets, &mut notes).map_err(|_| 1u32)?;
+    let state = State::of(table, state).filter(|state| state.fits(table)).ok_or(2u32)?;
+    if trace.len() < b as usize {
+        return Err(3);
+    }
+    events::refuse(table, &sets, event)?;
+    let mut run = Run { table, mentions: notes.mentions, state, trace, count: 0, undefined: 0 };
+    run.take(&sets, event);
+    Ok(run.count)
+}
