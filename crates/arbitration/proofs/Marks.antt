@@ -1,12 +1,13 @@
 -- Which ports are arbitrated: one port, the marked ports, none. Assumes nothing.
-use Prim.Native.Nat.{ℕ, zero, suc, _<_, _≤_}
+use Prim.Native.Nat.{ℕ, zero, suc, _+_, _<_, _≤_}
 use mathlib.Core.Path.{_≡_, refl, sym, ap, fun-ext, _∙_}
-use mathlib.Core.Bool.{Bool, false, _&&_, and-false}
+use mathlib.Core.Bool.{Bool, false, cond, _&&_, and-false}
 use mathlib.Core.List.{List}
 use native.Mathlib.Omega.{arith}
-use lib.ListN.{length, set, replicate}
+use lib.ListN.{length, set, length-set, replicate}
+use lib.Seq.{getD-set-other}
 use lib.Dec.{eqb, ltb}
-use borrow.Author.Tests.{eq-eqb, ne-eqb, eqb-true, eqb-false, ltb-true, le-ltb}
+use borrow.Author.Tests.{eq-eqb, ne-eqb, eqb-true, eqb-false, ltb-true, ltb-false, le-ltb}
 use Rattle.rulebook.specs.Words.{word, field, any, each}
 use Rattle.rulebook.specs.Table.{ports, rules, left, right, ruleExpression}
 use Rattle.rulebook.specs.Expressions.{deepest, operator, expressionMentions, mentions}
@@ -14,7 +15,7 @@ use Rattle.rulebook.specs.Lists.{start}
 use Rattle.rulebook.specs.Arbitration.{unmarkPort, unmarkPorts, evaluated, storeResult, storeResults, chooses, chosen, order, decide, arbitrate}
 use Rattle.rulebook.specs.Events.{only, markedIn}
 use Rattle.words.specs.Flags.{flagged}
-use Rattle.words.proofs.Fill.{none-past, none-of-zeros}
+use Rattle.words.proofs.Fill.{none-of-zeros, raise-more}
 use Rattle.laws.proofs.Tests.{split}
 use Rattle.laws.proofs.Walks.{any-at}
 use Rattle.laws.proofs.Order.{each-weaker, order-there}
@@ -31,22 +32,41 @@ pub only-one : (p : ℕ) → p < 256 → only p ≡ flagged (set (replicate 256 
 unfolding only
 only-one p h = fun-ext (λ x. same-test x p ∙ sym (raised-flag (replicate 256 0) p x h ∙ rw (none-of-zeros 256 x)))
 
+set-flag-other : (flags : List ℕ) (p k v : ℕ) → (k ≡ p → ⊥) → flagged (set flags p v) k ≡ flagged flags k
+unfolding flagged
+set-flag-other flags p k v isnt = rw (getD-set-other flags p k v 0 isnt)
+
 -- the marked ports
 pub marked-by : (t s : List ℕ) (p n m w : ℕ) → n ≡ ports t → w ≡ word s p → m ≡ field 1 1 w → (ltb p n && eqb m 1) ≡ markedIn t s p
 unfolding markedIn
 marked-by t s p n m w hn hw hm = rw (hn, hm, hw)
 
-pub all-marked : (t s flags : List ℕ) → ports t < 256 → length flags ≡ 256 → ((k : ℕ) → k < 256 → flagged flags k ≡ markedIn t s k) → Marked t s flags
-unfolding markedIn
-all-marked t s flags small long h =
+-- the flags of the ports before p are right, the others are down
+pub record MarkedBefore (p : ℕ) (t s flags : List ℕ) : Type 0 where
+  pub long : length flags ≡ 256
+  pub says : (k : ℕ) → k < p → flagged flags k ≡ markedIn t s k
+  pub rest : (k : ℕ) → p ≤ k → flagged flags k ≡ false
+
+pub marked-start : (t s : List ℕ) → MarkedBefore 0 t s (replicate 256 0)
+marked-start t s = record { long = refl; says = λ k h. absurd (omega arith); rest = λ k h. none-of-zeros 256 k }
+
+pub marked-more : (p v : ℕ) (t s flags : List ℕ) (b : Bool) → p < 256 → MarkedBefore p t s flags → v ≡ cond b 1 0 → b ≡ markedIn t s p → MarkedBefore (p + 1) t s (set flags p v)
+marked-more p v t s flags b inside m hv hb =
+    let room : p < length flags = rw (m .long) inside in
     record {
-      long = long;
-      says = λ p. split (ltb p 256) (λ e. h p (ltb-true _ _ e))
-          (λ e. let z : 256 ≤ p = past p e in none-past flags p (omega arith) ∙ rw (le-ltb p (ports t) (omega arith)));
+      long = simp length-set (m .long);
+      says = raise-more (markedIn t s) flags p v b room hv hb (m .says);
+      rest = λ k h. set-flag-other flags p k v (λ e. absurd (omega arith)) ∙ m .rest k (omega arith);
     }
-  where
-    past : (p : ℕ) → ltb p 256 ≡ false → 256 ≤ p
-    past p e = borrow.Author.Tests.ltb-false p 256 e
+
+pub all-marked : (p : ℕ) (t s flags : List ℕ) → ports t ≤ p → MarkedBefore p t s flags → Marked t s flags
+unfolding markedIn
+all-marked p t s flags all m =
+    record {
+      long = m .long;
+      says = λ k. split (ltb k p) (λ e. m .says k (ltb-true k p e))
+          (λ e. let past = ltb-false k p e in m .rest k past ∙ sym (rw (le-ltb k (ports t) (omega arith))));
+    }
 
 pub marked-are : (t s flags : List ℕ) → Marked t s flags → flagged flags ≡ markedIn t s
 marked-are t s flags m = fun-ext (m .says)

@@ -1,7 +1,7 @@
 -- The order of chosen lists: the best of those whose flags are up is the first that the rulebook's fixed order runs. Assumes nothing.
 use Prim.Native.Nat.{ℕ, zero, suc, _+_, _<_, _≤_}
 use mathlib.Core.Path.{_≡_, refl, sym, ap, _∙_}
-use mathlib.Core.Bool.{Bool, true, false, cond, _&&_, _||_}
+use mathlib.Core.Bool.{Bool, true, false, cond, _||_}
 use mathlib.Core.Logic.{_⊎_, inl, inr, ⊎-elim}
 use mathlib.Core.List.{List, [], _∷_}
 use native.Mathlib.Omega.{arith}
@@ -23,14 +23,19 @@ use Rattle.laws.proofs.Order.{each-weaker, order-there, once, in-order}
 use Rattle.arbitration.specs.Picking.{better, Best}
 
 -- list k, by what is read: u says whether its flag is up, p is its priority, and m that of the best so far
-module _ (t flags : List ℕ) (n k best p m : ℕ) (u : Bool) (hn : n ≡ lists t) (hu : u ≡ flagged flags k) (hp : p ≡ priority t k) (hm : m ≡ priority t best) where
-  pub better-takes : (u && (leb n best || ltb m p)) ≡ true → k ≡ better t flags k best
+module _ (t flags : List ℕ) (k best : ℕ) (u : Bool) (hu : u ≡ flagged flags k) where
+  pub better-none : u ≡ false → best ≡ better t flags k best
   unfolding better
-  better-takes h = rw (rw (hn, hu, hp, hm) at h)
+  better-none h = rw (sym hu ∙ h)
 
-  pub better-stays : (u && (leb n best || ltb m p)) ≡ false → best ≡ better t flags k best
-  unfolding better
-  better-stays h = rw (rw (hn, hu, hp, hm) at h)
+  module _ (n p m : ℕ) (up : u ≡ true) (hn : n ≡ lists t) (hp : p ≡ priority t k) (hm : m ≡ priority t best) where
+    pub better-takes : (leb n best || ltb m p) ≡ true → k ≡ better t flags k best
+    unfolding better
+    better-takes h = rw (sym hu ∙ up, rw (hn, hp, hm) at h)
+
+    pub better-stays : (leb n best || ltb m p) ≡ false → best ≡ better t flags k best
+    unfolding better
+    better-stays h = rw (sym hu ∙ up, rw (hn, hp, hm) at h)
 
 -- The loop for the best.
 

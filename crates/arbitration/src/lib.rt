@@ -142,11 +142,13 @@ fn better(t: &[u32], h: Layout, flags: &[u32], k: u32, best: u32) -> u32
     requires { ⌜ Laid (now t) h ⌝ }
     ensures { λ l. ⌜ l ≡ betterOf (now (t .entry)) (now (flags .entry)) k best ⌝ }
 {
+    if !flag(flags, k) {
+        return best;
+    }
     let lists = h.lists;
-    let up = flag(flags, k);
     let priority = table::list_priority(sections::list_word(t, h, k));
     let best_priority = table::list_priority(sections::list_word(t, h, best));
-    let takes = up & ((lists <= best) | (best_priority < priority));
+    let takes = (lists <= best) | (best_priority < priority);
     if takes {
         return k;
     }
@@ -238,9 +240,10 @@ fn marked_ports(t: &[u32], h: Layout, s: &[u32]) -> [u32; 256]
     requires { ⌜ Laid (now t) h ⌝ }
     ensures { λ flags. ⌜ Marked (now (t .entry)) (now (s .entry)) flags ⌝ }
 {
+    let ports = h.ports;
     let mut flags = [0u32; 256];
     let mut p: u32 = 0;
-    while p < 256 {
+    while p < ports {
         let up = raised(is_marked(t, h, s, p));
         flags[p as usize] = up;
         p += 1;

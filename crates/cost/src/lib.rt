@@ -120,17 +120,15 @@ fn cost_level(t: &[u32], h: Layout, depths: &[u32], costs: &mut [u32], d: u32)
 }
 
 // The costs of the lists that are at most seven deep.
-fn list_costs(t: &[u32], h: Layout, depths: &[u32]) -> [u32; 256]
-    requires { ⌜ Laid (now t) h × (h .lists ≤ 256) × Depths deepest (now t) (now depths) ⌝ }
-    ensures { λ r. ⌜ Costs deepest (now (t .entry)) r ⌝ }
+fn find_costs(t: &[u32], h: Layout, depths: &[u32], costs: &mut [u32])
+    requires { ⌜ Laid (now t) h × (h .lists ≤ 256) × Depths deepest (now t) (now depths) × Costs 0 (now t) (now costs) ⌝ }
+    ensures { λ _. ⌜ Costs deepest (now (t .entry)) (now (costs .exit)) ⌝ }
 {
-    let mut costs = [0u32; 256];
     let mut d: u32 = 0;
     while d < 7 {
-        cost_level(t, h, depths, &mut costs, d);
+        cost_level(t, h, depths, costs, d);
         d += 1;
     }
-    costs
 }
 
 // B of a table whose lists keep rule 7, held at 4,097.
@@ -139,7 +137,8 @@ pub fn bound(t: &[u32], h: Layout, depths: &[u32]) -> u32
     ensures { λ r. ⌜ r ≡ capped (boundOf (now (t .entry))) ⌝ }
 {
     let lists = h.lists;
-    let costs = list_costs(t, h, depths);
+    let mut costs = [0u32; 256];
+    find_costs(t, h, depths, &mut costs);
     let mut total: u32 = 0;
     let mut l: u32 = 0;
     while l < lists {

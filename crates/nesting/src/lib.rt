@@ -110,20 +110,18 @@ fn find_level(t: &[u32], h: Layout, depths: &mut [u32], d: u32) -> bool
     more
 }
 
-// The depth of each list that is at most seven deep, 0 for any other. A round that finds none is the last.
-pub fn list_depths(t: &[u32], h: Layout) -> [u32; 256]
-    requires { ⌜ Laid (now t) h × (h .lists ≤ 256) ⌝ }
-    ensures { λ r. ⌜ Depths deepest (now (t .entry)) r ⌝ }
+// The depth of each list that is at most seven deep, 0 for any other, into lent zeros. A round that finds none is the last.
+pub fn find_depths(t: &[u32], h: Layout, depths: &mut [u32])
+    requires { ⌜ Laid (now t) h × (h .lists ≤ 256) × Depths 0 (now t) (now depths) ⌝ }
+    ensures { λ _. ⌜ Depths deepest (now (t .entry)) (now (depths .exit)) ⌝ }
 {
-    let mut depths = [0u32; 256];
     let mut d: u32 = 0;
     while d < 7 {
-        if !find_level(t, h, &mut depths, d) {
-            return depths;
+        if !find_level(t, h, depths, d) {
+            return;
         }
         d += 1;
     }
-    depths
 }
 
 // Whether a word keeps rule 7, by the depths of the lists that are at most seven deep.

@@ -6,8 +6,8 @@ ghost use Rattle.tables.specs.Told.{told, promised, Says};
 use cost::bound;
 use fields::first_misfit;
 use names::first_misnamed;
+use nesting::find_depths;
 use nesting::first_deep;
-use nesting::list_depths;
 use owners::first_clash;
 use words::sections::Layout;
 use words::sections::read_layout;
@@ -95,7 +95,8 @@ pub fn check(t: &[u32]) -> Checked
     if misnamed < length {
         return Checked::Misnamed(misnamed);
     }
-    let depths = list_depths(t, h);
+    let mut depths = [0u32; 256];
+    find_depths(t, h, &mut depths);
     let deep = first_deep(t, h, &depths);
     if deep < length {
         return Checked::TooDeep(deep);

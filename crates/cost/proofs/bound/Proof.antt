@@ -1,11 +1,12 @@
 -- `cost::bound` meets its contract. The loop's invariant: the total with what the rest of the lists cost is B, once held. Assumes nothing.
+use mathlib.Core.Path.{refl}
 use Prim.Native.Nat.{_+_, _-_, _≤_}
 use mathlib.Core.Path.{_≡_, sym, _∙_}
 use native.Mathlib.Omega.{arith}
 use Rattle.rulebook.specs.Words.{sum}
 use Rattle.rulebook.specs.Reasons as Reasons
 use Rattle.cost.specs.Costs.{capped}
-use Rattle.cost.proofs.Capped.{bound-start, cost-is, cost-turn, cost-end}
+use Rattle.cost.proofs.Capped.{no-round, bound-start, cost-is, cost-turn, cost-end}
 use Rattle.cost.proofs.bound.Statement.{statement}
 use Rattle.cost.proofs.bound.Tie as tie
 
@@ -15,14 +16,17 @@ Inv-loop t depths lists costs total₀ l₀ total l = (l ≤ lists) × (total �
 abbrev μ-loop : tie.MeasureT-loop
 μ-loop t depths lists costs total₀ l₀ total l = lists - l
 
-list-costs-requires : tie.Need-list-costs-requires Inv-loop μ-loop
-list-costs-requires c κs = (c .before .before .pre .0, c .before .before .pre .1, c .before .before .pre .2)
+slice-aggregate-find-costs : tie.Need-slice-aggregate-find-costs Inv-loop μ-loop
+slice-aggregate-find-costs c = refl
+
+find-costs-requires : tie.Need-find-costs-requires Inv-loop μ-loop
+find-costs-requires c κs = (c .before .before .before .pre .0, c .before .before .before .pre .1, c .before .before .before .pre .2, no-round (c .before .before .before .args .t .now))
 
 loop-holds : tie.Need-loop-holds Inv-loop μ-loop
-loop-holds c = (omega arith, omega arith, bound-start _ _ (c .before .before .before .pre .0))
+loop-holds c = (omega arith, omega arith, bound-start _ _ (c .before .before .before .before .before .pre .0))
 
 slice-aggregate-cost-in : tie.Need-slice-aggregate-cost-in Inv-loop μ-loop
-slice-aggregate-cost-in c = sym (c .before .before .before .list-costs .ensures .long)
+slice-aggregate-cost-in c = sym (c .before .before .before .before .find-costs .ensures .long)
 
 cost-in-requires : tie.Need-cost-in-requires Inv-loop μ-loop
 cost-in-requires c κs = tt
@@ -40,7 +44,7 @@ loop-less : tie.Need-loop-less Inv-loop μ-loop
 loop-less c = omega arith
 
 loop-again : tie.Need-loop-again Inv-loop μ-loop
-loop-again c = (omega arith, omega (arith, c .cap .ensures), c .before .before .before .before .loop .inv .2 ∙ cost-turn (Reasons.costWithin 7 (c .before .before .before .before .before .before .before .before .args .t .now)) _ _ _ _ _ (c .before .before .before .loop-test .taken) (cost-is _ _ (c .before .before .before .before .before .list-costs .ensures) (c .before .before .before .before .before .before .before .before .pre .3) _ _ (omega (arith, c .before .before .before .loop-test .taken, c .before .before .before .before .before .before .before .before .pre .0 .lists .value)) (c .before .cost-in .ensures .value)) (c .cap .ensures))
+loop-again c = (omega arith, omega (arith, c .cap .ensures), c .before .before .before .before .loop .inv .2 ∙ cost-turn (Reasons.costWithin 7 (c .before .before .before .before .before .before .before .before .before .before .args .t .now)) _ _ _ _ _ (c .before .before .before .loop-test .taken) (cost-is _ _ (c .before .before .before .before .before .before .find-costs .ensures) (c .before .before .before .before .before .before .before .before .before .before .pre .3) _ _ (omega (arith, c .before .before .before .loop-test .taken, c .before .before .before .before .before .before .before .before .before .before .pre .0 .lists .value)) (c .before .cost-in .ensures .value)) (c .cap .ensures))
 
 returns : tie.Need-returns Inv-loop μ-loop
 returns c = sym (c .before .loop .inv .2 ∙ cost-end _ _ _ _ (c .loop-test .left) (c .before .loop .inv .1))
@@ -51,7 +55,8 @@ bound-spec =
     (tie.spec
     Inv-loop
     μ-loop
-    list-costs-requires
+    slice-aggregate-find-costs
+    find-costs-requires
     loop-holds
     slice-aggregate-cost-in
     cost-in-requires

@@ -8,6 +8,7 @@ use Rattle.rulebook.specs.Words.{field}
 use Rattle.rulebook.specs.Reasons as Reasons
 use Rattle.rulebook.specs.Reasons.{hasHeader, knownEdition, exactLength, ownFields, names, nesting, owners}
 use Rattle.tables.proofs.Chain.{from1, from2, from3, from4, from5, from6, from7, from8, from9, kept, broken, kept-by-all, broken-at, refuses, dear, cheap, accepts, few-lists, no-deep-list}
+use Rattle.nesting.proofs.Levels.{no-round}
 use borrow.Author.Needs.{needs}
 use Rattle.tables.proofs.check.Statement.{statement}
 use Rattle.tables.proofs.check.Tie as tie
@@ -35,11 +36,11 @@ past5 c = past4 (c .before .before) ∙ kept-by-all 5 ownFields _ _ _ _ (c .befo
 past6 : (c : tie.Else6) → Reasons.check (c .before .before .before .before .before .before .before .before .before .before .before .before .before .args .t .now) ≡ from7 (c .before .before .before .before .before .before .before .before .before .before .before .before .before .args .t .now)
 past6 c = past5 (c .before .before) ∙ kept-by-all 6 names _ _ _ _ (c .before .before .before .before .if4 .left) (c .before .first-misnamed .ensures) (c .if6 .left)
 
-past7 : (c : tie.Else7) → Reasons.check (c .before .before .before .before .before .before .before .before .before .before .before .before .before .before .before .before .before .args .t .now) ≡ from8 (c .before .before .before .before .before .before .before .before .before .before .before .before .before .before .before .before .before .args .t .now)
-past7 c = past6 (c .before .before .before .before) ∙ kept-by-all 7 nesting _ _ _ _ (c .before .before .before .before .before .before .before .before .if4 .left) (c .before .first-deep .ensures) (c .if7 .left)
+past7 : (c : tie.Else7) → Reasons.check (c .before .before .before .before .before .before .before .before .before .before .before .before .before .before .before .before .before .before .before .args .t .now) ≡ from8 (c .before .before .before .before .before .before .before .before .before .before .before .before .before .before .before .before .before .before .before .args .t .now)
+past7 c = past6 (c .before .before .before .before .before .before) ∙ kept-by-all 7 nesting _ _ _ _ (c .before .before .before .before .before .before .before .before .before .before .if4 .left) (c .before .first-deep .ensures) (c .if7 .left)
 
-past8 : (c : tie.Else8) → Reasons.check (c .before .before .before .before .before .before .before .before .before .before .before .before .before .before .before .before .before .before .before .args .t .now) ≡ from9 (c .before .before .before .before .before .before .before .before .before .before .before .before .before .before .before .before .before .before .before .args .t .now)
-past8 c = past7 (c .before .before) ∙ kept-by-all 8 owners _ _ _ _ (c .before .before .before .before .before .before .before .before .before .before .if4 .left) (c .before .first-clash .ensures) (c .if8 .left)
+past8 : (c : tie.Else8) → Reasons.check (c .before .before .before .before .before .before .before .before .before .before .before .before .before .before .before .before .before .before .before .before .before .args .t .now) ≡ from9 (c .before .before .before .before .before .before .before .before .before .before .before .before .before .before .before .before .before .before .before .before .before .args .t .now)
+past8 c = past7 (c .before .before) ∙ kept-by-all 8 owners _ _ _ _ (c .before .before .before .before .before .before .before .before .before .before .before .before .if4 .left) (c .before .first-clash .ensures) (c .if8 .left)
 
 -- the lists are few, since the counts are inside their limits
 few : (c : tie.Else3) → c .before .before .before .before .before .read-layout .result .lists ≤ 256
@@ -86,8 +87,11 @@ first-misnamed-requires c κs = search needs
 returns-6 : tie.Need-returns-6
 returns-6 c = refuses _ 6 _ refl (past5 (c .before .before) ∙ broken-at 6 names _ _ _ _ (c .before .before .before .before .if4 .left) (c .before .first-misnamed .ensures) (c .if6 .taken))
 
-list-depths-requires : tie.Need-list-depths-requires
-list-depths-requires c κs = (c .before .before .before .before .before .before .before .before .before .before .read-layout .ensures, few (c .before .before .before .before .before))
+slice-aggregate-find-depths : tie.Need-slice-aggregate-find-depths
+slice-aggregate-find-depths c = search needs
+
+find-depths-requires : tie.Need-find-depths-requires
+find-depths-requires c κs = (c .before .before .before .before .before .before .before .before .before .before .before .read-layout .ensures, few (c .before .before .before .before .before .before), no-round (c .before .before .before .before .before .before .before .before .before .before .before .before .before .before .args .t .now))
 
 slice-aggregate-first-deep : tie.Need-slice-aggregate-first-deep
 slice-aggregate-first-deep c = search needs
@@ -96,19 +100,19 @@ first-deep-requires : tie.Need-first-deep-requires
 first-deep-requires c κs = search needs
 
 returns-7 : tie.Need-returns-7
-returns-7 c = refuses _ 7 _ refl (past6 (c .before .before .before .before) ∙ broken-at 7 nesting _ _ _ _ (c .before .before .before .before .before .before .before .before .if4 .left) (c .before .first-deep .ensures) (c .if7 .taken))
+returns-7 c = refuses _ 7 _ refl (past6 (c .before .before .before .before .before .before) ∙ broken-at 7 nesting _ _ _ _ (c .before .before .before .before .before .before .before .before .before .before .if4 .left) (c .before .first-deep .ensures) (c .if7 .taken))
 
 first-clash-requires : tie.Need-first-clash-requires
 first-clash-requires c κs = search needs
 
 returns-8 : tie.Need-returns-8
-returns-8 c = refuses _ 8 _ refl (past7 (c .before .before) ∙ broken-at 8 owners _ _ _ _ (c .before .before .before .before .before .before .before .before .before .before .if4 .left) (c .before .first-clash .ensures) (c .if8 .taken))
+returns-8 c = refuses _ 8 _ refl (past7 (c .before .before) ∙ broken-at 8 owners _ _ _ _ (c .before .before .before .before .before .before .before .before .before .before .before .before .if4 .left) (c .before .first-clash .ensures) (c .if8 .taken))
 
 slice-aggregate-bound : tie.Need-slice-aggregate-bound
 slice-aggregate-bound c = search needs
 
 bound-requires : tie.Need-bound-requires
-bound-requires c κs = (c .before .before .before .before .before .before .before .before .before .before .before .before .before .before .before .before .before .read-layout .ensures, few (c .before .before .before .before .before .before .before .before .before .before .before .before), c .before .before .before .before .before .before .list-depths .ensures, no-deep-list _ _ _ (c .before .before .before .before .before .before .before .before .before .before .before .if4 .left) (c .before .before .before .before .before .before .before .before .before .before .before .before .before .before .before .before .before .read-layout .ensures .length) (c .before .before .before .before .first-deep .ensures) (c .before .before .before .if7 .left))
+bound-requires c κs = (c .before .before .before .before .before .before .before .before .before .before .before .before .before .before .before .before .before .before .before .read-layout .ensures, few (c .before .before .before .before .before .before .before .before .before .before .before .before .before .before), c .before .before .before .before .before .before .before .find-depths .ensures, no-deep-list _ _ _ (c .before .before .before .before .before .before .before .before .before .before .before .before .before .if4 .left) (c .before .before .before .before .before .before .before .before .before .before .before .before .before .before .before .before .before .before .before .read-layout .ensures .length) (c .before .before .before .before .first-deep .ensures) (c .before .before .before .if7 .left))
 
 returns-9 : tie.Need-returns-9
 returns-9 c = refuses _ 9 0 refl (past8 (c .before .before .before) ∙ broken 9 _ _ (dear _ _ (c .before .bound .ensures) (c .if9 .taken)))
@@ -132,7 +136,8 @@ check-spec =
     returns-5
     first-misnamed-requires
     returns-6
-    list-depths-requires
+    slice-aggregate-find-depths
+    find-depths-requires
     slice-aggregate-first-deep
     first-deep-requires
     returns-7

@@ -1,0 +1,58 @@
+-- `nesting::find_depths` meets its contract. The loop's invariant: d rounds have found the lists that are at most d deep. Assumes nothing.
+use Prim.Native.Nat.{_-_, _≤_}
+use mathlib.Core.Path.{_≡_, sym, _∙_}
+use native.Mathlib.Omega.{arith}
+use borrow.Author.Tests.{not-true}
+use Rattle.nesting.specs.Depths.{Depths}
+use Rattle.nesting.proofs.Levels.{settled}
+use Rattle.nesting.proofs.find_depths.Statement.{statement}
+use Rattle.nesting.proofs.find_depths.Tie as tie
+
+abbrev Inv-loop : tie.InvT-loop
+Inv-loop t h depths₀ d₀ depths d = (d ≤ 7) × Depths d t depths
+
+abbrev μ-loop : tie.MeasureT-loop
+μ-loop t h depths₀ d₀ depths d = 7 - d
+
+loop-holds : tie.Need-loop-holds Inv-loop μ-loop
+loop-holds c = (omega arith, c .before .before .pre .2)
+
+find-level-requires : tie.Need-find-level-requires Inv-loop μ-loop
+find-level-requires c κs = (c .before .before .before .before .before .pre .0, c .before .before .before .before .before .pre .1, c .before .loop-test .taken, c .before .before .loop .inv .1)
+
+same-length : tie.Need-same-length Inv-loop μ-loop
+same-length c = c .before .before .before .find-level .ensures .next .long ∙ sym (c .before .before .before .before .before .before .before .before .before .pre .2 .long)
+
+returns : tie.Need-returns Inv-loop μ-loop
+returns c = let e = c .before .before .before .find-level .ensures in settled _ _ _ (e .none (not-true _ (c .if1 .taken))) (e .next) 7 (omega arith)
+
+add-d : tie.Need-add-d Inv-loop μ-loop
+add-d c = omega arith
+
+loop-less : tie.Need-loop-less Inv-loop μ-loop
+loop-less c = omega arith
+
+loop-again : tie.Need-loop-again Inv-loop μ-loop
+loop-again c = (omega arith, c .before .before .before .find-level .ensures .next)
+
+same-length-2 : tie.Need-same-length-2 Inv-loop μ-loop
+same-length-2 c = c .before .loop .inv .1 .long ∙ sym (c .before .before .before .before .pre .2 .long)
+
+returns-2 : tie.Need-returns-2 Inv-loop μ-loop
+returns-2 c = let all : c .before .loop .d ≡ 7 = omega arith in rw all at (c .before .loop .inv .1)
+
+pub find-depths-spec : {M : Type 1} → statement M
+find-depths-spec =
+    tie.close
+    (tie.spec
+    Inv-loop
+    μ-loop
+    loop-holds
+    find-level-requires
+    same-length
+    returns
+    add-d
+    loop-less
+    loop-again
+    same-length-2
+    returns-2)
