@@ -2,6 +2,7 @@
 // and the chosen lists run once each, larger priority first, then lower number.
 ghost use mathlib.Core.Path.{_≡_};
 ghost use Prim.Native.Nat.{_≤_, _<_};
+ghost use lib.ListN.{length, replicate};
 ghost use Rattle.rulebook.specs.Words.{any, each};
 ghost use Rattle.rulebook.specs.Table.{ports as portsOf, rules as rulesOf, lists as listsOf};
 ghost use Rattle.rulebook.specs.Lists.{start};
@@ -67,20 +68,18 @@ fn outcome(t: &[u32], h: Layout, flags: &[u32], s: &[u32], r: u32) -> u32
     evaluation::result(t, h, s, r)
 }
 
-// The outcomes of all rules, all from the one state.
-fn outcomes(t: &[u32], h: Layout, flags: &[u32], s: &[u32]) -> [u32; 256]
-    requires { ⌜ Laid (now t) h × (h .rules ≤ 256) ⌝ }
-    ensures { λ results. ⌜ Outcomes (now (t .entry)) (flagged (now (flags .entry))) (now (s .entry)) results ⌝ }
+// The outcomes of all rules, all from the one state, into lent words.
+fn find_outcomes(t: &[u32], h: Layout, flags: &[u32], s: &[u32], results: &mut [u32])
+    requires { ⌜ Laid (now t) h × (h .rules ≤ 256) × (length (now results) ≡ 256) ⌝ }
+    ensures { λ _. ⌜ Outcomes (now (t .entry)) (flagged (now (flags .entry))) (now (s .entry)) (now (results .exit)) ⌝ }
 {
     let rules = h.rules;
-    let mut results = [0u32; 256];
     let mut r: u32 = 0;
     while r < rules {
         let found = outcome(t, h, flags, s, r);
-        results[r as usize] = found;
+        put(results, r as usize, found);
         r += 1;
     }
-    results
 }
 
 // The list that rule r starts by its outcome; 256 where it has no result.
@@ -95,21 +94,19 @@ fn pick(t: &[u32], h: Layout, results: &[u32], s: &[u32], r: u32) -> u32
     evaluation::choice(t, h, r, lists::previous(t, h, s, r), result)
 }
 
-// Flags of the lists that the rules choose, from the state before the results are stored. Flag 255 means nothing: no list has that
-// number.
-fn choose(t: &[u32], h: Layout, results: &[u32], s: &[u32]) -> [u32; 256]
-    requires { ⌜ Laid (now t) h ⌝ }
-    ensures { λ flags. ⌜ Chosen (now (t .entry)) (now (results .entry)) (now (s .entry)) flags ⌝ }
+// Puts up the flags of the lists that the rules choose, from the state before the results are stored. Flag 255 means nothing: no
+// list has that number.
+fn choose(t: &[u32], h: Layout, results: &[u32], s: &[u32], flags: &mut [u32])
+    requires { ⌜ Laid (now t) h × (now flags ≡ replicate 256 0) ⌝ }
+    ensures { λ _. ⌜ Chosen (now (t .entry)) (now (results .entry)) (now (s .entry)) (now (flags .exit)) ⌝ }
 {
     let rules = h.rules;
-    let mut flags = [0u32; 256];
     let mut r: u32 = 0;
     while r < rules {
         let l = pick(t, h, results, s, r);
-        put(&mut flags, l as usize, 1);
+        put(flags, l as usize, 1);
         r += 1;
     }
-    flags
 }
 
 // Stores rule r's result, if it has one.
@@ -193,8 +190,10 @@ pub fn arbitrate(t: &[u32], h: Layout, flags: &[u32], s: &mut [u32], trace: &mut
     ensures { λ n. ⌜ Ran (arbitrateOf (now (t .entry)) (flagged (now (flags .entry))) (now (s .entry))) (now (s .exit)) (now (trace .entry)) (now (trace .exit)) n ⌝ }
 {
     unmark(t, h, flags, s);
-    let results = outcomes(t, h, flags, s);
-    let mut chosen = choose(t, h, &results, s);
+    let mut results = [0u32; 256];
+    find_outcomes(t, h, flags, s, &mut results);
+    let mut chosen = [0u32; 256];
+    choose(t, h, &results, s, &mut chosen);
     store(t, h, &results, s);
     run_chosen(t, h, &mut chosen, s, trace)
 }
@@ -235,20 +234,18 @@ fn any_marked(t: &[u32], h: Layout, s: &[u32]) -> bool
     false
 }
 
-// Flags of the marked ports.
-fn marked_ports(t: &[u32], h: Layout, s: &[u32]) -> [u32; 256]
-    requires { ⌜ Laid (now t) h ⌝ }
-    ensures { λ flags. ⌜ Marked (now (t .entry)) (now (s .entry)) flags ⌝ }
+// Puts up the flags of the marked ports.
+fn flag_marked(t: &[u32], h: Layout, s: &[u32], flags: &mut [u32])
+    requires { ⌜ Laid (now t) h × (now flags ≡ replicate 256 0) ⌝ }
+    ensures { λ _. ⌜ Marked (now (t .entry)) (now (s .entry)) (now (flags .exit)) ⌝ }
 {
     let ports = h.ports;
-    let mut flags = [0u32; 256];
     let mut p: u32 = 0;
     while p < ports {
         let up = raised(is_marked(t, h, s, p));
-        flags[p as usize] = up;
+        put(flags, p as usize, up);
         p += 1;
     }
-    flags
 }
 
 // Arbitrates all marked ports. Where none is marked no rule is looked at.
@@ -259,6 +256,7 @@ pub fn arbitrate_marked(t: &[u32], h: Layout, s: &mut [u32], trace: &mut [u32]) 
     if !any_marked(t, h, s) {
         return 0;
     }
-    let flags = marked_ports(t, h, s);
+    let mut flags = [0u32; 256];
+    flag_marked(t, h, s, &mut flags);
     arbitrate(t, h, &flags, s, trace)
 }

@@ -2,7 +2,7 @@
 ghost use mathlib.Core.Path.{_≡_};
 ghost use Prim.Native.Nat.{_+_, min};
 ghost use Rattle.rulebook.specs.State.{networkIndex};
-ghost use Rattle.rulebook.specs.Lists.{networkIn, setNetwork, asking as askingOf};
+ghost use Rattle.rulebook.specs.Lists.{networkIn, setNetwork};
 ghost use Rattle.rulebook.specs.Events.{shown as shownOf, moved as movedOf, moveNetwork, takes as takesOf, wait as waitOf, offBus};
 ghost use Rattle.rulebook.specs.Events.{busOff, countedNetwork, tickedNetwork, tickNetwork};
 ghost use Rattle.words.specs.Sections.{Laid};
@@ -55,18 +55,6 @@ pub fn set_network(t: &[u32], h: Layout, s: &mut [u32], n: u32, c: Network)
     let i = network_index(t, h, n);
     let w = state::pack_network(c.asked, c.state, c.counter, c.remaining);
     put(s, i, w);
-}
-
-// The same network asked for a mode.
-pub fn asking(mode: u32, c: Network) -> Network
-    ensures { λ r. ⌜ networkAs r ≡ askingOf mode (networkAs c) ⌝ }
-{
-    Network {
-        asked: mode,
-        state: c.state,
-        counter: c.counter,
-        remaining: c.remaining,
-    }
 }
 
 // The same network in another state; what it is asked for stays.

@@ -3,4 +3,3 @@ pub mod Field
 pub mod Sections
 pub mod Flags
 pub mod Parts
-pub mod Same

@@ -6,7 +6,6 @@ ghost use lib.ListN.{set};
 ghost use Rattle.rulebook.specs.Words.{digit, word as wordOf};
 ghost use Rattle.words.specs.Field.{Field};
 ghost use Rattle.words.specs.Flags.{flagged};
-ghost use Rattle.words.specs.Same.{Same};
 
 pub mod parts;
 pub mod sections;
@@ -50,21 +49,4 @@ pub fn raised(up: bool) -> u32
     ensures { λ r. ⌜ r ≡ cond up 1 0 ⌝ }
 {
     if up { 1 } else { 0 }
-}
-
-// Whether two slices hold the same words.
-pub fn same(a: &[u32], b: &[u32]) -> bool
-    ensures { λ r. ⌜ Same (now (a .entry)) (now (b .entry)) r ⌝ }
-{
-    if a.len() != b.len() {
-        return false;
-    }
-    let mut i: usize = 0;
-    while i < a.len() {
-        if a[i] != b[i] {
-            return false;
-        }
-        i += 1;
-    }
-    true
 }

@@ -21,15 +21,18 @@ returns : tie.Need-returns
 unfolding arbitrateMarked
 returns c = nothing-marked _ _ _ (sym (c .before .any-marked .ensures) ∙ not-true _ (c .if1 .taken))
 
-marked-ports-requires : tie.Need-marked-ports-requires
-marked-ports-requires c κs = search needs
+slice-aggregate-flag-marked : tie.Need-slice-aggregate-flag-marked
+slice-aggregate-flag-marked c = search needs
+
+flag-marked-requires : tie.Need-flag-marked-requires
+flag-marked-requires c κs = search needs
 
 slice-aggregate-arbitrate : tie.Need-slice-aggregate-arbitrate
 slice-aggregate-arbitrate c = search needs
 
 arbitrate-requires : tie.Need-arbitrate-requires
 unfolding arbitrateMarked
-arbitrate-requires c κs = (c .before .before .before .before .before .before .before .before .before .before .before .pre .0, c .before .before .before .before .before .before .before .before .before .before .before .pre .1, safe-as _ _ _ (ap (λ (q : ℕ → Bool). arbitrate (c .before .before .before .before .before .before .before .before .before .before .before .args .t .now) q (c .before .before .before .before .before .before .before .before .before .before .before .args .s .now)) (sym (marked-are _ _ _ (c .before .before .before .marked-ports .ensures)))) (c .before .before .before .before .before .before .before .before .before .before .before .pre .2))
+arbitrate-requires c κs = (c .before .before .before .before .before .before .before .before .before .before .before .before .before .pre .0, c .before .before .before .before .before .before .before .before .before .before .before .before .before .pre .1, safe-as _ _ _ (ap (λ (q : ℕ → Bool). arbitrate (c .before .before .before .before .before .before .before .before .before .before .before .before .before .args .t .now) q (c .before .before .before .before .before .before .before .before .before .before .before .before .before .args .s .now)) (sym (marked-are _ _ _ (c .before .before .before .before .flag-marked .ensures)))) (c .before .before .before .before .before .before .before .before .before .before .before .before .before .pre .2))
 
 same-length-2 : tie.Need-same-length-2
 same-length-2 c = search needs
@@ -39,7 +42,7 @@ same-length-3 c = search needs
 
 returns-2 : tie.Need-returns-2
 unfolding arbitrateMarked
-returns-2 c = ran-as _ _ _ _ _ _ (ap (λ (q : ℕ → Bool). arbitrate (c .before .before .before .before .before .before .before .before .before .before .before .before .before .before .before .before .args .t .now) q (c .before .before .before .before .before .before .before .before .before .before .before .before .before .before .before .before .args .s .now)) (sym (marked-are _ _ _ (c .before .before .before .before .before .before .before .before .marked-ports .ensures)))) (c .before .before .before .before .arbitrate .ensures)
+returns-2 c = ran-as _ _ _ _ _ _ (ap (λ (q : ℕ → Bool). arbitrate (c .before .before .before .before .before .before .before .before .before .before .before .before .before .before .before .before .before .before .args .t .now) q (c .before .before .before .before .before .before .before .before .before .before .before .before .before .before .before .before .before .before .args .s .now)) (sym (marked-are _ _ _ (c .before .before .before .before .before .before .before .before .before .flag-marked .ensures)))) (c .before .before .before .before .arbitrate .ensures)
 
 pub arbitrate-marked-spec : {M : Type 1} → statement M
 arbitrate-marked-spec =
@@ -48,7 +51,8 @@ arbitrate-marked-spec =
     any-marked-requires
     same-length
     returns
-    marked-ports-requires
+    slice-aggregate-flag-marked
+    flag-marked-requires
     slice-aggregate-arbitrate
     arbitrate-requires
     same-length-2

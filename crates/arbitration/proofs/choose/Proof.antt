@@ -1,9 +1,8 @@
 -- `arbitration::choose` meets its contract. The loop's invariant: what all rules choose is what those passed choose, or the rest. Assumes nothing.
 use Prim.Native.Nat.{ℕ, _-_, _≤_}
-use mathlib.Core.Path.{_≡_, refl, sym, _∙_}
+use mathlib.Core.Path.{_≡_, refl, sym, ap, _∙_}
 use mathlib.Core.Bool.{_||_}
 use native.Mathlib.Omega.{arith}
-use borrow.Author.Needs.{needs}
 use lib.ListN.{length}
 use Rattle.rulebook.specs.Words.{any}
 use Rattle.rulebook.specs.Table as Table
@@ -14,42 +13,37 @@ use Rattle.arbitration.proofs.choose.Statement.{statement}
 use Rattle.arbitration.proofs.choose.Tie as tie
 
 abbrev Inv-loop : tie.InvT-loop
-Inv-loop t h results s rules flags₀ r₀ flags r = (r ≤ rules) × (length flags ≡ 256)
-    × ((k : ℕ) → any 0 (Table.rules t) (choosesBy t results s k) ≡ (flagged flags k || any r (Table.rules t - r) (choosesBy t results s k)))
+Inv-loop t h results s flags₀ rules r₀ flags r = (r ≤ rules) × (length flags ≡ 256) × ((k : ℕ) → any 0 (Table.rules t) (choosesBy t results s k) ≡ (flagged flags k || any r (Table.rules t - r) (choosesBy t results s k)))
 
 abbrev μ-loop : tie.MeasureT-loop
-μ-loop t h results s rules flags₀ r₀ flags r = rules - r
+μ-loop t h results s flags₀ rules r₀ flags r = rules - r
 
 loop-holds : tie.Need-loop-holds Inv-loop μ-loop
-loop-holds c = (omega arith, refl, λ k. chose-none _ _ _ _ k)
+loop-holds c = (omega arith, ap length (c .before .before .before .before .pre .1), λ k. rw (c .before .before .before .before .pre .1) (chose-none _ _ _ _ k))
 
 pick-requires : tie.Need-pick-requires Inv-loop μ-loop
-pick-requires c κs = c .before .before .before .before .before .pre
-
-slice-aggregate-put : tie.Need-slice-aggregate-put Inv-loop μ-loop
-slice-aggregate-put c = sym (c .before .before .before .loop .inv .1)
+pick-requires c κs = c .before .before .before .before .before .before .pre .0
 
 cast-put : tie.Need-cast-put Inv-loop μ-loop
-cast-put c = search needs
+cast-put c = omega arith
 
 put-requires : tie.Need-put-requires Inv-loop μ-loop
-put-requires c κs = search needs
+put-requires c κs = tt
 
 add-r : tie.Need-add-r Inv-loop μ-loop
-add-r c = omega (arith, c .before .before .before .before .loop-test .taken, c .before .before .before .before .before .before .before .before .before .pre .rules .small)
+add-r c = omega (arith, c .before .before .before .before .before .loop-test .taken, c .before .before .before .before .before .before .before .before .before .before .before .pre .0 .rules .small)
 
 loop-less : tie.Need-loop-less Inv-loop μ-loop
-loop-less c = omega (arith, c .before .before .before .before .loop-test .taken)
+loop-less c = omega (arith, c .before .before .before .before .before .loop-test .taken)
 
 loop-again : tie.Need-loop-again Inv-loop μ-loop
-loop-again c = (
-  omega (arith, c .before .before .before .before .loop-test .taken),
-  c .before .put .kept .0 ∙ c .before .before .before .before .before .loop .inv .1,
-  λ k. rw (c .before .put .ensures) (chose-more _ _ _ _ _ _ (c .before .before .before .before .before .loop .inv .1) (c .before .before .before .pick .ensures) _ k (omega (arith, c .before .before .before .before .loop-test .taken, c .before .before .before .before .before .before .before .before .before .pre .rules .value)) (c .before .before .before .before .before .loop .inv .2 k)),
-)
+loop-again c = (omega (arith, c .before .before .before .before .before .loop-test .taken), c .before .before .put .kept .0 ∙ c .before .before .before .before .before .before .loop .inv .1, λ k. rw (c .before .before .put .ensures) (chose-more _ _ _ _ _ _ (c .before .before .before .before .before .before .loop .inv .1) (c .before .before .before .before .pick .ensures) _ k (omega (arith, c .before .before .before .before .before .loop-test .taken, c .before .before .before .before .before .before .before .before .before .before .before .pre .0 .rules .value)) (c .before .before .before .before .before .before .loop .inv .2 k)))
+
+same-length : tie.Need-same-length Inv-loop μ-loop
+same-length c = c .before .loop .inv .1 ∙ sym (ap length (c .before .before .before .before .before .before .pre .1))
 
 returns : tie.Need-returns Inv-loop μ-loop
-returns c = chose-all _ _ _ _ _ (c .before .loop .inv .1) (omega (arith, c .loop-test .left, c .before .before .before .before .before .pre .rules .value)) (c .before .loop .inv .2)
+returns c = chose-all _ _ _ _ _ (c .before .loop .inv .1) (omega (arith, c .loop-test .left, c .before .before .before .before .before .before .pre .0 .rules .value)) (c .before .loop .inv .2)
 
 pub choose-spec : {M : Type 1} → statement M
 choose-spec =
@@ -59,10 +53,10 @@ choose-spec =
     μ-loop
     loop-holds
     pick-requires
-    slice-aggregate-put
     cast-put
     put-requires
     add-r
     loop-less
     loop-again
+    same-length
     returns)

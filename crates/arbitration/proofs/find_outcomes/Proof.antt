@@ -1,0 +1,60 @@
+-- `arbitration::find_outcomes` meets its contract. The loop's invariant: the outcomes of the rules passed are right. Assumes nothing.
+use Prim.Native.Nat.{ℕ, _-_, _≤_, _<_}
+use mathlib.Core.Path.{_≡_, sym, _∙_}
+use native.Mathlib.Omega.{arith}
+use lib.ListN.{length, length-set}
+use Rattle.rulebook.specs.Words.{word}
+use Rattle.words.specs.Flags.{flagged}
+use Rattle.words.proofs.Fill.{set-more}
+use Rattle.arbitration.specs.Outcomes.{outcome}
+use Rattle.arbitration.proofs.find_outcomes.Statement.{statement}
+use Rattle.arbitration.proofs.find_outcomes.Tie as tie
+
+abbrev Inv-loop : tie.InvT-loop
+Inv-loop t h flags s results₀ rules r₀ results r = (r ≤ rules) × (length results ≡ 256) × ((k : ℕ) → k < r → word results k ≡ outcome t (flagged flags) s k)
+
+abbrev μ-loop : tie.MeasureT-loop
+μ-loop t h flags s results₀ rules r₀ results r = rules - r
+
+loop-holds : tie.Need-loop-holds Inv-loop μ-loop
+loop-holds c = (omega arith, c .before .before .before .before .pre .2, λ k h. absurd (omega arith))
+
+outcome-requires : tie.Need-outcome-requires Inv-loop μ-loop
+outcome-requires c κs = c .before .before .before .before .before .before .pre .0
+
+cast-put : tie.Need-cast-put Inv-loop μ-loop
+cast-put c = omega arith
+
+put-requires : tie.Need-put-requires Inv-loop μ-loop
+put-requires c κs = tt
+
+add-r : tie.Need-add-r Inv-loop μ-loop
+add-r c = omega (arith, c .before .before .before .before .before .loop-test .taken, c .before .before .before .before .before .before .before .before .before .before .before .pre .1)
+
+loop-less : tie.Need-loop-less Inv-loop μ-loop
+loop-less c = omega (arith, c .before .before .before .before .before .loop-test .taken)
+
+loop-again : tie.Need-loop-again Inv-loop μ-loop
+loop-again c = (omega (arith, c .before .before .before .before .before .loop-test .taken), rw (c .before .before .put .ensures) (simp length-set (c .before .before .before .before .before .before .loop .inv .1)), rw (c .before .before .put .ensures) (set-more (λ k w. w ≡ outcome (c .before .before .before .before .before .before .before .before .before .before .before .args .t .now) (flagged (c .before .before .before .before .before .before .before .before .before .before .before .args .flags .now)) (c .before .before .before .before .before .before .before .before .before .before .before .args .s .now) k) (c .before .before .before .before .before .before .loop .results) (c .before .before .before .before .before .before .loop .r) (c .before .before .before .before .outcome .result) (omega (arith, c .before .before .before .before .before .loop-test .taken, c .before .before .before .before .before .before .before .before .before .before .before .pre .1, c .before .before .before .before .before .before .loop .inv .1)) (c .before .before .before .before .outcome .ensures) (c .before .before .before .before .before .before .loop .inv .2)))
+
+same-length : tie.Need-same-length Inv-loop μ-loop
+same-length c = c .before .loop .inv .1 ∙ sym (c .before .before .before .before .before .before .pre .2)
+
+returns : tie.Need-returns Inv-loop μ-loop
+returns c = record { long = c .before .loop .inv .1; says = λ r h. c .before .loop .inv .2 r (omega (arith, c .loop-test .left, c .before .before .before .before .before .before .pre .0 .rules .value)) }
+
+pub find-outcomes-spec : {M : Type 1} → statement M
+find-outcomes-spec =
+    tie.close
+    (tie.spec
+    Inv-loop
+    μ-loop
+    loop-holds
+    outcome-requires
+    cast-put
+    put-requires
+    add-r
+    loop-less
+    loop-again
+    same-length
+    returns)
