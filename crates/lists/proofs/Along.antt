@@ -154,10 +154,6 @@ module _ (whole : Run) (f rest : Run → Run) (ff : Framed f) (fr : Framed rest)
           long = omega arith;
         })
 
-    -- the trace has room for what has run
-    pub next-inside : at + n ≤ length T
-    next-inside = let room = next-room in let j = m in omega arith
-
-    -- and is as long as it was
+    -- the trace is as long as it was
     pub next-long : length (putMid at (length T - at) T part') ≡ length T
     next-long = next .long ∙ sym (a .long)

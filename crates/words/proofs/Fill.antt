@@ -1,10 +1,10 @@
 -- A loop that fills an array of words, one store a turn. Assumes nothing.
-use Prim.Native.Nat.{ℕ, zero, suc, _+_, _<_, _≤_}
+use Prim.Native.Nat.{ℕ, zero, suc, _+_, _<_}
 use mathlib.Core.Path.{_≡_, refl, _∙_}
 use mathlib.Core.Bool.{Bool, true, false, cond, not}
 use mathlib.Core.List.{List}
 use native.Mathlib.Omega.{arith}
-use lib.ListN.{length, getD, set, replicate, List·getD-eq-default}
+use lib.ListN.{length, getD, set, replicate}
 use lib.Seq.{getD-set-same, getD-set-other}
 use lib.Dec.{eqb}
 use borrow.Author.Count.{below-more}
@@ -28,11 +28,7 @@ unfolding flagged
 raise-more q flags l v b inside hv hb before =
     set-more (λ k w. not (eqb w 0) ≡ q k) flags l v inside (rw hv (up-if b ∙ hb)) before
 
--- past the end no flag is up, and among zeros none is
-
-pub none-past : (flags : List ℕ) (l : ℕ) → length flags ≤ l → flagged flags l ≡ false
-unfolding flagged
-none-past flags l h = rw (List·getD-eq-default flags 0 h)
+-- among zeros no flag is up
 
 pub zero-word : (n l : ℕ) → _≡_ {A = ℕ} (getD (replicate n 0) l 0) 0
 zero-word zero l = refl
