@@ -96,7 +96,7 @@ demand-2 = record { accepts = accepts; steps = steps; ordered = in-order; once =
 played : (t s : List ℕ) (cs : List Call) (s′ : List ℕ) → Played t s cs s′ → s′ ≡ after t s cs
 unfolding after
 played t s [] s′ none = refl
-played t s (c ∷ cs) s′ (more {s₁ = u} p q) = played t u cs s′ q ∙ ap (λ (x : List ℕ). after t x cs) (p .state)
+played t s (c ∷ cs) s′ (more {s₁ = u} r p q) = played t u cs s′ q ∙ ap (λ (x : List ℕ). after t x cs) (p .state)
 
 one-call : (t s : List ℕ) (c : Call) (s′ : List ℕ) → Played t s (c ∷ []) s′ → s′ ≡ called t s c .state
 unfolding after

@@ -10,5 +10,5 @@ use Rattle.events.specs.Answers.{Told}
 -- from state s the calls cs lead to the last state
 pub data Played (t : List ℕ) : List ℕ → List Call → List ℕ → Type 0 where
   none : {s : List ℕ} → Played t s [] s
-  more : {s s₁ s₂ trace trace₁ : List ℕ} {e : ℕ} {r : Answer} {cs : List Call}
+  more : {s s₁ s₂ trace trace₁ : List ℕ} {e : ℕ} {cs : List Call} (r : Answer)
       → Told (step t s (length trace) e) trace r s₁ trace₁ → Played t s₁ cs s₂ → Played t s (record { event = e; room = length trace } ∷ cs) s₂

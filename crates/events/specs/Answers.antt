@@ -26,10 +26,13 @@ countOf Malformed = 0
 countOf NoSuchThing = 0
 countOf NotItsOwner = 0
 
--- The call tells result x: its answer, and the number of its words as the count; the state is x's; x's words stand at the front of
--- the trace, and its other words are unchanged.
-pub record Told (x : Result) (trace : List ℕ) (r : Answer) (s′ trace′ : List ℕ) : Type 0 where
-  pub answer : numberOf r ≡ x .answer
-  pub count : countOf r ≡ length (x .words)
+-- The numbers k and n tell result x: its answer, and the number of its words as the count; the state is x's; x's words stand at the
+-- front of the trace, and its other words are unchanged.
+pub record Tells (x : Result) (trace : List ℕ) (k n : ℕ) (s′ trace′ : List ℕ) : Type 0 where
+  pub answer : k ≡ x .answer
+  pub count : n ≡ length (x .words)
   pub state : s′ ≡ x .state
   pub words : trace′ ≡ x .words ++ drop (length (x .words)) trace
+
+abbrev pub Told : Result → List ℕ → Answer → List ℕ → List ℕ → Type 0
+Told x trace r s′ trace′ = Tells x trace (numberOf r) (countOf r) s′ trace′

@@ -5,9 +5,9 @@ ghost use lib.ListN.{length};
 ghost use Rattle.rulebook.specs.State.{stateLength};
 ghost use Rattle.rulebook.specs.Step.{refusedState, step};
 ghost use Rattle.tables.specs.Told.{Says, promised};
-ghost use Rattle.states.specs.Made.{numberOf as madeNumber};
+ghost use Rattle.states.specs.Made.{numberOf as madeNumber, Makes};
+ghost use Rattle.events.specs.Answers.{Tells};
 ghost use Rattle.manager.specs.Answers.{stateNumber};
-ghost use Rattle.gateway.specs.Numbers.{MadeFresh, TakenEvent};
 use manager::Fit;
 use states::Made;
 
@@ -53,7 +53,7 @@ pub extern "C" fn herringcart_state_words(table: &[u32]) -> usize
 // Makes a fresh state in the lent words, 0; or refuses, 1 or 2, and writes nothing.
 #[no_mangle]
 pub extern "C" fn herringcart_make_fresh(table: &[u32], state: &mut [u32]) -> u32
-    ensures { λ r. ⌜ MadeFresh (now (table .entry)) (now (state .entry)) r (now (state .exit)) ⌝ }
+    ensures { λ r. ⌜ Makes (now (table .entry)) (now (state .entry)) r (now (state .exit)) ⌝ }
 {
     made_number(manager::make_fresh(table, state))
 }
@@ -75,7 +75,7 @@ pub extern "C" fn herringcart_take_event(
     event: u32,
     count: &mut usize,
 ) -> u32
-    ensures { λ r. ⌜ TakenEvent (step (now (table .entry)) (now (state .entry)) (length (now (trace .entry))) event) (now (trace .entry)) r (now (count .exit)) (now (state .exit)) (now (trace .exit)) ⌝ }
+    ensures { λ r. ⌜ Tells (step (now (table .entry)) (now (state .entry)) (length (now (trace .entry))) event) (now (trace .entry)) r (now (count .exit)) (now (state .exit)) (now (trace .exit)) ⌝ }
 {
     let answer = manager::take_event(table, state, trace, event);
     *count = events::count(answer);

@@ -15,8 +15,7 @@ use Rattle.rulebook.specs.State.{fits, fresh, stateLength, freshAnswer, freshSt
 use Rattle.rulebook.specs.Step.{refusedCall}
 use Rattle.laws.proofs.Tests.{split}
 use Rattle.laws.proofs.Steps.{step-fits, fresh-fits}
-use Rattle.states.specs.declared.Made.{Made}
-use Rattle.states.specs.Made.{Fresh}
+use Rattle.states.specs.Made.{Makes}
 use Rattle.text.specs.Words.{wordsOf}
 use Rattle.text.specs.Puts.{lay}
 use Rattle.text.proofs.Digits.{below}
@@ -140,7 +139,7 @@ unfolding stateAfter
 state-none t s bytes from h = rw (drop-none from (wordsOf bytes) h)
 
 -- A fresh state of the sizes that an opening asks for is ready.
-pub opens-ready : {t s₀ s trace : List ℕ} {o : Opening} {m : Made} → Opens t o → o .reason ≡ 0 → length s₀ ≡ o .state → Fresh t s₀ m s → length trace ≡ o .trace → Ready t s trace
+pub opens-ready : {t s₀ s trace : List ℕ} {o : Opening} {k : ℕ} → Opens t o → o .reason ≡ 0 → length s₀ ≡ o .state → Makes t s₀ k s → length trace ≡ o .trace → Ready t s trace
 unfolding freshAnswer freshState
 opens-ready {t} {s₀} {s} {trace} opens none long made room =
     let ok : accepted t ≡ true = eq-eqb (check t .reason) 0 (sym (opens .reason) ∙ none) in

@@ -11,7 +11,10 @@ numberOf Done = 0
 numberOf BadTable = 1
 numberOf WrongLength = 2
 
--- the table t, the state s before, the answer r, the state after
-pub record Fresh (t s : List ℕ) (r : Made) (after : List ℕ) : Type 0 where
-  pub answer : numberOf r ≡ freshAnswer t s
+-- the table t, the state s before, the answer's number k, the state after
+pub record Makes (t s : List ℕ) (k : ℕ) (after : List ℕ) : Type 0 where
+  pub answer : k ≡ freshAnswer t s
   pub state : after ≡ freshState t s
+
+abbrev pub Fresh : List ℕ → List ℕ → Made → List ℕ → Type 0
+Fresh t s r after = Makes t s (numberOf r) after

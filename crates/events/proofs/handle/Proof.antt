@@ -14,7 +14,7 @@ refused-requires : tie.Need-refused-requires
 refused-requires c κs = search needs
 
 returns : tie.Need-returns
-returns c = told-refused _ (c .before .before .before .before .before .before .args .s .now) (c .before .before .before .before .before .before .args .trace .now) _ _ (c .before .before .hear .ensures) _ (not-taken (c .before .before .hear .result) (c .before .match .keys2)) (c .refused .ensures .0) (c .refused .ensures .1)
+returns c = told-refused _ (c .before .before .before .before .before .before .args .s .now) (c .before .before .before .before .before .before .args .trace .now) _ _ (c .before .before .hear .ensures) (c .refused .result) (not-taken (c .before .before .hear .result) (c .before .match .keys2)) (c .refused .ensures .0) (c .refused .ensures .1)
 
 happen-requires : tie.Need-happen-requires
 happen-requires c κs = search needs

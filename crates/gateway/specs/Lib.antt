@@ -1,2 +1,0 @@
--- What the calls for C promise.
-pub mod Numbers
