@@ -15,6 +15,7 @@ use std::process::ExitCode;
 const USAGE: &str = "usage: compare cases SEED COUNT [SEED COUNT ...]
        compare fixed
        compare hunt SECONDS
+       compare run TABLE EVENTS
        compare programs DIR COUNT SEED PROGRAM...
        compare bench
        compare bench-programs PROGRAM...";
@@ -26,6 +27,7 @@ fn main() -> ExitCode {
         ["cases", ref pairs @ ..] if !pairs.is_empty() => generated::cases(pairs),
         ["fixed"] => found::fixed(),
         ["hunt", seconds] => hunt::hunt(seconds),
+        ["run", table, events] => programs::run(table, events),
         ["programs", folder, count, seed, ref program @ ..] if !program.is_empty() => {
             programs::programs(folder, count, seed, program)
         }

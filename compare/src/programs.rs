@@ -1,12 +1,14 @@
-//! Both programs byte for byte.
+//! Both programs byte for byte, and the proved code as document 01's program.
 
+use std::fmt::Write as _;
 use std::fs;
+use std::io::{self, Write as _};
 use std::path::{Path, PathBuf};
 use std::process::{Command, Output};
 use std::time::Duration;
 
 use second::cases::{Case, Cases};
-use second::program::printed;
+use second::program::{printed, words};
 
 use crate::differ::Words;
 use crate::number;
@@ -14,6 +16,33 @@ use crate::shrink::smallest;
 
 /// How long a case is made smaller; each try starts the program.
 const LIMIT: Duration = Duration::from_secs(60);
+
+/// Document 01's program over the proved library, in this process.
+pub fn run(table: &str, events: &str) -> Result<(), String> {
+    let read = |path: &str| fs::read(path).map_err(|why| format!("cannot read {path}: {why}"));
+    let (table, events) = (words(&read(table)?), words(&read(events)?));
+    let lines = by_library(&table, &events);
+    io::stdout().lock().write_all(lines.as_bytes()).map_err(|why| format!("cannot print: {why}"))
+}
+
+fn by_library(table: &[u32], events: &[u32]) -> String {
+    let check = herringcart::check_table(table);
+    if !check.accepted() {
+        return format!("{}\n{}\n", check.reason, check.place);
+    }
+    let mut state = vec![0; herringcart::state_words(table)];
+    let mut trace = vec![0; check.bound as usize];
+    herringcart::make_fresh(table, &mut state);
+    let mut lines = String::new();
+    for &event in events {
+        let answer = herringcart::take_event(table, &mut state, &mut trace, event);
+        let _ = writeln!(lines, "{}", answer.number);
+        for word in state.iter().chain(&trace[..answer.count]) {
+            let _ = writeln!(lines, "{word:08X}");
+        }
+    }
+    lines
+}
 
 /// The program's command line and the two files it is given.
 pub struct Program<'a> {
