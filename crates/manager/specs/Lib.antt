@@ -1,2 +1,3 @@
 -- What the public entries promise.
 pub mod Answers
+pub mod Promises

@@ -1,12 +1,5 @@
 // The public entries. Each takes anything and checks for itself.
-ghost use mathlib.Core.Path.{_≡_};
-ghost use Rattle.rulebook.specs.State.{stateLength};
-ghost use Rattle.tables.specs.Told.{told, promised};
-ghost use Rattle.states.specs.Made.{Fresh};
-ghost use Rattle.rulebook.specs.Step.{refusedState, step};
-ghost use Rattle.events.specs.Answers.{Told};
-ghost use lib.ListN.{length};
-ghost use Rattle.manager.specs.Answers.{stateNumber};
+ghost use Rattle.manager.specs.Promises.{ChecksTable, CountsWords, MakesFresh, ChecksState, TakesEvent};
 use events::Answer;
 use refusals::Check;
 use states::Made;
@@ -14,21 +7,21 @@ use tables::Checked;
 
 // Checks a table: accepted, with B, or the first reason that holds and its place.
 pub fn check_table(t: &[u32]) -> Checked
-    ensures { λ r. ⌜ told r ≡ promised (now (t .entry)) ⌝ }
+    ensures { λ r. ⌜ ChecksTable (now (t .entry)) r ⌝ }
 {
     tables::check(t)
 }
 
 // How many words a state of this table has, for whoever lends them. It reads the header alone, so it says nothing of the table.
 pub fn state_words(t: &[u32]) -> usize
-    ensures { λ r. ⌜ r ≡ stateLength (now (t .entry)) ⌝ }
+    ensures { λ r. ⌜ CountsWords (now (t .entry)) r ⌝ }
 {
     states::state_length(t, words::sections::read_layout(t))
 }
 
 // Makes a fresh state in the lent words, or refuses and writes nothing.
 pub fn make_fresh(t: &[u32], s: &mut [u32]) -> Made
-    ensures { λ r. ⌜ Fresh (now (t .entry)) (now (s .entry)) r (now (s .exit)) ⌝ }
+    ensures { λ r. ⌜ MakesFresh (now (t .entry)) (now (s .entry)) r (now (s .exit)) ⌝ }
 {
     states::fresh(t, s)
 }
@@ -42,7 +35,7 @@ pub enum Fit {
 
 // Checks a state against a table.
 pub fn check_state(t: &[u32], s: &[u32]) -> Fit
-    ensures { λ r. ⌜ stateNumber r ≡ refusedState (now (t .entry)) (now (s .entry)) ⌝ }
+    ensures { λ r. ⌜ ChecksState (now (t .entry)) (now (s .entry)) r ⌝ }
 {
     let checked = tables::check(t);
     let Checked::Accepted(_) = checked else {
@@ -56,7 +49,7 @@ pub fn check_state(t: &[u32], s: &[u32]) -> Fit
 
 // Takes one event. The state and the trace are written in place; a refusal changes no word of either.
 pub fn take_event(t: &[u32], s: &mut [u32], trace: &mut [u32], e: u32) -> Answer
-    ensures { λ r. ⌜ Told (step (now (t .entry)) (now (s .entry)) (length (now (trace .entry))) e) (now (trace .entry)) r (now (s .exit)) (now (trace .exit)) ⌝ }
+    ensures { λ r. ⌜ TakesEvent (now (t .entry)) (now (s .entry)) (now (trace .entry)) e r (now (s .exit)) (now (trace .exit)) ⌝ }
 {
     let checked = tables::check(t);
     let Checked::Accepted(b) = checked else {
