@@ -1,6 +1,6 @@
 -- Which words fit, as statements; one write of a word that fits keeps the whole state's fit. Assumes nothing.
 use mathlib.Core.Path.{_≡_, _∙_}
-use mathlib.Core.Bool.{Bool, true, _&&_, _||_, and-false}
+use mathlib.Core.Bool.{Bool, true, cond, _&&_, _||_, and-false}
 use mathlib.Core.List.{List}
 use Prim.Native.Nat.{ℕ, _≤_, _<_, max}
 use native.Mathlib.Omega.{arith}
@@ -9,10 +9,10 @@ use lib.ListN.{length, set, length-set}
 use lib.Seq.{getD-set-same, getD-set-other}
 use lib.Dec.{leb, eqb}
 use borrow.Author.Tests.{leb-true, le-leb, eqb-true, eqb-false, eq-eqb, ne-eqb}
-use Rattle.rulebook.specs.Words.{word, field, implies, between, all}
-use Rattle.rulebook.specs.Table.{portKind, kindMode, kindEvent, kindTimer, deferred, reload, shortWait, longWait, eTicks, timeout}
-use Rattle.rulebook.specs.State.{stateLength, thing, definedOf, markedOf, valueOf, remainingOf, timerStarted, timerExpired, resultOf, Network, networkOf, askedFull, stateCheck, stateRecover, statusOf, statusPending, packPort, packRule, packNetwork, packSource, portFits, ruleFits, networkFits, sourceFits, thingFits, fitsAt, fits}
-use Rattle.laws.proofs.Tests.{split, clash, part-of, and-left, and-right, and-both, implies-elim, implies-intro, or-intro, or-elim, and-one-false}
+use Rattle.rulebook.specs.Words.{word, implies, between, all}
+use Rattle.rulebook.specs.Table.{portKind, portMode, portEvent, portTimer, deferred, reload, l1, l2, eTicks, timeout}
+use Rattle.rulebook.specs.State.{stateLength, thing, definedOf, markedOf, valueOf, remainingOf, portZeroOf, networkZeroOf, sourceZeroOf, timerStarted, timerExpired, resultOf, Network, networkOf, askedFull, stateCheck, stateRecover, statusOf, statusPending, packPort, packRule, packNetwork, packSource, portFits, ruleFits, networkFits, sourceFits, thingFits, fitsAt, fits}
+use Rattle.laws.proofs.Tests.{split, clash, part-of, and-left, and-right, and-both, implies-elim, implies-intro, cond-yes, cond-no, cond-intro, or-intro, or-elim, and-one-false}
 use Rattle.laws.proofs.Walks.{all-at, all-from}
 use Rattle.laws.proofs.Fields.{digit-small, port-defined, port-marked, port-value, port-zero, port-remaining, rule-result, rule-zero, network-asked, network-state, network-counter, network-zero, network-remaining, source-status, source-zero, source-remaining}
 
@@ -30,46 +30,46 @@ pub record PortOk (t : List ℕ) (p d m v r : ℕ) : Type 0 where
   pub value₈ : v < 256
   pub remaining₁₆ : r < 65536
   pub immediate : deferred t p ≡ 0 → m ≡ 0
-  pub undefined : d ≡ 0 → (portKind t p ≡ kindMode) × (v ≡ 0) × (m ≡ 0)
-  pub event : portKind t p ≡ kindEvent → v ≤ 1
-  pub timer : portKind t p ≡ kindTimer → v ≤ timerExpired
-  pub started : portKind t p ≡ kindTimer → v ≡ timerStarted → (1 ≤ r) × (r ≤ reload t p)
-  pub rest : (portKind t p ≡ kindTimer → v ≡ timerStarted → ⊥) → r ≡ 0
+  pub undefined : d ≡ 0 → (portKind t p ≡ portMode) × (v ≡ 0) × (m ≡ 0)
+  pub event : portKind t p ≡ portEvent → v ≤ 1
+  pub timer : portKind t p ≡ portTimer → v ≤ timerExpired
+  pub started : portKind t p ≡ portTimer → v ≡ timerStarted → (1 ≤ r) × (r ≤ reload t p)
+  pub rest : (portKind t p ≡ portTimer → v ≡ timerStarted → ⊥) → r ≡ 0
 
 abbrev running : List ℕ → ℕ → ℕ → Bool
-running t p w = eqb (portKind t p) kindTimer && eqb (valueOf w) timerStarted
+running t p w = eqb (portKind t p) portTimer && eqb (valueOf w) timerStarted
 
 pub port-ok : (t : List ℕ) (p w : ℕ) → portFits t p w ≡ true → PortOk t p (definedOf w) (markedOf w) (valueOf w) (remainingOf w)
 unfolding portFits
 port-ok t p w h =
-    let und : implies (eqb (definedOf w) 0) (eqb (portKind t p) kindMode && eqb (valueOf w) 0 && eqb (markedOf w) 0) ≡ true = part-of _ (λ e. rw (portFits, e, and-false) at h) in
-    let run : implies (running t p w) (between 1 (reload t p) (remainingOf w)) ≡ true = part-of _ (λ e. rw (portFits, e, and-false) at h) in
-    let still : (running t p w || eqb (remainingOf w) 0) ≡ true = part-of _ (λ e. rw (portFits, e, and-false) at h) in
+    let und : implies (eqb (definedOf w) 0) (eqb (portKind t p) portMode && eqb (valueOf w) 0 && eqb (markedOf w) 0) ≡ true = part-of _ (λ e. rw (portFits, e, and-false) at h) in
+    let left : cond (running t p w) (between 1 (reload t p) (remainingOf w)) (eqb (remainingOf w) 0) ≡ true = part-of _ (λ e. rw (portFits, e, and-false) at h) in
     record {
       defined₂ = digit-small _ 2 w (omega arith);
       marked₂ = digit-small _ 2 w (omega arith);
       value₈ = digit-small _ 256 w (omega arith);
       remaining₁₆ = digit-small _ 65536 w (omega arith);
       immediate = λ a. eqb-true _ _ (implies-elim (eqb (deferred t p) 0) (eqb (markedOf w) 0) (part-of _ (λ e. rw (portFits, e, and-false) at h)) (eq-eqb _ _ a));
-      undefined = λ a. let z = implies-elim _ (eqb (portKind t p) kindMode && eqb (valueOf w) 0 && eqb (markedOf w) 0) und (eq-eqb _ _ a) in
-          (eqb-true _ _ (part-of _ (λ e. rw e at z)), eqb-true _ _ (part-of _ (λ e. rw (e, and-false) at z)), eqb-true _ _ (and-right (eqb (portKind t p) kindMode && eqb (valueOf w) 0) _ z));
-      event = λ a. leb-true _ _ (implies-elim (eqb (portKind t p) kindEvent) (leb (valueOf w) 1) (part-of _ (λ e. rw (portFits, e, and-false) at h)) (eq-eqb _ _ a));
-      timer = λ a. leb-true _ _ (implies-elim (eqb (portKind t p) kindTimer) (leb (valueOf w) timerExpired) (part-of _ (λ e. rw (portFits, e, and-false) at h)) (eq-eqb _ _ a));
-      started = λ a b. between-parts _ _ _ (implies-elim _ (between 1 (reload t p) (remainingOf w)) run (and-both _ _ (eq-eqb _ _ a) (eq-eqb _ _ b)));
-      rest = λ f. eqb-true _ _ (or-elim (running t p w) (eqb (remainingOf w) 0) still (and-one-false _ _ (λ a b. f (eqb-true _ _ a) (eqb-true _ _ b))));
+      undefined = λ a. let z = implies-elim _ (eqb (portKind t p) portMode && eqb (valueOf w) 0 && eqb (markedOf w) 0) und (eq-eqb _ _ a) in
+          (eqb-true _ _ (part-of _ (λ e. rw e at z)), eqb-true _ _ (part-of _ (λ e. rw (e, and-false) at z)), eqb-true _ _ (and-right (eqb (portKind t p) portMode && eqb (valueOf w) 0) _ z));
+      event = λ a. leb-true _ _ (implies-elim (eqb (portKind t p) portEvent) (leb (valueOf w) 1) (part-of _ (λ e. rw (portFits, e, and-false) at h)) (eq-eqb _ _ a));
+      timer = λ a. leb-true _ _ (implies-elim (eqb (portKind t p) portTimer) (leb (valueOf w) timerExpired) (part-of _ (λ e. rw (portFits, e, and-false) at h)) (eq-eqb _ _ a));
+      started = λ a b. between-parts _ _ _ (cond-yes (running t p w) _ _ left (and-both _ _ (eq-eqb _ _ a) (eq-eqb _ _ b)));
+      rest = λ f. eqb-true _ _ (cond-no (running t p w) _ _ left (and-one-false _ _ (λ a b. f (eqb-true _ _ a) (eqb-true _ _ b))));
     }
 
-port-fits : (t : List ℕ) (p w : ℕ) → field 10 6 w ≡ 0 → PortOk t p (definedOf w) (markedOf w) (valueOf w) (remainingOf w) → portFits t p w ≡ true
+port-fits : (t : List ℕ) (p w : ℕ) → portZeroOf w ≡ 0 → PortOk t p (definedOf w) (markedOf w) (valueOf w) (remainingOf w) → portFits t p w ≡ true
 unfolding portFits
 port-fits t p w z f =
-    and-both _ _ (and-both _ _ (and-both _ _ (and-both _ _ (and-both _ _ (and-both _ _
+    and-both _ _ (and-both _ _ (and-both _ _ (and-both _ _ (and-both _ _
     (eq-eqb _ _ z)
     (implies-intro _ _ (λ h. eq-eqb _ _ (f .immediate (eqb-true _ _ h)))))
     (implies-intro _ _ (λ h. let u = f .undefined (eqb-true _ _ h) in and-both _ _ (and-both _ _ (eq-eqb _ _ (u .0)) (eq-eqb _ _ (u .1))) (eq-eqb _ _ (u .2)))))
     (implies-intro _ _ (λ h. le-leb _ _ (f .event (eqb-true _ _ h)))))
     (implies-intro _ _ (λ h. le-leb _ _ (f .timer (eqb-true _ _ h)))))
-    (implies-intro _ _ (λ h. between-both _ _ _ (f .started (eqb-true _ _ (and-left _ (eqb (valueOf w) timerStarted) h)) (eqb-true _ _ (and-right (eqb (portKind t p) kindTimer) _ h))))))
-    (or-intro _ _ (λ h. eq-eqb _ _ (f .rest (λ x y. clash (and-both _ _ (eq-eqb _ _ x) (eq-eqb _ _ y)) h))))
+    (cond-intro (running t p w) _ _
+    (λ h. between-both _ _ _ (f .started (eqb-true _ _ (and-left _ (eqb (valueOf w) timerStarted) h)) (eqb-true _ _ (and-right (eqb (portKind t p) portTimer) _ h))))
+    (λ h. eq-eqb _ _ (f .rest (λ x y. clash (and-both _ _ (eq-eqb _ _ x) (eq-eqb _ _ y)) h))))
 
 pub port-packed : (t : List ℕ) (p d m v r : ℕ) → PortOk t p d m v r → portFits t p (packPort d m v r) ≡ true
 port-packed t p d m v r f =
@@ -90,48 +90,56 @@ pub record NetworkOk (t : List ℕ) (n : ℕ) (c : Network) : Type 0 where
   pub modes : c .asked ≤ askedFull
   pub states : c .state ≤ stateRecover
   pub check : c .state ≡ stateCheck → (1 ≤ c .remaining) × (c .remaining ≤ eTicks t n)
-  pub recover : c .state ≡ stateRecover → (1 ≤ c .remaining) × (c .remaining ≤ max (shortWait t n) (longWait t n))
+  pub recover : c .state ≡ stateRecover → (1 ≤ c .remaining) × (c .remaining ≤ max (l1 t n) (l2 t n))
   pub rest : (c .state ≡ stateCheck → ⊥) → (c .state ≡ stateRecover → ⊥) → (c .remaining ≡ 0) × (c .counter ≡ 0)
   pub counted : c .state ≡ stateRecover → 1 ≤ c .counter
 
--- neither in check nor in recover
-neither : (s : ℕ) (b : Bool) → (eqb s stateCheck || eqb s stateRecover || b) ≡ true → (s ≡ stateCheck → ⊥) → (s ≡ stateRecover → ⊥) → b ≡ true
-neither s b h f g = rw (ne-eqb s stateCheck f, ne-eqb s stateRecover g) at h
+abbrev inCheck : ℕ → Bool
+inCheck w = eqb (networkOf w .state) stateCheck
 
-either : (s : ℕ) (b : Bool) → ((s ≡ stateCheck → ⊥) → (s ≡ stateRecover → ⊥) → b ≡ true) → (eqb s stateCheck || eqb s stateRecover || b) ≡ true
-either s b f =
-    split (eqb s stateCheck) (λ e. rw e)
-    (λ e. split (eqb s stateRecover) (λ d. rw (e, d))
-    (λ d. rw (e, d) (f (eqb-false _ _ e) (eqb-false _ _ d))))
+abbrev inRecover : ℕ → Bool
+inRecover w = eqb (networkOf w .state) stateRecover
+
+abbrev remainingTest : List ℕ → ℕ → Network → Bool
+remainingTest t n c =
+    cond (eqb (c .state) stateCheck) (between 1 (eTicks t n) (c .remaining))
+    (cond (eqb (c .state) stateRecover) (between 1 (max (l1 t n) (l2 t n)) (c .remaining)) (eqb (c .remaining) 0))
+
+abbrev counterTest : Network → Bool
+counterTest c = cond (eqb (c .state) stateRecover) (leb 1 (c .counter)) (eqb (c .state) stateCheck || eqb (c .counter) 0)
 
 pub network-ok : (t : List ℕ) (n w : ℕ) → networkFits t n w ≡ true → NetworkOk t n (networkOf w)
 unfolding networkFits
 network-ok t n w h =
-    let left : (eqb (networkOf w .state) stateCheck || eqb (networkOf w .state) stateRecover || eqb (networkOf w .remaining) 0) ≡ true = part-of _ (λ e. rw (networkFits, e, and-false) at h) in
-    let calm : (eqb (networkOf w .state) stateCheck || eqb (networkOf w .state) stateRecover || eqb (networkOf w .counter) 0) ≡ true = part-of _ (λ e. rw (networkFits, e, and-false) at h) in
+    let left : remainingTest t n (networkOf w) ≡ true = part-of _ (λ e. rw (networkFits, e, and-false) at h) in
+    let calm : counterTest (networkOf w) ≡ true = part-of _ (λ e. rw (networkFits, e, and-false) at h) in
     record {
       counter₈ = digit-small _ 256 w (omega arith);
       remaining₁₆ = digit-small _ 65536 w (omega arith);
       modes = leb-true _ _ (part-of _ (λ e. rw (networkFits, e, and-false) at h));
       states = leb-true _ _ (part-of _ (λ e. rw (networkFits, e, and-false) at h));
-      check = λ a. between-parts _ _ _ (implies-elim (eqb (networkOf w .state) stateCheck) (between 1 (eTicks t n) (networkOf w .remaining)) (part-of _ (λ e. rw (networkFits, e, and-false) at h)) (eq-eqb _ _ a));
-      recover = λ a. between-parts _ _ _ (implies-elim (eqb (networkOf w .state) stateRecover) (between 1 (max (shortWait t n) (longWait t n)) (networkOf w .remaining)) (part-of _ (λ e. rw (networkFits, e, and-false) at h)) (eq-eqb _ _ a));
-      rest = λ a b. (eqb-true _ _ (neither (networkOf w .state) _ left a b), eqb-true _ _ (neither (networkOf w .state) _ calm a b));
-      counted = λ a. leb-true _ _ (implies-elim (eqb (networkOf w .state) stateRecover) (leb 1 (networkOf w .counter)) (part-of _ (λ e. rw (networkFits, e, and-false) at h)) (eq-eqb _ _ a));
+      check = λ a. between-parts _ _ _ (cond-yes (inCheck w) _ _ left (eq-eqb _ _ a));
+      recover = λ a. between-parts _ _ _ (cond-yes (inRecover w) _ _ (cond-no (inCheck w) _ _ left (ne-eqb (networkOf w .state) stateCheck (λ z. omega arith))) (eq-eqb _ _ a));
+      rest = λ a b. (
+        eqb-true _ _ (cond-no (inRecover w) _ _ (cond-no (inCheck w) _ _ left (ne-eqb _ _ a)) (ne-eqb _ _ b)),
+        eqb-true _ _ (or-elim (inCheck w) _ (cond-no (inRecover w) _ _ calm (ne-eqb _ _ b)) (ne-eqb _ _ a)),
+      );
+      counted = λ a. leb-true _ _ (cond-yes (inRecover w) _ _ calm (eq-eqb _ _ a));
     }
 
-network-fits : (t : List ℕ) (n w : ℕ) → field 13 3 w ≡ 0 → NetworkOk t n (networkOf w) → networkFits t n w ≡ true
+network-fits : (t : List ℕ) (n w : ℕ) → networkZeroOf w ≡ 0 → NetworkOk t n (networkOf w) → networkFits t n w ≡ true
 unfolding networkFits
 network-fits t n w z f =
-    and-both _ _ (and-both _ _ (and-both _ _ (and-both _ _ (and-both _ _ (and-both _ _ (and-both _ _
+    and-both _ _ (and-both _ _ (and-both _ _ (and-both _ _
     (eq-eqb _ _ z)
     (le-leb _ _ (f .modes)))
     (le-leb _ _ (f .states)))
-    (implies-intro _ _ (λ h. between-both _ _ _ (f .check (eqb-true _ _ h)))))
-    (implies-intro _ _ (λ h. between-both _ _ _ (f .recover (eqb-true _ _ h)))))
-    (either (networkOf w .state) _ (λ a b. eq-eqb _ _ (f .rest a b .0))))
-    (either (networkOf w .state) _ (λ a b. eq-eqb _ _ (f .rest a b .1))))
-    (implies-intro _ _ (λ h. le-leb _ _ (f .counted (eqb-true _ _ h))))
+    (cond-intro (inCheck w) _ _
+    (λ h. between-both _ _ _ (f .check (eqb-true _ _ h)))
+    (λ h. cond-intro (inRecover w) _ _ (λ g. between-both _ _ _ (f .recover (eqb-true _ _ g))) (λ g. eq-eqb _ _ (f .rest (eqb-false _ _ h) (eqb-false _ _ g) .0)))))
+    (cond-intro (inRecover w) _ _
+    (λ h. le-leb _ _ (f .counted (eqb-true _ _ h)))
+    (λ h. or-intro (inCheck w) _ (λ g. eq-eqb _ _ (f .rest (eqb-false _ _ g) (eqb-false _ _ h) .1))))
 
 -- a network whose fields fit their widths comes back from its word
 pub record NetworkSmall (c : Network) : Type 0 where
@@ -172,20 +180,20 @@ pub record SourceOk (t : List ℕ) (k status r : ℕ) : Type 0 where
 pub source-ok : (t : List ℕ) (k w : ℕ) → sourceFits t k w ≡ true → SourceOk t k (statusOf w) (remainingOf w)
 unfolding sourceFits
 source-ok t k w h =
+    let left : cond (eqb (statusOf w) statusPending) (between 1 (timeout t k) (remainingOf w)) (eqb (remainingOf w) 0) ≡ true = part-of _ (λ e. rw (sourceFits, e, and-false) at h) in
     record {
       status₂ = digit-small _ 4 w (omega arith);
       remaining₁₆ = digit-small _ 65536 w (omega arith);
-      pending = λ a. between-parts _ _ _ (implies-elim (eqb (statusOf w) statusPending) (between 1 (timeout t k) (remainingOf w)) (part-of _ (λ e. rw (sourceFits, e, and-false) at h)) (eq-eqb _ _ a));
-      rest = λ f. eqb-true _ _ (or-elim (eqb (statusOf w) statusPending) (eqb (remainingOf w) 0) (part-of _ (λ e. rw (sourceFits, e, and-false) at h)) (ne-eqb _ _ f));
+      pending = λ a. between-parts _ _ _ (cond-yes (eqb (statusOf w) statusPending) _ _ left (eq-eqb _ _ a));
+      rest = λ f. eqb-true _ _ (cond-no (eqb (statusOf w) statusPending) _ _ left (ne-eqb _ _ f));
     }
 
-source-fits : (t : List ℕ) (k w : ℕ) → field 2 14 w ≡ 0 → SourceOk t k (statusOf w) (remainingOf w) → sourceFits t k w ≡ true
+source-fits : (t : List ℕ) (k w : ℕ) → sourceZeroOf w ≡ 0 → SourceOk t k (statusOf w) (remainingOf w) → sourceFits t k w ≡ true
 unfolding sourceFits
 source-fits t k w z f =
-    and-both _ _ (and-both _ _
+    and-both _ _
     (eq-eqb _ _ z)
-    (implies-intro _ _ (λ h. between-both _ _ _ (f .pending (eqb-true _ _ h)))))
-    (or-intro _ _ (λ h. eq-eqb _ _ (f .rest (eqb-false _ _ h))))
+    (cond-intro (eqb (statusOf w) statusPending) _ _ (λ h. between-both _ _ _ (f .pending (eqb-true _ _ h))) (λ h. eq-eqb _ _ (f .rest (eqb-false _ _ h))))
 
 pub source-packed : (t : List ℕ) (k status r : ℕ) → SourceOk t k status r → sourceFits t k (packSource status r) ≡ true
 source-packed t k status r f =

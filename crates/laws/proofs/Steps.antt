@@ -1,6 +1,6 @@
 -- The step: what a refusal and a done call are, answer 7 never comes, the words are at most B, states stay fit. Assumes nothing.
 use mathlib.Core.Path.{_≡_, refl, ap}
-use mathlib.Core.Bool.{true, false, and-false}
+use mathlib.Core.Bool.{true, false, cond, and-false}
 use mathlib.Core.List.{List, []}
 use Prim.Native.Nat.{ℕ, _+_, _-_, _≤_, _<_}
 use native.Mathlib.Omega.{arith}
@@ -9,13 +9,13 @@ use lib.ListN.{length}
 use lib.Dec.{ltb, eqb}
 use borrow.Author.Tests.{ltb-true, ltb-false, eqb-true, eqb-false, eq-eqb, lt-ltb}
 use Rattle.rulebook.specs.Words.{digit}
-use Rattle.rulebook.specs.Table.{ports, networks, sources, rules, portKind, kindMode, kindTimer, deferred, hasInitial, initial, firstResult}
+use Rattle.rulebook.specs.Table.{ports, networks, sources, rules, portKind, portMode, portTimer, deferred, hasInitial, initial, firstResult}
 use Rattle.rulebook.specs.Reasons.{portFields, bound, accepted}
 use Rattle.rulebook.specs.State.{stateLength, Thing, aPort, aRule, aNetwork, aSource, thing, portFits, networkFits, sourceFits, thingFits, fits, freshPort, freshThing, freshAt, fresh}
 use Rattle.rulebook.specs.Events.{request, tick, arbitrateMarked, happen}
-use Rattle.rulebook.specs.Step.{refusedState, refusedCall, wellFormed, known, sentByOwner, present, refusedEvent, Result, refusal, finish, handle, step}
+use Rattle.rulebook.specs.Step.{refusedState, refusedCall, wellFormed, known, sentByOwner, present, firstFault, refusedEvent, Result, refusal, finish, conclude, handle, step}
 use Rattle.laws.specs.Facts.{Facts}
-use Rattle.laws.proofs.Tests.{split, part-of, implies-elim}
+use Rattle.laws.proofs.Tests.{split, part-of, cond-yes}
 use Rattle.laws.proofs.Walks.{listed-length, listed-at}
 use Rattle.laws.proofs.Facts.{facts}
 use Rattle.laws.proofs.Fields.{digit-small}
@@ -60,6 +60,17 @@ event-small t e =
     (λ b. rw (a, b) (omega arith)))
     (λ a. rw a (omega arith))
 
+-- The order in two parts, as a caller that has checked table, state and room goes by it.
+
+pub step-in-parts : (t s : List ℕ) (room e : ℕ) → step t s room e ≡ cond (eqb (refusedCall t s room) 0) (handle t s e) (refusal (refusedCall t s room) s)
+unfolding step handle conclude firstFault refusedCall refusedEvent
+step-in-parts t s room e =
+    split (accepted t)
+    (λ a. split (fits t s)
+    (λ b. split (ltb room (bound t)) (λ c. rw (a, b, c)) (λ c. rw (a, b, c)))
+    (λ b. rw (a, b)))
+    (λ a. rw a)
+
 -- A run of one event: never deep, at most B words.
 
 module _ (t : List ℕ) (f : Facts t) where
@@ -88,14 +99,14 @@ pub data Stepped (t s : List ℕ) (room e : ℕ) (r : Result) : Type 0 where
   done : Callable t s room → Taken t e → r ≡ record { answer = 0; state = happen t e s .state; words = happen t e s .words } → Stepped t s room e r
 
 pub stepped : (t s : List ℕ) (room e : ℕ) → Stepped t s room e (step t s room e)
-unfolding step handle finish
+unfolding handle conclude finish
 stepped t s room e =
     split (eqb (refusedCall t s room) 0)
     (λ a. let c = callable t s room (eqb-true _ _ a) in
     split (eqb (refusedEvent t e) 0)
-    (λ b. rw (a, b, happen-shallow t (facts t (c .table)) e s) (done c (taken-event t e (eqb-true _ _ b)) refl))
-    (λ b. let n = eqb-false _ _ b in let m = event-small t e in rw (a, b) (refused (refusedEvent t e) (at-least-one _ n) m refl)))
-    (λ a. let n = eqb-false _ _ a in let m = call-small t s room in rw a (refused (refusedCall t s room) (at-least-one _ n) (omega arith) refl))
+    (λ b. rw (step-in-parts, a, b, happen-shallow t (facts t (c .table)) e s) (done c (taken-event t e (eqb-true _ _ b)) refl))
+    (λ b. let n = eqb-false _ _ b in let m = event-small t e in rw (step-in-parts, a, b) (refused (refusedEvent t e) (at-least-one _ n) m refl)))
+    (λ a. let n = eqb-false _ _ a in let m = call-small t s room in rw (step-in-parts, a) (refused (refusedCall t s room) (at-least-one _ n) (omega arith) refl))
   where
     at-least-one : (k : ℕ) → (k ≡ 0 → ⊥) → 1 ≤ k
     at-least-one k n = omega arith
@@ -143,9 +154,9 @@ thing-present t i h =
     split (ltb i (ports t + rules t + networks t)) (λ c. let z : i < ports t + rules t + networks t = ltb-true _ _ c in rw (a, b, c) (lt-ltb (i - (ports t + rules t)) (networks t) (omega arith)))
     (λ c. let z : ports t + rules t + networks t ≤ i = ltb-false _ _ c in rw (a, b, c) (lt-ltb (i - (ports t + rules t + networks t)) (sources t) (omega arith)))))
 
-initial-mode : (t : List ℕ) (p : ℕ) → portFields t p ≡ true → hasInitial t p ≡ 1 → portKind t p ≡ kindMode
+initial-mode : (t : List ℕ) (p : ℕ) → portFields t p ≡ true → hasInitial t p ≡ 1 → portKind t p ≡ portMode
 unfolding portFields
-initial-mode t p h k = eqb-true _ _ (implies-elim (eqb (hasInitial t p) 1) (eqb (portKind t p) kindMode) (part-of _ (λ e. rw (portFields, e, and-false) at h)) (eq-eqb _ _ k))
+initial-mode t p h k = eqb-true _ _ (cond-yes (eqb (hasInitial t p) 1) (eqb (portKind t p) portMode) (eqb (initial t p) 0) (part-of _ (λ e. rw (portFields, e, and-false) at h)) (eq-eqb _ _ k))
 
 fresh-port-fits : (t : List ℕ) (p : ℕ) → portFields t p ≡ true → portFits t p (freshPort t p) ≡ true
 unfolding freshPort
@@ -153,10 +164,10 @@ fresh-port-fits t p h =
     split (eqb (hasInitial t p) 1)
     (λ a. let k = initial-mode t p h (eqb-true _ _ a) in
     rw a (port-packed t p 1 0 (initial t p) 0 (plain-ok t p 0 (initial t p) (λ z. omega arith) (omega arith) (λ z. refl) (digit-small _ 256 _ (omega arith)) (λ z. absurd (omega arith)))))
-    (λ a. split (eqb (portKind t p) kindMode)
+    (λ a. split (eqb (portKind t p) portMode)
     (λ b. let k = eqb-true _ _ b in
     rw (a, b) (port-packed t p 0 0 0 0 (record { defined₂ = omega arith; marked₂ = omega arith; value₈ = omega arith; remaining₁₆ = omega arith; immediate = λ z. refl; undefined = λ z. (k, refl, refl); event = λ z. omega arith; timer = λ z. omega arith; started = λ z y. absurd (omega arith); rest = λ z. refl })))
-    (λ b. split (eqb (portKind t p) kindTimer)
+    (λ b. split (eqb (portKind t p) portTimer)
     (λ c. let k = eqb-true _ _ c in rw (a, b) (port-packed t p 1 0 0 0 (timer-ok t p 0 0 0 k (timer-deferred t p h k) (omega arith) (omega arith) (omega arith) (λ z. absurd (omega arith)) (λ z. refl))))
     (λ c. rw (a, b) (port-packed t p 1 0 0 0 (plain-ok t p 0 0 (eqb-false _ _ c) (omega arith) (λ z. refl) (omega arith) (λ z. omega arith))))))
 

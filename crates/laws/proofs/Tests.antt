@@ -1,6 +1,6 @@
 -- Tests: a Bool is true or false, and what `&&` and `||` say of their parts. Assumes nothing.
 use mathlib.Core.Path.{_≡_, refl, sym, _∙_}
-use mathlib.Core.Bool.{Bool, true, false, _&&_, _||_, true≢false}
+use mathlib.Core.Bool.{Bool, true, false, cond, _&&_, _||_, true≢false}
 use mathlib.Core.Logic.{_⊎_, inl, inr}
 use Rattle.rulebook.specs.Words.{implies}
 
@@ -41,6 +41,18 @@ implies-elim a b h e = rw e at h
 pub implies-intro : (a b : Bool) → (a ≡ true → b ≡ true) → implies a b ≡ true
 implies-intro true b f = f refl
 implies-intro false b f = refl
+
+-- one of two tests, by a third
+
+pub cond-yes : (a b c : Bool) → cond a b c ≡ true → a ≡ true → b ≡ true
+cond-yes a b c h e = rw e at h
+
+pub cond-no : (a b c : Bool) → cond a b c ≡ true → a ≡ false → c ≡ true
+cond-no a b c h e = rw e at h
+
+pub cond-intro : (a b c : Bool) → (a ≡ true → b ≡ true) → (a ≡ false → c ≡ true) → cond a b c ≡ true
+cond-intro true b c f g = f refl
+cond-intro false b c f g = g refl
 
 pub or-intro : (a b : Bool) → (a ≡ false → b ≡ true) → (a || b) ≡ true
 or-intro true b f = refl

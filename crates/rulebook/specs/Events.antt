@@ -5,8 +5,8 @@ use mathlib.Core.List.{List}
 use lib.ListN.{set}
 use lib.Dec.{leb, ltb, eqb}
 use Rattle.rulebook.specs.Words.{word, field, each}
-use Rattle.rulebook.specs.Table.{ports, networks, sources, portKind, kindTimer, deferred}
-use Rattle.rulebook.specs.Table.{networkPort, threshold, shortWait, longWait, eTicks, sourcePort, timeout}
+use Rattle.rulebook.specs.Table.{ports, networks, sources, portKind, portTimer, deferred}
+use Rattle.rulebook.specs.Table.{networkPort, threshold, l1, l2, eTicks, sourcePort, timeout}
 use Rattle.rulebook.specs.State.{sourceIndex, markedOf, valueOf, remainingOf, timerStarted, timerExpired}
 use Rattle.rulebook.specs.State.{Network, askedNone, askedSilent, askedFull, stateNone, stateSilent, stateCheck, stateFull, stateRecover}
 use Rattle.rulebook.specs.State.{statusOf, statusNone, statusPending, statusValidated, statusExpired, packSource}
@@ -27,26 +27,29 @@ eventIndex e = field 8 8 e
 abbrev pub eventValue : ℕ → ℕ
 eventValue e = field 16 8 e
 
-abbrev pub tickKind : ℕ
-tickKind = 0
+abbrev pub eventZero : ℕ → ℕ
+eventZero e = field 24 8 e
 
-abbrev pub modeKind : ℕ
-modeKind = 1
+abbrev pub eventTick : ℕ
+eventTick = 0
 
-abbrev pub requestKind : ℕ
-requestKind = 2
+abbrev pub eventMode : ℕ
+eventMode = 1
 
-abbrev pub wakeupKind : ℕ
-wakeupKind = 3
+abbrev pub eventRequest : ℕ
+eventRequest = 2
 
-abbrev pub validKind : ℕ
-validKind = 4
+abbrev pub eventWakeup : ℕ
+eventWakeup = 3
 
-abbrev pub busOffKind : ℕ
-busOffKind = 5
+abbrev pub eventValid : ℕ
+eventValid = 4
 
-abbrev pub clearKind : ℕ
-clearKind = 6
+abbrev pub eventBusOff : ℕ
+eventBusOff = 5
+
+abbrev pub eventClear : ℕ
+eventClear = 6
 
 abbrev pub highestKind : ℕ
 highestKind = 6
@@ -104,15 +107,18 @@ moveNetwork t n c s =
 unfoldable pub takes : Network → Bool
 takes c = eqb (c .state) stateCheck || eqb (c .state) stateFull
 
+abbrev pub counterPlusOne : Network → ℕ
+counterPlusOne c = min 255 (c .counter + 1)
+
 unfoldable pub wait : List ℕ → ℕ → ℕ → ℕ
-wait t n counter = cond (leb counter (threshold t n)) (shortWait t n) (longWait t n)
+wait t n counter = cond (leb counter (threshold t n)) (l1 t n) (l2 t n)
 
 unfoldable pub offBus : List ℕ → ℕ → ℕ → Network → Network
 offBus t n counter c = moved stateRecover counter (wait t n counter) c
 
 unfoldable pub busOff : List ℕ → ℕ → List ℕ → List ℕ
 busOff t n s =
-    cond (takes (networkIn t n s)) (moveNetwork t n (offBus t n (min 255 (networkIn t n s .counter + 1)) (networkIn t n s)) s) s
+    cond (takes (networkIn t n s)) (moveNetwork t n (offBus t n (counterPlusOne (networkIn t n s)) (networkIn t n s)) s) s
 
 -- "Tick, in order: networks, sources, timers by number, then all marked ports are arbitrated."
 
@@ -150,7 +156,7 @@ tickSource t k s =
 
 unfoldable pub tickTimer : List ℕ → ℕ → List ℕ → List ℕ
 tickTimer t p s =
-    cond (eqb (portKind t p) kindTimer && eqb (valueOf (word s p)) timerStarted)
+    cond (eqb (portKind t p) portTimer && eqb (valueOf (word s p)) timerStarted)
     (cond (leb (remainingIn s p) 1) (setPort p 1 timerExpired 0 s)
     (setPort p (markedOf (word s p)) timerStarted (remainingIn s p - 1) s))
     s
@@ -158,6 +164,7 @@ tickTimer t p s =
 unfoldable pub tickThings : List ℕ → List ℕ → List ℕ
 tickThings t s = each 0 (ports t) (tickTimer t) (each 0 (sources t) (tickSource t) (each 0 (networks t) (tickNetwork t) s))
 
+-- the words behind the P ports are no ports'; no condition of an accepted table names one
 unfoldable pub markedIn : List ℕ → List ℕ → ℕ → Bool
 markedIn t s p = ltb p (ports t) && eqb (markedOf (word s p)) 1
 
@@ -170,10 +177,10 @@ tick t s = arbitrateMarked t (tickThings t s)
 -- The dispatch on kinds, in one place.
 unfoldable pub happen : List ℕ → ℕ → List ℕ → Run
 happen t e s =
-    cond (eqb (eventKind e) tickKind) (tick t s)
-    (cond (eqb (eventKind e) modeKind) (request t (eventIndex e) (eventValue e) s)
-    (cond (eqb (eventKind e) requestKind) (request t (eventIndex e) 1 s)
-    (cond (eqb (eventKind e) wakeupKind) (start (wake t (eventIndex e) s))
-    (cond (eqb (eventKind e) validKind) (start (validate t (eventIndex e) s))
-    (cond (eqb (eventKind e) busOffKind) (start (busOff t (eventIndex e) s))
+    cond (eqb (eventKind e) eventTick) (tick t s)
+    (cond (eqb (eventKind e) eventMode) (request t (eventIndex e) (eventValue e) s)
+    (cond (eqb (eventKind e) eventRequest) (request t (eventIndex e) 1 s)
+    (cond (eqb (eventKind e) eventWakeup) (start (wake t (eventIndex e) s))
+    (cond (eqb (eventKind e) eventValid) (start (validate t (eventIndex e) s))
+    (cond (eqb (eventKind e) eventBusOff) (start (busOff t (eventIndex e) s))
     (start (clear t (eventIndex e) s)))))))

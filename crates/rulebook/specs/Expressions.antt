@@ -7,16 +7,17 @@ use mathlib.Core.List.{List}
 use lib.Dec.{eqb}
 use Rattle.rulebook.specs.Words.{between}
 use Rattle.rulebook.specs.Table.{expressionKind, conditionPort, conditionValue, left, right}
+use Rattle.rulebook.specs.Table.{conditionEqual, conditionNotEqual, conditionSet, operatorAnd, operatorOr, operatorXor, operatorNand, operatorNot}
 
 -- "an expression nested seven deep stands, eight is refused"; lists likewise
 abbrev pub deepest : ℕ
 deepest = 7
 
 unfoldable pub operator : List ℕ → ℕ → Bool
-operator t e = between 4 8 (expressionKind t e)
+operator t e = between operatorAnd operatorNot (expressionKind t e)
 
 abbrev pub isNot : List ℕ → ℕ → Bool
-isNot t e = eqb (expressionKind t e) 8
+isNot t e = eqb (expressionKind t e) operatorNot
 
 -- Depth: "a condition has depth 1, an operator 1 more than its deeper argument".
 
@@ -47,21 +48,20 @@ mentions (suc d) t q e = expressionMentions t q (mentions d t q) e
 
 -- Evaluation, by the values that v gives the ports.
 
--- 0 equal, 1 not equal, 2 set, 3 cleared
+-- equal, not equal, set, cleared
 unfoldable pub condition : List ℕ → (ℕ → ℕ) → ℕ → Bool
 condition t v e =
-    cond (eqb (expressionKind t e) 0) (eqb (v (conditionPort t e)) (conditionValue t e))
-    (cond (eqb (expressionKind t e) 1) (not (eqb (v (conditionPort t e)) (conditionValue t e)))
-    (cond (eqb (expressionKind t e) 2) (eqb (v (conditionPort t e)) 1)
+    cond (eqb (expressionKind t e) conditionEqual) (eqb (v (conditionPort t e)) (conditionValue t e))
+    (cond (eqb (expressionKind t e) conditionNotEqual) (not (eqb (v (conditionPort t e)) (conditionValue t e)))
+    (cond (eqb (expressionKind t e) conditionSet) (eqb (v (conditionPort t e)) 1)
     (eqb (v (conditionPort t e)) 0)))
 
--- 4 AND, 5 OR, 6 XOR, 7 NAND, 8 NOT
 unfoldable pub joined : ℕ → Bool → Bool → Bool
 joined kind a b =
-    cond (eqb kind 4) (a && b)
-    (cond (eqb kind 5) (a || b)
-    (cond (eqb kind 6) (xor a b)
-    (cond (eqb kind 7) (not (a && b))
+    cond (eqb kind operatorAnd) (a && b)
+    (cond (eqb kind operatorOr) (a || b)
+    (cond (eqb kind operatorXor) (xor a b)
+    (cond (eqb kind operatorNand) (not (a && b))
     (not a))))
 
 unfoldable pub expressionHolds : List ℕ → (ℕ → ℕ) → (ℕ → Bool) → ℕ → Bool

@@ -6,8 +6,8 @@ use lib.ListN.{length}
 use lib.Dec.{leb, ltb, eqb}
 use Rattle.rulebook.specs.Words.{word, field, laid, implies, between, all, listed}
 use Rattle.rulebook.specs.Table.{ports, networks, sources, rules}
-use Rattle.rulebook.specs.Table.{portKind, kindMode, kindEvent, kindTimer, deferred, hasInitial, portOwner, initial, reload}
-use Rattle.rulebook.specs.Table.{networkOwner, shortWait, longWait, eTicks, sourceOwner, timeout, ruleOwner, firstResult}
+use Rattle.rulebook.specs.Table.{portKind, portMode, portEvent, portTimer, deferred, hasInitial, portOwner, initial, reload}
+use Rattle.rulebook.specs.Table.{networkOwner, l1, l2, eTicks, sourceOwner, timeout, ruleOwner, firstResult}
 use Rattle.rulebook.specs.Reasons.{accepted}
 
 -- P + R + N + S words. A port's word stands at the port's number, the others at these.
@@ -52,6 +52,10 @@ markedOf w = field 1 1 w
 abbrev pub valueOf : ℕ → ℕ
 valueOf w = field 2 8 w
 
+-- the field that must be zero; so below
+abbrev pub portZeroOf : ℕ → ℕ
+portZeroOf w = field 10 6 w
+
 -- also of a network's and a source's word
 abbrev pub remainingOf : ℕ → ℕ
 remainingOf w = field 16 16 w
@@ -70,6 +74,9 @@ timerExpired = 2
 abbrev pub resultOf : ℕ → ℕ
 resultOf w = field 0 2 w
 
+abbrev pub ruleZeroOf : ℕ → ℕ
+ruleZeroOf w = field 2 30 w
+
 abbrev pub undefinedResult : ℕ
 undefinedResult = 2
 
@@ -83,6 +90,9 @@ pub record Network : Type 0 where
 
 abbrev pub networkOf : ℕ → Network
 networkOf w = record { asked = field 0 2 w; state = field 2 3 w; counter = field 5 8 w; remaining = remainingOf w }
+
+abbrev pub networkZeroOf : ℕ → ℕ
+networkZeroOf w = field 13 3 w
 
 abbrev pub askedNone : ℕ
 askedNone = 0
@@ -112,6 +122,9 @@ stateRecover = 4
 
 abbrev pub statusOf : ℕ → ℕ
 statusOf w = field 0 2 w
+
+abbrev pub sourceZeroOf : ℕ → ℕ
+sourceZeroOf w = field 2 14 w
 
 abbrev pub statusNone : ℕ
 statusNone = 0
@@ -145,35 +158,33 @@ packSource status remaining = laid 0 2 status + laid 16 16 remaining
 -- stopped, 1 started, 2 expired; remaining is 1 to reload in a started timer .. else 0"
 unfoldable pub portFits : List ℕ → ℕ → ℕ → Bool
 portFits t p w =
-    eqb (field 10 6 w) 0
+    eqb (portZeroOf w) 0
     && implies (eqb (deferred t p) 0) (eqb (markedOf w) 0)
-    && implies (eqb (definedOf w) 0) (eqb (portKind t p) kindMode && eqb (valueOf w) 0 && eqb (markedOf w) 0)
-    && implies (eqb (portKind t p) kindEvent) (leb (valueOf w) 1)
-    && implies (eqb (portKind t p) kindTimer) (leb (valueOf w) timerExpired)
-    && implies (eqb (portKind t p) kindTimer && eqb (valueOf w) timerStarted) (between 1 (reload t p) (remainingOf w))
-    && (eqb (portKind t p) kindTimer && eqb (valueOf w) timerStarted || eqb (remainingOf w) 0)
+    && implies (eqb (definedOf w) 0) (eqb (portKind t p) portMode && eqb (valueOf w) 0 && eqb (markedOf w) 0)
+    && implies (eqb (portKind t p) portEvent) (leb (valueOf w) 1)
+    && implies (eqb (portKind t p) portTimer) (leb (valueOf w) timerExpired)
+    && cond (eqb (portKind t p) portTimer && eqb (valueOf w) timerStarted) (between 1 (reload t p) (remainingOf w)) (eqb (remainingOf w) 0)
 
 unfoldable pub ruleFits : ℕ → Bool
-ruleFits w = eqb (field 2 30 w) 0 && leb (resultOf w) undefinedResult
+ruleFits w = eqb (ruleZeroOf w) 0 && leb (resultOf w) undefinedResult
 
 -- "1 to E-ticks in check, 1 to the larger of L1, L2 in recover, else 0; .. asked modes at most 2, network states at most 4; the
 -- counter is 0 in states 0, 1, 3 and at least 1 in 4"
 unfoldable pub networkFits : List ℕ → ℕ → ℕ → Bool
 networkFits t n w =
-    eqb (field 13 3 w) 0
+    eqb (networkZeroOf w) 0
     && leb (networkOf w .asked) askedFull
     && leb (networkOf w .state) stateRecover
-    && implies (eqb (networkOf w .state) stateCheck) (between 1 (eTicks t n) (networkOf w .remaining))
-    && implies (eqb (networkOf w .state) stateRecover) (between 1 (max (shortWait t n) (longWait t n)) (networkOf w .remaining))
-    && (eqb (networkOf w .state) stateCheck || eqb (networkOf w .state) stateRecover || eqb (networkOf w .remaining) 0)
-    && (eqb (networkOf w .state) stateCheck || eqb (networkOf w .state) stateRecover || eqb (networkOf w .counter) 0)
-    && implies (eqb (networkOf w .state) stateRecover) (leb 1 (networkOf w .counter))
+    && cond (eqb (networkOf w .state) stateCheck) (between 1 (eTicks t n) (networkOf w .remaining))
+    (cond (eqb (networkOf w .state) stateRecover) (between 1 (max (l1 t n) (l2 t n)) (networkOf w .remaining))
+    (eqb (networkOf w .remaining) 0))
+    && cond (eqb (networkOf w .state) stateRecover) (leb 1 (networkOf w .counter))
+    (eqb (networkOf w .state) stateCheck || eqb (networkOf w .counter) 0)
 
 unfoldable pub sourceFits : List ℕ → ℕ → ℕ → Bool
 sourceFits t k w =
-    eqb (field 2 14 w) 0
-    && implies (eqb (statusOf w) statusPending) (between 1 (timeout t k) (remainingOf w))
-    && (eqb (statusOf w) statusPending || eqb (remainingOf w) 0)
+    eqb (sourceZeroOf w) 0
+    && cond (eqb (statusOf w) statusPending) (between 1 (timeout t k) (remainingOf w)) (eqb (remainingOf w) 0)
 
 unfoldable pub thingFits : List ℕ → Thing → ℕ → Bool
 thingFits t (aPort p) w = portFits t p w
@@ -193,7 +204,7 @@ fits t s = eqb (length s) (stateLength t) && all 0 (stateLength t) (fitsAt t s)
 unfoldable pub freshPort : List ℕ → ℕ → ℕ
 freshPort t p =
     cond (eqb (hasInitial t p) 1) (packPort 1 0 (initial t p) 0)
-    (cond (eqb (portKind t p) kindMode) (packPort 0 0 0 0)
+    (cond (eqb (portKind t p) portMode) (packPort 0 0 0 0)
     (packPort 1 0 0 0))
 
 unfoldable pub freshThing : List ℕ → Thing → ℕ

@@ -3,36 +3,28 @@ use Prim.Native.Nat.{ℕ}
 use mathlib.Core.Bool.{Bool, cond, _&&_, _||_, not}
 use mathlib.Core.List.{List, []}
 use lib.Dec.{leb, ltb, eqb}
-use Rattle.rulebook.specs.Words.{field, implies}
-use Rattle.rulebook.specs.Table.{ports, networks, sources, rules, portKind, kindMode, kindEvent}
+use Rattle.rulebook.specs.Words.{implies}
+use Rattle.rulebook.specs.Table.{ports, networks, sources, rules, portKind, portMode, portEvent}
 use Rattle.rulebook.specs.Reasons.{accepted, bound, held}
 use Rattle.rulebook.specs.State.{Thing, aPort, aRule, aNetwork, aSource, ownerOf, fits}
 use Rattle.rulebook.specs.Lists.{Run}
-use Rattle.rulebook.specs.Events.{eventKind, eventOwner, eventIndex, eventValue, tickKind, modeKind, requestKind, busOffKind, highestKind, happen}
+use Rattle.rulebook.specs.Events.{eventKind, eventOwner, eventIndex, eventValue, eventZero, eventTick, eventMode, eventRequest, eventBusOff, highestKind, happen}
 
--- Answers 1 to 3 read table, state and room: the table check gives a reason; the state doesn't fit; trace shorter than B words.
-
-unfoldable pub refusedState : List ℕ → List ℕ → ℕ
-refusedState t s = cond (not (accepted t)) 1 (cond (not (fits t s)) 2 0)
-
-unfoldable pub refusedCall : List ℕ → List ℕ → ℕ → ℕ
-refusedCall t s room = cond (eqb (refusedState t s) 0) (cond (ltb room (bound t)) 3 0) (refusedState t s)
-
--- Answers 4 to 6 read the event and the table.
+-- The checks that answers 4 to 6 make of the event and the table.
 
 -- "0 tick, all else 0"; "Value is 0 except in kind 1"
 unfoldable pub wellFormed : ℕ → Bool
 wellFormed e =
     leb (eventKind e) highestKind
-    && eqb (field 24 8 e) 0
-    && implies (eqb (eventKind e) tickKind) (eqb (eventOwner e) 0 && eqb (eventIndex e) 0)
-    && implies (not (eqb (eventKind e) modeKind)) (eqb (eventValue e) 0)
+    && eqb (eventZero e) 0
+    && implies (eqb (eventKind e) eventTick) (eqb (eventOwner e) 0 && eqb (eventIndex e) 0)
+    && implies (not (eqb (eventKind e) eventMode)) (eqb (eventValue e) 0)
 
 -- the thing that an event other than a tick names
 unfoldable pub named : ℕ → Thing
 named e =
-    cond (eqb (eventKind e) modeKind || eqb (eventKind e) requestKind) (aPort (eventIndex e))
-    (cond (eqb (eventKind e) busOffKind) (aNetwork (eventIndex e))
+    cond (eqb (eventKind e) eventMode || eqb (eventKind e) eventRequest) (aPort (eventIndex e))
+    (cond (eqb (eventKind e) eventBusOff) (aNetwork (eventIndex e))
     (aSource (eventIndex e)))
 
 unfoldable pub present : List ℕ → Thing → Bool
@@ -44,18 +36,42 @@ present t (aSource k) = ltb k (sources t)
 -- kind 1 wants a mode port that no network or source has, kind 2 an event port
 unfoldable pub suited : List ℕ → ℕ → Bool
 suited t e =
-    implies (eqb (eventKind e) modeKind) (eqb (portKind t (eventIndex e)) kindMode)
-    && implies (eqb (eventKind e) modeKind) (not (held t (eventIndex e) (networks t) (sources t)))
-    && implies (eqb (eventKind e) requestKind) (eqb (portKind t (eventIndex e)) kindEvent)
+    implies (eqb (eventKind e) eventMode) (eqb (portKind t (eventIndex e)) portMode)
+    && implies (eqb (eventKind e) eventMode) (not (held t (eventIndex e) (networks t) (sources t)))
+    && implies (eqb (eventKind e) eventRequest) (eqb (portKind t (eventIndex e)) portEvent)
 
 unfoldable pub known : List ℕ → ℕ → Bool
-known t e = eqb (eventKind e) tickKind || present t (named e) && suited t e
+known t e = eqb (eventKind e) eventTick || present t (named e) && suited t e
 
 unfoldable pub sentByOwner : List ℕ → ℕ → Bool
-sentByOwner t e = eqb (eventKind e) tickKind || eqb (eventOwner e) (ownerOf t (named e))
+sentByOwner t e = eqb (eventKind e) eventTick || eqb (eventOwner e) (ownerOf t (named e))
+
+-- The answers in their order: "given exactly if, in this order". Each part gives its first fault, or what comes next.
+
+-- 1 the table check gives a reason; 2 the state doesn't fit
+abbrev pub stateFault : List ℕ → List ℕ → ℕ → ℕ
+stateFault t s next = cond (not (accepted t)) 1 (cond (not (fits t s)) 2 next)
+
+-- 3 trace shorter than B words
+abbrev pub roomFault : List ℕ → ℕ → ℕ → ℕ
+roomFault t room next = cond (ltb room (bound t)) 3 next
+
+-- 4 event word malformed or kind above 6; 5 no such thing; 6 owner differs from the thing's
+abbrev pub eventFault : List ℕ → ℕ → ℕ → ℕ
+eventFault t e next = cond (not (wellFormed e)) 4 (cond (not (known t e)) 5 (cond (not (sentByOwner t e)) 6 next))
+
+unfoldable pub firstFault : List ℕ → List ℕ → ℕ → ℕ → ℕ
+firstFault t s room e = stateFault t s (roomFault t room (eventFault t e 0))
+
+-- for an entry that makes only some of the checks: of the state; of all but the event; of the event
+unfoldable pub refusedState : List ℕ → List ℕ → ℕ
+refusedState t s = stateFault t s 0
+
+unfoldable pub refusedCall : List ℕ → List ℕ → ℕ → ℕ
+refusedCall t s room = stateFault t s (roomFault t room 0)
 
 unfoldable pub refusedEvent : List ℕ → ℕ → ℕ
-refusedEvent t e = cond (not (wellFormed e)) 4 (cond (not (known t e)) 5 (cond (not (sentByOwner t e)) 6 0))
+refusedEvent t e = eventFault t e 0
 
 -- The count that is reported is the number of words. "A refused check ends the call at that point, count 0, state and trace
 -- unchanged."
@@ -72,9 +88,13 @@ refusal k s = record { answer = k; state = s; words = [] }
 unfoldable pub finish : List ℕ → Run → Result
 finish s r = cond (r .deep) (refusal 7 s) (record { answer = 0; state = r .state; words = r .words })
 
--- what comes after the checks of table, state and room
-unfoldable pub handle : List ℕ → List ℕ → ℕ → Result
-handle t s e = cond (eqb (refusedEvent t e) 0) (finish s (happen t e s)) (refusal (refusedEvent t e) s)
+-- done, or refused with a fault
+unfoldable pub conclude : ℕ → List ℕ → Run → Result
+conclude fault s r = cond (eqb fault 0) (finish s r) (refusal fault s)
 
 unfoldable pub step : List ℕ → List ℕ → ℕ → ℕ → Result
-step t s room e = cond (eqb (refusedCall t s room) 0) (handle t s e) (refusal (refusedCall t s room) s)
+step t s room e = conclude (firstFault t s room e) s (happen t e s)
+
+-- a step whose table, state and room have been checked
+unfoldable pub handle : List ℕ → List ℕ → ℕ → Result
+handle t s e = conclude (refusedEvent t e) s (happen t e s)

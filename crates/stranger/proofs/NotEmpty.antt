@@ -10,16 +10,16 @@ use Rattle.rulebook.specs.Words.{field, digit}
 use Rattle.rulebook.specs.Table.{sources, sourceOwner, timeout}
 use Rattle.rulebook.specs.Reasons.{accepted, bound}
 use Rattle.rulebook.specs.State.{ownerOf, fresh}
-use Rattle.rulebook.specs.Events.{eventKind, eventOwner, eventIndex, eventValue, wakeupKind}
-use Rattle.rulebook.specs.Step.{refusedState, refusedCall, wellFormed, named, present, suited, known, sentByOwner, refusedEvent, finish, handle, step}
+use Rattle.rulebook.specs.Events.{eventKind, eventOwner, eventIndex, eventValue, eventWakeup}
+use Rattle.rulebook.specs.Step.{refusedState, refusedCall, wellFormed, named, present, suited, known, sentByOwner, refusedEvent, finish, conclude, handle, step}
 use Rattle.laws.proofs.Facts.{facts}
 use Rattle.laws.proofs.Fields.{digit-small}
-use Rattle.laws.proofs.Steps.{fresh-fits, happen-shallow}
+use Rattle.laws.proofs.Steps.{step-in-parts, fresh-fits, happen-shallow}
 use Rattle.stranger.specs.Demand.{becomesPending, wakeupWord}
 use Rattle.stranger.proofs.Shows.{fresh-source}
 
 module _ (o k : ℕ) where
-  kind-is : eventKind (wakeupWord o k) ≡ wakeupKind
+  kind-is : eventKind (wakeupWord o k) ≡ eventWakeup
   unfolding digit wakeupWord
   kind-is = omega arith
 
@@ -56,8 +56,8 @@ module _ (t : List ℕ) (h : accepted t ≡ true) (k : ℕ) (b : k < sources t) 
       rw (kind-is (sourceOwner t k) k, value-is (sourceOwner t k) k, zeros-are (sourceOwner t k) k, index, lt-ltb k (sources t) b, owner-is (sourceOwner t k) k (digit-small _ 16 _ (omega arith)), eq-eqb (sourceOwner t k) (sourceOwner t k) refl)
 
   pub wakeup-answered : step t (fresh t) (bound t) e .answer ≡ 0
-  unfolding step handle finish
-  wakeup-answered = rw (call-taken, event-taken, happen-shallow t (facts t h) e (fresh t))
+  unfolding handle conclude finish
+  wakeup-answered = rw (step-in-parts, call-taken, event-taken, happen-shallow t (facts t h) e (fresh t))
 
   pub wakeup-pending : 1 ≤ timeout t k → becomesPending t k (fresh t) (record { event = e; room = bound t }) ≡ true
   unfolding becomesPending digit

@@ -13,12 +13,12 @@ use Rattle.rulebook.specs.Table.{stranger}
 use Rattle.rulebook.specs.Reasons.{accepted}
 use Rattle.rulebook.specs.State.{fresh}
 use Rattle.rulebook.specs.Events.{eventOwner, happen}
-use Rattle.rulebook.specs.Step.{refusedState, refusedCall, refusedEvent, Result, refusal, finish, handle, step}
+use Rattle.rulebook.specs.Step.{refusedState, refusedCall, refusedEvent, Result, refusal, finish, conclude, handle}
 use Rattle.laws.proofs.Tests.{split, clash, and-one-false}
 use Rattle.laws.proofs.Facts.{facts}
 use Rattle.laws.proofs.FitKept.{Fits}
 use Rattle.laws.proofs.Happen.{Taken, taken-event}
-use Rattle.laws.proofs.Steps.{Stepped, refused, done, stepped, happen-shallow, step-fits, fresh-fits}
+use Rattle.laws.proofs.Steps.{Stepped, refused, done, stepped, step-in-parts, happen-shallow, step-fits, fresh-fits}
 use Rattle.stranger.specs.Calls.{Call, called, after, strangersCall, struckOut}
 use Rattle.stranger.specs.Demand.{answered, ticks, tickCount}
 use Rattle.stranger.specs.View.{SameView, ownWords, Unseen, seenOf, seen}
@@ -68,7 +68,7 @@ module _ (t : List ℕ) (h : accepted t ≡ true) (o : ℕ) where
       rw (happen-shallow t (facts t h) e s₁, happen-shallow t (facts t h) e s₂) (record { answer = refl; state = alike .view; words = alike .own })
 
   handle-same : (e : ℕ) (s₁ s₂ : List ℕ) → stranger o (eventOwner e) ≡ false → SameView t o s₁ s₂ → SameSeen t o (handle t s₁ e) (handle t s₂ e)
-  unfolding handle
+  unfolding handle conclude
   handle-same e s₁ s₂ k v =
       pick-both (SameSeen t o) (eqb (refusedEvent t e) 0) (λ d. finish-same e s₁ s₂ k (taken-event t e (eqb-true _ _ d)) v) (λ d. refusal-same _ v)
 
@@ -78,9 +78,9 @@ module _ (t : List ℕ) (h : accepted t ≡ true) (o : ℕ) where
   refused-same s₁ s₂ room f₁ f₂ = rw (f₁, f₂)
 
   pub kept-call-same : (s₁ s₂ : List ℕ) (c : Call) → strangersCall o c ≡ false → Fits t s₁ → Fits t s₂ → SameView t o s₁ s₂ → SameSeen t o (called t s₁ c) (called t s₂ c)
-  unfolding strangersCall step
+  unfolding strangersCall
   kept-call-same s₁ s₂ c k f₁ f₂ v =
-      rw (refused-same s₁ s₂ (c .room) f₁ f₂)
+      rw (step-in-parts t s₁, step-in-parts t s₂, refused-same s₁ s₂ (c .room) f₁ f₂)
       (pick-both (SameSeen t o) (eqb (refusedCall t s₂ (c .room)) 0) (λ d. handle-same (c .event) s₁ s₂ k v) (λ d. refusal-same _ v))
 
   -- Runs. A run beside the same with the strangers struck out.
