@@ -21,10 +21,8 @@ fn port_fields(t: &[u32], p: u32) -> bool
     let initial = table::port_initial(w);
     let reload = table::port_reload(w);
     (kind <= 2)
-        & (!(has_initial == 1) | (kind == 0))
-        & (!(has_initial == 0) | (initial == 0))
-        & (!(kind == 2) | (1 <= reload))
-        & (!!(kind == 2) | (reload == 0))
+        & ((has_initial == 1) & (kind == 0) | !(has_initial == 1) & (initial == 0))
+        & ((kind == 2) & (1 <= reload) | !(kind == 2) & (reload == 0))
         & (!(kind == 2) | (deferred == 1))
 }
 

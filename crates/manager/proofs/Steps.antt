@@ -11,7 +11,7 @@ use Rattle.rulebook.specs.Table.{rules}
 use Rattle.rulebook.specs.Reasons.{bound, accepted}
 use Rattle.rulebook.specs.State.{fits}
 use Rattle.rulebook.specs.Events.{happen}
-use Rattle.rulebook.specs.Step.{refusedState, refusedCall, step, handle}
+use Rattle.rulebook.specs.Step.{firstFault, refusedEvent, conclude, step, handle}
 use Rattle.laws.proofs.Facts.{facts}
 use Rattle.laws.proofs.Steps.{happen-shallow, happen-paid}
 use Rattle.tables.specs.declared.Checked.{Checked}
@@ -28,22 +28,22 @@ told-bound t b r e h a = ap (λ (x : Checked). tables.told x .bound) (sym e) ∙
 
 module _ (t s trace : List ℕ) (e : ℕ) where
   pub bad-table : accepted t ≡ false → Told (step t s (length trace) e) trace BadTable s trace
-  unfolding step refusedCall refusedState
+  unfolding step conclude firstFault
   bad-table h = rw h (record { answer = refl; count = refl; state = refl; words = refl })
 
   pub unfit-state : accepted t ≡ true → fits t s ≡ false → Told (step t s (length trace) e) trace UnfitState s trace
-  unfolding step refusedCall refusedState
+  unfolding step conclude firstFault
   unfit-state h k = rw (h, k) (record { answer = refl; count = refl; state = refl; words = refl })
 
   module _ (b : ℕ) (is : b ≡ bound t) where
     pub short-trace : accepted t ≡ true → fits t s ≡ true → leb b (length trace) ≡ false → Told (step t s (length trace) e) trace ShortTrace s trace
-    unfolding step refusedCall refusedState
+    unfolding step conclude firstFault
     short-trace h k r =
         let less = leb-false b (length trace) r in
         rw (h, k, lt-ltb (length trace) (bound t) (rw is at less)) (record { answer = refl; count = refl; state = refl; words = refl })
 
     pub goes-on : accepted t ≡ true → fits t s ≡ true → leb b (length trace) ≡ true → step t s (length trace) e ≡ handle t s e
-    unfolding step refusedCall refusedState
+    unfolding step handle conclude firstFault refusedEvent
     goes-on h k r =
         let enough = leb-true b (length trace) r in
         rw (h, k, le-ltb (length trace) (bound t) (rw is at enough))

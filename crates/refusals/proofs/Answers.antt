@@ -6,7 +6,7 @@ use mathlib.Core.Bool.{true, false}
 use mathlib.Core.List.{List}
 use lib.Dec.{eqb}
 use Rattle.rulebook.specs.Events.{happen}
-use Rattle.rulebook.specs.Step.{wellFormed, known, sentByOwner, refusedEvent, refusal, finish, handle}
+use Rattle.rulebook.specs.Step.{wellFormed, known, sentByOwner, refusedEvent, refusal, finish, conclude, handle}
 use Rattle.walks.proofs.Walks.{split}
 use Rattle.refusals.specs.Answers.{answerOf, eventChecked}
 use Rattle.refusals.specs.declared.EventCheck.{EventCheck}
@@ -25,9 +25,9 @@ module _ (t : List ℕ) (e : ℕ) where
     number = sym checked-answer ∙ ap answerOf (sym h)
 
     pub handle-taken : eqb (answerOf r) 0 ≡ true → handle t s e ≡ finish s (happen t e s)
-    unfolding handle
+    unfolding handle conclude
     handle-taken z = rw (number, z)
 
     pub handle-refused : eqb (answerOf r) 0 ≡ false → handle t s e ≡ refusal (answerOf r) s
-    unfolding handle
+    unfolding handle conclude
     handle-refused z = rw (number, z)

@@ -12,7 +12,7 @@ use borrow.Author.Tests.{le-ltb, lt-ltb, le-leb, leb-false, leb-true, eqb-true}
 use Rattle.rulebook.specs.Reasons.{bound, accepted}
 use Rattle.rulebook.specs.State.{fits}
 use Rattle.rulebook.specs.Events.{happen}
-use Rattle.rulebook.specs.Step.{Result, refusedState, refusedCall, step, handle}
+use Rattle.rulebook.specs.Step.{Result, refusedState, refusedCall, firstFault, refusedEvent, conclude, step, handle}
 use Rattle.laws.proofs.Tests.{split}
 use Rattle.laws.proofs.Facts.{facts}
 use Rattle.laws.proofs.Fit.{fits-length}
@@ -55,7 +55,7 @@ module _ (t s : List ℕ) (room : ℕ) where
 
 module _ (t s trace : List ℕ) (e : ℕ) (ready : Ready t s trace) where
   pub taken-is : taken t s e ≡ handle t s e
-  unfolding step refusedCall refusedState
+  unfolding step handle conclude firstFault refusedEvent
   taken-is = rw (ready .table, ready .state, le-ltb (bound t) (bound t) (omega arith))
 
   pub run-safe : Safe (happen t e s) trace

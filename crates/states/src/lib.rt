@@ -73,8 +73,8 @@ fn port_fits(t: &[u32], p: u32, w: u32) -> bool
         & (!(defined == 0) | (kind == 0) & (value == 0) & (marked == 0))
         & (!(kind == 1) | (value <= 1))
         & (!(kind == 2) | (value <= 2))
-        & (!((kind == 2) & (value == 1)) | (1 <= remaining) & (remaining <= reload))
-        & ((kind == 2) & (value == 1) | (remaining == 0))
+        & ((kind == 2) & (value == 1) & ((1 <= remaining) & (remaining <= reload))
+            | !((kind == 2) & (value == 1)) & (remaining == 0))
 }
 
 fn rule_fits(w: u32) -> bool
@@ -106,11 +106,11 @@ fn network_fits(t: &[u32], h: Layout, n: u32, w: u32) -> bool
     (zero == 0)
         & (asked <= 2)
         & (state <= 4)
-        & (!(state == 2) | (1 <= remaining) & (remaining <= e_ticks))
-        & (!(state == 4) | (1 <= remaining) & (remaining <= longest))
-        & ((state == 2) | (state == 4) | (remaining == 0))
-        & ((state == 2) | (state == 4) | (counter == 0))
-        & (!(state == 4) | (1 <= counter))
+        & ((state == 2) & ((1 <= remaining) & (remaining <= e_ticks))
+            | !(state == 2)
+                & ((state == 4) & ((1 <= remaining) & (remaining <= longest))
+                    | !(state == 4) & (remaining == 0)))
+        & ((state == 4) & (1 <= counter) | !(state == 4) & ((state == 2) | (counter == 0)))
 }
 
 fn source_fits(t: &[u32], h: Layout, k: u32, w: u32) -> bool
@@ -123,8 +123,8 @@ fn source_fits(t: &[u32], h: Layout, k: u32, w: u32) -> bool
     let status = state::status(w);
     let remaining = state::remaining(w);
     (zero == 0)
-        & (!(status == 1) | (1 <= remaining) & (remaining <= timeout))
-        & ((status == 1) | (remaining == 0))
+        & ((status == 1) & ((1 <= remaining) & (remaining <= timeout))
+            | !(status == 1) & (remaining == 0))
 }
 
 // Whether a thing's word fits.

@@ -2,7 +2,7 @@
 use Prim.Native.Nat.{ℕ, zero, suc, _+_, _-_, _<_, _≤_}
 use mathlib.Core.Path.{_≡_, refl, sym, ap, ap₂, _∙_}
 use native.Mathlib.Nat.{zero-add, add-zero, suc-add}
-use mathlib.Core.Bool.{Bool, true, false}
+use mathlib.Core.Bool.{Bool, true, false, cond, _&&_, _||_, not}
 use native.Mathlib.Numerals.{add-one}
 use native.Mathlib.Omega.{arith}
 use lib.ListN.{length, getD}
@@ -134,3 +134,9 @@ getD-listed i (suc n) f zero h = ap f (omega arith)
 getD-listed i (suc n) f (suc k) h =
     let q : suc i + k ≡ i + suc k = omega arith in
     rw (getD-listed (suc i) n f k (omega arith)) (ap f q)
+
+-- One of two tests by a third, as code says it that branches nowhere.
+pub either : (a b c : Bool) → cond a b c ≡ (a && b || not a && c)
+either true true c = refl
+either true false c = refl
+either false b c = refl
