@@ -83,8 +83,8 @@ waits-of : (t : List ℕ) (n : ℕ) → ownFields t (atWaits n) ≡ true → Wai
 unfolding ownFields
 waits-of t n h =
     record {
-      short = leb-true _ _ (part-of _ (λ e. rw e at h));
-      long = leb-true _ _ (part-of _ (λ e. rw (e, and-false) at h));
+      l1 = leb-true _ _ (part-of _ (λ e. rw e at h));
+      l2 = leb-true _ _ (part-of _ (λ e. rw (e, and-false) at h));
       eticks = leb-true _ _ (part-of _ (λ e. rw (e, and-false) at h));
     }
 

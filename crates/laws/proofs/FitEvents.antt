@@ -124,7 +124,7 @@ module _ (t : List ℕ) (f : Facts t) where
   pub off-bus-ok : (n k : ℕ) (c : Network) → n < networks t → NetworkOk t n c → k < 256 → 1 ≤ k → NetworkOk t n (offBus t n k c)
   unfolding offBus wait
   off-bus-ok n k c b o x y =
-      let w = f .waits n b in let s₁ = w .short in let l₁ = w .long in
+      let w = f .waits n b in let s₁ = w .l1 in let l₁ = w .l2 in
       split (leb k (threshold t n)) (λ e. rw e (recovering-ok n k (l1 t n) c o x y (omega arith) (omega arith))) (λ e. rw e (recovering-ok n k (l2 t n) c o x y (omega arith) (omega arith)))
 
   bus-off-fits : (n : ℕ) (s : List ℕ) → n < networks t → Fits t s → Fits t (busOff t n s)

@@ -22,8 +22,8 @@ pub record Counts (t : List ℕ) : Type 0 where
   pub items : items t ≤ 2047
 
 pub record Waits (t : List ℕ) (n : ℕ) : Type 0 where
-  pub short : 1 ≤ l1 t n
-  pub long : 1 ≤ l2 t n
+  pub l1 : 1 ≤ l1 t n
+  pub l2 : 1 ≤ l2 t n
   pub eticks : 1 ≤ eTicks t n
 
 -- the port that network n, or source n, has: it may be shown on, no earlier one has it, it has the same owner

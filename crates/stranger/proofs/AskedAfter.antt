@@ -1,29 +1,35 @@
--- What a network is asked changes only by lists: an event leaves a network that is asked full so, unless a trace word asks it for
--- another mode. Assumes nothing.
-use mathlib.Core.Path.{_≡_, refl, _∙_, ap}
-use mathlib.Core.Bool.{false, _&&_, _||_, not}
-use mathlib.Core.List.{List}
-use Prim.Native.Nat.{ℕ, _+_, _-_, _≤_, _<_, min}
+-- What a network is asked changes only by lists: after an event it is what the last trace word that asks it asks for, what it was
+-- where none does. Assumes nothing.
+use mathlib.Core.Path.{_≡_, refl, sym, _∙_, ap}
+use mathlib.Core.Bool.{true, _&&_, _||_, not}
+use mathlib.Core.List.{List, [], _∷_}
+use Prim.Native.Nat.{ℕ, _+_, _-_, _≤_, _<_}
 use native.Mathlib.Omega.{arith}
 use lib.ListN.{set}
 use lib.Seq.{getD-set-same, getD-set-other}
 use lib.Dec.{leb, eqb}
 use borrow.Author.Tests.{eqb-true, eqb-false}
-use Rattle.rulebook.specs.Words.{word}
+use Rattle.rulebook.specs.Words.{word, digit}
 use Rattle.rulebook.specs.Table.{ports, networks, sources, portKind, portEvent, portTimer, networkPort, sourcePort}
-use Rattle.rulebook.specs.State.{networkIndex, sourceIndex, valueOf, askedNone, askedSilent, askedFull, stateNone, stateSilent, stateCheck, stateRecover, statusNone, statusPending, statusExpired, timerStarted, Network, networkOf, packNetwork}
-use Rattle.rulebook.specs.Lists.{setPort, networkIn, setNetwork}
-use Rattle.rulebook.specs.Events.{eventIndex, eventValue, only, request, statusIn, setSource, moveSource, wake, validate, clear, shown, moveNetwork, takes, offBus, busOff, countedNetwork, tickedNetwork, tickNetwork, remainingIn, tickSource, tickTimer, tickThings, arbitrateMarked, tick, happen}
+use Rattle.rulebook.specs.Reasons.{accepted}
+use Rattle.rulebook.specs.State.{fresh, networkIndex, sourceIndex, valueOf, askedNone, askedSilent, askedFull, stateNone, stateSilent, stateCheck, stateRecover, statusNone, statusPending, statusExpired, timerStarted, Network, networkOf, packNetwork}
+use Rattle.rulebook.specs.Lists.{Run, setPort, networkIn, setNetwork}
+use Rattle.rulebook.specs.Events.{eventKind, eventIndex, eventValue, eventTick, eventMode, eventRequest, eventBusOff, only, request, statusIn, setSource, moveSource, wake, validate, clear, shown, moveNetwork, takes, counterPlusOne, offBus, busOff, countedNetwork, tickedNetwork, tickNetwork, remainingIn, tickSource, tickTimer, tickThings, arbitrateMarked, tick, happen}
 use Rattle.laws.specs.Facts.{Facts}
 use Rattle.laws.proofs.Tests.{split}
+use Rattle.laws.proofs.Facts.{facts}
+use Rattle.laws.proofs.Steps.{fresh-fits}
 use Rattle.laws.proofs.Walks.{each-keeps}
 use Rattle.laws.proofs.Fields.{digit-small}
 use Rattle.laws.proofs.Fit.{NetworkOk, network-again, network-small, fits-length}
 use Rattle.laws.proofs.FitKept.{Fits, network-in}
 use Rattle.laws.proofs.FitEvents.{may-show, things-fit, ticked-ok, off-bus-ok, tick-network-fits, request-cases}
 use Rattle.laws.proofs.Happen.{Taken, happen-cases, mode-index, mode-kind, request-index, request-kind, bus-off-index, source-index}
-use Rattle.stranger.specs.Demand.{asksOther, anyWord}
-use Rattle.stranger.proofs.Asked.{asked-stays}
+use Rattle.stranger.specs.Logs.{Entry, Log, stateAfter}
+use Rattle.stranger.specs.Demand.{lastAsked, lastAskedIn}
+use Rattle.stranger.proofs.Logs.{taken, entry-fits}
+use Rattle.stranger.proofs.Shows.{fresh-network}
+use Rattle.stranger.proofs.Asked.{asked-last}
 
 counted-asked : (t : List ℕ) (n : ℕ) (c : Network) → countedNetwork t n c .asked ≡ c .asked
 unfolding countedNetwork
@@ -99,25 +105,45 @@ module _ (t : List ℕ) (f : Facts t) (n : ℕ) (b : n < networks t) where
       (λ m x u v w. (tick-network-fits t f m x (omega arith) (w .0), asks-ticked a m x (omega arith) (w .0) (w .1))) (fit, h) .1))
 
   -- one event
-  pub asked-after : (e : ℕ) (s : List ℕ) → Taken t e → Fits t s → Asks askedFull s → anyWord (asksOther n) (happen t e s .words) ≡ false → Asks askedFull (happen t e s .state)
-  unfolding tick arbitrateMarked wake validate clear busOff
-  asked-after e s w fit h =
-      let request-asks : (q v : ℕ) → q < ports t → (portKind t q ≡ portTimer → ⊥) → v < 256 → (portKind t q ≡ portEvent → v ≤ 1) → anyWord (asksOther n) (request t q v s .words) ≡ false → Asks askedFull (request t q v s .state) =
-      λ q v c nt v₈ ev. request-cases t f (λ x. anyWord (asksOther n) (x .words) ≡ false → Asks askedFull (x .state)) q v s c nt v₈ ev fit
-      (λ fit₁ none. asks-port askedFull q _ _ _ s c h) (λ fit₁ none. asked-stays t f n b (only q) _ fit₁ (asks-port askedFull q _ _ _ s c h) none) in
-      happen-cases (λ x. anyWord (asksOther n) (x .words) ≡ false → Asks askedFull (x .state)) t e s
-      (λ k none. asked-stays t f n b _ _ (things-fit t f s fit) (asks-things askedFull s fit h) none)
+  pub asked-after : (e : ℕ) (s : List ℕ) → Taken t e → Fits t s → networkIn t n (happen t e s .state) .asked ≡ lastAsked n (networkIn t n s .asked) (happen t e s .words)
+  unfolding tick arbitrateMarked wake validate clear busOff lastAsked
+  asked-after e s w fit =
+      let a = networkIn t n s .asked in
+      let Now : Run → Type 0 = λ x. networkIn t n (x .state) .asked ≡ lastAsked n a (x .words) in
+      let request-asks : (q v : ℕ) → q < ports t → (portKind t q ≡ portTimer → ⊥) → v < 256 → (portKind t q ≡ portEvent → v ≤ 1) → Now (request t q v s) =
+      λ q v c nt v₈ ev. request-cases t f Now q v s c nt v₈ ev fit
+      (λ fit₁. asks-port a q _ _ _ s c refl) (λ fit₁. asked-last t f n b a (only q) _ fit₁ (asks-port a q _ _ _ s c refl)) in
+      let there : (eventKind e ≡ eventTick → ⊥) → (eventKind e ≡ eventMode → ⊥) → (eventKind e ≡ eventRequest → ⊥) → (eventKind e ≡ eventBusOff → ⊥) → eventIndex e < sources t = source-index t e w in
+      happen-cases Now t e s
+      (λ k. asked-last t f n b a _ _ (things-fit t f s fit) (asks-things a s fit refl))
       (λ k. let m = mode-kind t e w k in request-asks (eventIndex e) (eventValue e) (mode-index t e w k) (λ z. omega arith) (digit-small _ 256 _ (omega arith)) (λ z. absurd (omega arith)))
       (λ k. let m = request-kind t e w k in request-asks (eventIndex e) 1 (request-index t e w k) (λ z. omega arith) (omega arith) (λ z. omega arith))
-      (λ k none. let c = source-index t e w (λ z. omega arith) (λ z. omega arith) (λ z. omega arith) (λ z. omega arith) in
-      split (eqb (statusIn t (eventIndex e) s) statusNone || eqb (statusIn t (eventIndex e) s) statusExpired) (λ d. rw d (asks-source askedFull (eventIndex e) _ _ s c h)) (λ d. rw d h))
-      (λ k none. let c = source-index t e w (λ z. omega arith) (λ z. omega arith) (λ z. omega arith) (λ z. omega arith) in
-      split (eqb (statusIn t (eventIndex e) s) statusPending) (λ d. rw d (asks-source askedFull (eventIndex e) _ _ s c h)) (λ d. rw d h))
-      (λ k none. let c = bus-off-index t e w k in
+      (λ k. let c = there (λ z. omega arith) (λ z. omega arith) (λ z. omega arith) (λ z. omega arith) in
+      split (eqb (statusIn t (eventIndex e) s) statusNone || eqb (statusIn t (eventIndex e) s) statusExpired) (λ d. rw d (asks-source a (eventIndex e) _ _ s c refl)) (λ d. rw d refl))
+      (λ k. let c = there (λ z. omega arith) (λ z. omega arith) (λ z. omega arith) (λ z. omega arith) in
+      split (eqb (statusIn t (eventIndex e) s) statusPending) (λ d. rw d (asks-source a (eventIndex e) _ _ s c refl)) (λ d. rw d refl))
+      (λ k. let c = bus-off-index t e w k in
       split (takes (networkIn t (eventIndex e) s))
       (λ d. rw d (bus-off-asks (eventIndex e) c))
-      (λ d. rw d h))
-      (λ k none. let c = source-index t e w (λ z. k (omega arith)) (λ z. k (omega arith)) (λ z. k (omega arith)) (λ z. k (omega arith)) in asks-source askedFull (eventIndex e) _ _ s c h)
+      (λ d. rw d refl))
+      (λ k. let c = there (λ z. k (omega arith)) (λ z. k (omega arith)) (λ z. k (omega arith)) (λ z. k (omega arith)) in asks-source a (eventIndex e) _ _ s c refl)
     where
-      bus-off-asks : (m : ℕ) → m < networks t → Asks askedFull (moveNetwork t m (offBus t m (min 255 (networkIn t m s .counter + 1)) (networkIn t m s)) s)
-      bus-off-asks m c = asks-network askedFull m _ s c fit (off-bus-ok t f m _ _ c (network-in t s fit m c) (omega arith) (omega arith)) (unfold offBus in refl) h
+      bus-off-asks : (m : ℕ) → m < networks t → Asks (networkIn t n s .asked) (moveNetwork t m (offBus t m (counterPlusOne (networkIn t m s)) (networkIn t m s)) s)
+      bus-off-asks m c = asks-network _ m _ s c fit (off-bus-ok t f m _ _ c (network-in t s fit m c) (omega arith) (omega arith)) (unfold offBus in refl) refl
+
+-- a log
+pub asked-in : (t : List ℕ) → accepted t ≡ true → (n : ℕ) → n < networks t → (s : List ℕ) (xs : List Entry) → Log t s xs → Fits t s → networkIn t n (stateAfter s xs) .asked ≡ lastAskedIn n (networkIn t n s .asked) xs
+unfolding stateAfter lastAskedIn
+asked-in t h n b s [] l fit = refl
+asked-in t h n b s (x ∷ xs) l fit =
+    let f = l .0 in
+    let one : networkIn t n (x .state) .asked ≡ lastAsked n (networkIn t n s .asked) (x .words) =
+    ap (λ (y : List ℕ). networkIn t n y .asked) (f .state)
+    ∙ asked-after t (facts t h) n b (x .event) s (taken f) fit
+    ∙ ap (λ (ws : List ℕ). lastAsked n (networkIn t n s .asked) ws) (sym (f .words)) in
+    asked-in t h n b (x .state) xs (l .1) (entry-fits t h s x f fit) ∙ ap (λ (a : ℕ). lastAskedIn n a xs) one
+
+pub asked-from-fresh : (t : List ℕ) → accepted t ≡ true → (n : ℕ) → n < networks t → (xs : List Entry) → Log t (fresh t) xs → networkIn t n (stateAfter (fresh t) xs) .asked ≡ lastAskedIn n askedNone xs
+unfolding digit
+asked-from-fresh t h n b xs l =
+    asked-in t h n b (fresh t) xs l (fresh-fits t h) ∙ ap (λ (w : ℕ). lastAskedIn n (networkOf w .asked) xs) (fresh-network t n b)

@@ -14,7 +14,6 @@ use Rattle.rulebook.specs.Reasons.{accepted}
 use Rattle.rulebook.specs.Lists.{Run, emit, traceWord, traceListStart, act, judge}
 use Rattle.rulebook.specs.Arbitration.{arbitrate}
 use Rattle.rulebook.specs.Events.{request, tick, arbitrateMarked, happen}
-use Rattle.rulebook.specs.Step.{Result, step}
 use Rattle.laws.specs.Facts.{Facts}
 use Rattle.laws.specs.Sequence.{Each}
 use Rattle.laws.proofs.Tests.{split, clash, part-of}
@@ -24,8 +23,7 @@ use Rattle.laws.proofs.Items.{ask-there}
 use Rattle.laws.proofs.Order.{each-both}
 use Rattle.laws.proofs.Runs.{Within, item-there, KeptByActs, decide-keeps}
 use Rattle.laws.proofs.Happen.{happen-cases}
-use Rattle.laws.proofs.Steps.{Stepped, refused, done, stepped}
-use Rattle.stranger.specs.Demand.{asksOther, anyWord}
+use Rattle.stranger.specs.Demand.{asks, asksOther, anyWord}
 use Rattle.stranger.specs.View.{traceKind, traceOwner, traceA, AsksOwn, ownWords}
 use Rattle.stranger.proofs.More.{pick}
 use Rattle.stranger.proofs.Alike.{word-owner}
@@ -71,25 +69,18 @@ module _ (t : List ℕ) (f : Facts t) where
   unfolding request
   request-asks-own p v s = pick AllAskOwn (eqb (deferred t p) 1) (λ e. tt) (λ e. arbitrate-asks-own _ _)
 
-  happen-asks-own : (e : ℕ) (s : List ℕ) → AllAskOwn (happen t e s)
+  pub happen-asks-own : (e : ℕ) (s : List ℕ) → AllAskOwn (happen t e s)
   unfolding tick arbitrateMarked
   happen-asks-own e s =
       happen-cases AllAskOwn t e s (λ k. arbitrate-asks-own _ _) (λ k. request-asks-own _ _ s) (λ k. request-asks-own _ _ s) (λ k. tt) (λ k. tt) (λ k. tt) (λ k. tt)
 
-pub asks-own : (t s : List ℕ) (room e : ℕ) → accepted t ≡ true → Each (AsksOwn t) (step t s room e .words)
-asks-own t s room e h = go (step t s room e) (stepped t s room e)
-  where
-    go : (r : Result) → Stepped t s room e r → Each (AsksOwn t) (r .words)
-    go r (refused k a b eq) = rw eq tt
-    go r (done c w eq) = rw eq (happen-asks-own t (facts t h) e s)
-
 -- So the words of its owner and of the platform tell whether a network is asked for another mode.
 
 asks-no-stranger : (t : List ℕ) (n w : ℕ) → AsksOwn t w → asksOther n w ≡ true → stranger (networkOwner t n) (traceOwner w) ≡ false
-unfolding asksOther
+unfolding asksOther asks
 asks-no-stranger t n w h a =
-    let kind : traceKind w ≡ itemAsk = eqb-true _ _ (part-of _ (λ e. rw (asksOther, e) at a)) in
-    let number : traceA w ≡ n = eqb-true _ _ (part-of _ (λ e. rw (asksOther, e, and-false) at a)) in
+    let kind : traceKind w ≡ itemAsk = eqb-true _ _ (part-of _ (λ e. rw (asksOther, asks, e) at a)) in
+    let number : traceA w ≡ n = eqb-true _ _ (part-of _ (λ e. rw (asksOther, asks, e, and-false) at a)) in
     ⊎-elim (λ e. let own : traceOwner w ≡ networkOwner t n = e ∙ ap (networkOwner t) number in rw own (self-known (networkOwner t n)))
     (λ e. rw e (platform-known (networkOwner t n))) (h kind)
 

@@ -2,28 +2,29 @@
 -- settled E ticks later, if left alone until then. Assumes nothing.
 use mathlib.Core.Path.{_≡_, refl, sym, _∙_, ap}
 use mathlib.Core.Bool.{true, false, cond, _&&_, not, and-false}
-use mathlib.Core.List.{List, [], _∷_, _++_}
-use Prim.Native.Nat.{ℕ, suc, _+_, _-_, _≤_, _<_, min}
+use mathlib.Core.List.{List, [], _∷_, _++_, append-nil}
+use Prim.Native.Nat.{ℕ, suc, _+_, _-_, _≤_, _<_}
 use native.Mathlib.Omega.{arith}
 use native.Mathlib.Nat.{zero-add, add-zero}
 use lib.Dec.{leb, ltb, eqb}
 use borrow.Author.Tests.{leb-true, leb-false, le-leb, lt-leb, eqb-true, eq-eqb, ne-eqb, not-true, ltb-true, ltb-false}
 use Rattle.rulebook.specs.Table.{networks, threshold, eTicks}
 use Rattle.rulebook.specs.Reasons.{accepted}
-use Rattle.rulebook.specs.State.{Network, askedFull, stateCheck, stateFull, stateRecover, fresh}
+use Rattle.rulebook.specs.State.{Network, askedNone, askedFull, stateCheck, stateFull, stateRecover, fresh}
 use Rattle.rulebook.specs.Lists.{networkIn}
-use Rattle.rulebook.specs.Events.{eventKind, eventIndex, eventTick, eventBusOff, shown, moved, takes, wait, offBus, countedNetwork, tickedNetwork, happen}
-use Rattle.rulebook.specs.Step.{Result}
+use Rattle.rulebook.specs.Events.{eventKind, eventIndex, eventTick, eventBusOff, shown, moved, takes, counterPlusOne, wait, offBus, countedNetwork, tickedNetwork, happen}
 use Rattle.laws.proofs.Tests.{split, part-of, and-left, and-right}
 use Rattle.laws.proofs.Facts.{facts}
 use Rattle.laws.proofs.FitKept.{Fits}
 use Rattle.laws.proofs.Happen.{Taken, bus-off-index}
-use Rattle.laws.proofs.Steps.{Stepped, refused, done, stepped, step-fits, fresh-fits}
-use Rattle.stranger.specs.Calls.{Call, called, after}
-use Rattle.stranger.specs.Demand.{answered, ticks, tickCount, shows, busOffTaken, loaded, asksOther, anyWord, asksAnother, leftAlone, Phase, modeToShow}
+use Rattle.laws.proofs.Steps.{fresh-fits}
+use Rattle.stranger.specs.Logs.{Entry, Follows, Log, stateAfter}
+use Rattle.stranger.specs.Demand.{ticks, tickCount, shows, busOffTaken, loaded, asksOther, anyWord, asksAnother, lastAskedIn, leftAlone, Phase, modeToShow}
+use Rattle.stranger.proofs.Logs.{taken, after-append, log-parts, entry-fits, log-fits}
 use Rattle.stranger.proofs.Moves.{nextNetwork, network-moves}
-use Rattle.stranger.proofs.Shows.{after-fits, network-shows}
-use Rattle.stranger.proofs.AskedAfter.{asked-after}
+use Rattle.stranger.proofs.Shows.{network-shows}
+use Rattle.stranger.proofs.Asked.{full-last}
+use Rattle.stranger.proofs.AskedAfter.{asked-after, asked-from-fresh}
 
 -- the phase, of the network's fields alone
 record PhaseOf (L E k : ℕ) (c : Network) : Type 0 where
@@ -94,13 +95,13 @@ phase-tick t n L k c one a p =
     phase-here L E (suc k) _ _ (counts-in t n c stateFull a s (omega arith) ∙ full-stays t n c s)
     (record { recovering = λ h. absurd (omega arith); checking = λ h g. absurd (omega arith); settled = λ h. s })))
 
--- One call.
+-- One entry.
 
 module _ (t : List ℕ) (h : accepted t ≡ true) (n : ℕ) (b : n < networks t) (L : ℕ) where
   abbrev At : ℕ → List ℕ → Type 0
   At k s = PhaseOf L (eTicks t n) k (networkIn t n s)
 
-  -- what a done call makes of n
+  -- what an event makes of n
   next-is : (e : ℕ) (s : List ℕ) (k : ℕ) → Taken t e → Fits t s → PhaseOf L (eTicks t n) k (nextNetwork t (facts t h) n b e s) → At k (happen t e s .state)
   next-is e s k w fit p =
       let m = network-moves t (facts t h) n b e s w fit .own in
@@ -117,106 +118,76 @@ module _ (t : List ℕ) (h : accepted t ≡ true) (n : ℕ) (b : n < networks t)
   tick-done : (k : ℕ) (s : List ℕ) (e : ℕ) → eventKind e ≡ eventTick → Taken t e → Fits t s → networkIn t n s .asked ≡ askedFull → At k s → At (suc k) (happen t e s .state)
   tick-done k s e is w fit a p = next-is e s (suc k) w fit (rw (next-tick e s is) (phase-tick t n L k (networkIn t n s) (facts t h .waits n b .eticks) a p))
 
-  call-phase : (k : ℕ) (s : List ℕ) (c : Call) → Fits t s → networkIn t n s .asked ≡ askedFull → busOffTaken t n s c ≡ false → At k s → At (cond (ticks t s c) 1 0 + k) (called t s c .state)
+  entry-phase : (k : ℕ) (s : List ℕ) (x : Entry) → Follows t s x → Fits t s → networkIn t n s .asked ≡ askedFull → busOffTaken t n s x ≡ false → At k s → At (cond (ticks x) 1 0 + k) (x .state)
   unfolding ticks busOffTaken
-  call-phase k s c fit a quiet p = go (called t s c) (stepped t s (c .room) (c .event)) refl
-    where
-      go : (r : Result) → Stepped t s (c .room) (c .event) r → r ≡ called t s c → At (cond (eqb (called t s c .answer) 0 && eqb (eventKind (c .event)) eventTick) 1 0 + k) (called t s c .state)
-      go r (refused m x y e) is =
-          let ans : called t s c .answer ≡ m = ap (λ (q : Result). q .answer) (sym is ∙ e) in
-          let st : called t s c .state ≡ s = ap (λ (q : Result). q .state) (sym is ∙ e) in
-          rw (ans, ne-eqb m 0 (λ z. omega arith), zero-add k, st) p
-      go r (done x w e) is =
-          let ans : called t s c .answer ≡ 0 = ap (λ (q : Result). q .answer) (sym is ∙ e) in
-          let st : called t s c .state ≡ happen t (c .event) s .state = ap (λ (q : Result). q .state) (sym is ∙ e) in
-          split (eqb (eventKind (c .event)) eventTick)
-          (λ d. let one : 1 + k ≡ suc k = omega arith in rw (ans, d, st, one) (tick-done k s (c .event) (eqb-true _ _ d) w fit a p))
-          (λ d. rw (ans, d, st, zero-add k) (next-is (c .event) s k w fit (rw (next-same (c .event) s d (rw ans at quiet)) p)))
+  entry-phase k s x f fit a quiet p =
+      rw (f .state)
+      (split (eqb (eventKind (x .event)) eventTick)
+      (λ d. let one : 1 + k ≡ suc k = omega arith in rw (d, one) (tick-done k s (x .event) (eqb-true _ _ d) (taken f) fit a p))
+      (λ d. rw (d, zero-add k) (next-is (x .event) s k (taken f) fit (rw (next-same (x .event) s d quiet) p))))
 
-  call-asked : (s : List ℕ) (c : Call) → Fits t s → networkIn t n s .asked ≡ askedFull → asksAnother t n s c ≡ false → networkIn t n (called t s c .state) .asked ≡ askedFull
+  entry-asked : (s : List ℕ) (x : Entry) → Follows t s x → Fits t s → networkIn t n s .asked ≡ askedFull → asksAnother n x ≡ false → networkIn t n (x .state) .asked ≡ askedFull
   unfolding asksAnother
-  call-asked s c fit a none = go (called t s c) (stepped t s (c .room) (c .event)) refl
-    where
-      go : (r : Result) → Stepped t s (c .room) (c .event) r → r ≡ called t s c → networkIn t n (called t s c .state) .asked ≡ askedFull
-      go r (refused m x y e) is = ap (λ (q : Result). networkIn t n (q .state) .asked) (sym is ∙ e) ∙ a
-      go r (done x w e) is =
-          ap (λ (q : Result). networkIn t n (q .state) .asked) (sym is ∙ e)
-          ∙ asked-after t (facts t h) n b (c .event) s w fit a (rw (ap (λ (q : Result). q .words) (sym is ∙ e)) at none)
+  entry-asked s x f fit a quiet =
+      ap (λ (y : List ℕ). networkIn t n y .asked) (f .state)
+      ∙ asked-after t (facts t h) n b (x .event) s (taken f) fit
+      ∙ rw a (full-last n (happen t (x .event) s .words) (rw (f .words) at quiet))
 
-  -- a run of calls that leaves n alone
-  run-phase : (cs : List Call) (k : ℕ) (s : List ℕ) → Fits t s → networkIn t n s .asked ≡ askedFull → leftAlone t n s cs ≡ true → At k s → At (tickCount t s cs + k) (after t s cs) × (networkIn t n (after t s cs) .asked ≡ askedFull)
-  unfolding leftAlone tickCount after
-  run-phase [] k s fit a alone p = (rw (zero-add k) p, a)
-  run-phase (c ∷ cs) k s fit a alone p =
-      let s₁ = called t s c .state in
-      let q : busOffTaken t n s c ≡ false = not-true _ (and-left _ (not (asksAnother t n s c)) (and-left _ (leftAlone t n s₁ cs) alone)) in
-      let m : asksAnother t n s c ≡ false = not-true _ (and-right (not (busOffTaken t n s c)) _ (and-left _ (leftAlone t n s₁ cs) alone)) in
-      let rest : leftAlone t n s₁ cs ≡ true = and-right (not (busOffTaken t n s c) && not (asksAnother t n s c)) _ alone in
-      let fit₁ = step-fits t s (c .room) (c .event) h fit in
-      let j : ℕ = cond (ticks t s c) 1 0 in
-      let r = run-phase cs (j + k) s₁ fit₁ (call-asked s c fit a m) rest (call-phase k s c fit a q p) in
-      let sum : j + tickCount t s₁ cs + k ≡ tickCount t s₁ cs + (j + k) = omega arith in
+  -- a log that leaves n alone
+  log-phase : (xs : List Entry) (k : ℕ) (s : List ℕ) → Log t s xs → Fits t s → networkIn t n s .asked ≡ askedFull → leftAlone t n s xs ≡ true → At k s → At (tickCount xs + k) (stateAfter s xs) × (networkIn t n (stateAfter s xs) .asked ≡ askedFull)
+  unfolding leftAlone tickCount stateAfter
+  log-phase [] k s l fit a alone p = (rw (zero-add k) p, a)
+  log-phase (x ∷ xs) k s l fit a alone p =
+      let s₁ = x .state in
+      let q : busOffTaken t n s x ≡ false = not-true _ (and-left _ (not (asksAnother n x)) (and-left _ (leftAlone t n s₁ xs) alone)) in
+      let m : asksAnother n x ≡ false = not-true _ (and-right (not (busOffTaken t n s x)) _ (and-left _ (leftAlone t n s₁ xs) alone)) in
+      let rest : leftAlone t n s₁ xs ≡ true = and-right (not (busOffTaken t n s x) && not (asksAnother n x)) _ alone in
+      let j : ℕ = cond (ticks x) 1 0 in
+      let r = log-phase xs (j + k) s₁ (l .1) (entry-fits t h s x (l .0) fit) (entry-asked s x (l .0) fit a m) rest (entry-phase k s x (l .0) fit a q p) in
+      let sum : j + tickCount xs + k ≡ tickCount xs + (j + k) = omega arith in
       (rw sum (r .0), r .1)
 
--- The call that starts it.
+-- The bus-off that starts it.
 
-pub after-more : (t s : List ℕ) (xs ys : List Call) → after t s (xs ++ ys) ≡ after t (after t s xs) ys
-unfolding after
-after-more t s [] ys = refl
-after-more t s (x ∷ xs) ys = after-more t _ xs ys
-
-record Starts (t : List ℕ) (n : ℕ) (s : List ℕ) (c : Call) : Type 0 where
-  answer : called t s c .answer ≡ 0
-  kind : eventKind (c .event) ≡ eventBusOff
-  index : eventIndex (c .event) ≡ n
+record Starts (t : List ℕ) (n : ℕ) (s : List ℕ) (x : Entry) : Type 0 where
+  kind : eventKind (x .event) ≡ eventBusOff
+  index : eventIndex (x .event) ≡ n
   took : takes (networkIn t n s) ≡ true
 
-starts : (t : List ℕ) (n : ℕ) (s : List ℕ) (c : Call) → busOffTaken t n s c ≡ true → Starts t n s c
+starts : (t : List ℕ) (n : ℕ) (s : List ℕ) (x : Entry) → busOffTaken t n s x ≡ true → Starts t n s x
 unfolding busOffTaken
-starts t n s c h =
+starts t n s x h =
     record {
-      answer = eqb-true _ _ (part-of _ (λ e. rw e at h));
-      kind = eqb-true _ _ (part-of _ (λ e. rw (e, and-false) at h));
+      kind = eqb-true _ _ (part-of _ (λ e. rw e at h));
       index = eqb-true _ _ (part-of _ (λ e. rw (e, and-false) at h));
-      took = and-right (answered t s c && eqb (eventKind (c .event)) eventBusOff && eqb (eventIndex (c .event)) n) _ h;
+      took = and-right (eqb (eventKind (x .event)) eventBusOff && eqb (eventIndex (x .event)) n) _ h;
     }
-
--- a call that is answered 0 is done
-pub done-call : (t s : List ℕ) (c : Call) → called t s c .answer ≡ 0 → Taken t (c .event) × (called t s c .state ≡ happen t (c .event) s .state) × (called t s c .words ≡ happen t (c .event) s .words)
-done-call t s c h = go (called t s c) (stepped t s (c .room) (c .event)) refl
-  where
-    go : (r : Result) → Stepped t s (c .room) (c .event) r → r ≡ called t s c → Taken t (c .event) × (called t s c .state ≡ happen t (c .event) s .state) × (called t s c .words ≡ happen t (c .event) s .words)
-    go r (refused m x y e) is = let z : m ≡ 0 = sym (ap (λ (q : Result). q .answer) (sym is ∙ e)) ∙ h in absurd (omega arith)
-    go r (done x w e) is = (w, ap (λ (q : Result). q .state) (sym is ∙ e), ap (λ (q : Result). q .words) (sym is ∙ e))
 
 no-words : (t s : List ℕ) (e : ℕ) → eventKind e ≡ eventBusOff → happen t e s .words ≡ []
 unfolding happen
 no-words t s e k = rw k
 
-module _ (t : List ℕ) (h : accepted t ≡ true) (n : ℕ) (s : List ℕ) (fit : Fits t s) (c : Call) (x : busOffTaken t n s c ≡ true) (a : networkIn t n s .asked ≡ askedFull) where
+module _ (t : List ℕ) (h : accepted t ≡ true) (n : ℕ) (s : List ℕ) (fit : Fits t s) (x : Entry) (f : Follows t s x) (off : busOffTaken t n s x ≡ true) where
   there : n < networks t
-  there = let st = starts t n s c x in rw (st .index) at (bus-off-index t (c .event) (done-call t s c (st .answer) .0) (st .kind))
+  there = let st = starts t n s x off in rw (st .index) at (bus-off-index t (x .event) (taken f) (st .kind))
 
   wait-some : 1 ≤ loaded t n s
   unfolding wait
-  wait-some = let w = facts t h .waits n there in split (leb (min 255 (networkIn t n s .counter + 1)) (threshold t n)) (λ e. rw e (w .short)) (λ e. rw e (w .long))
+  wait-some = let w = facts t h .waits n there in split (leb (counterPlusOne (networkIn t n s)) (threshold t n)) (λ e. rw e (w .l1)) (λ e. rw e (w .l2))
 
-  next-off : nextNetwork t (facts t h) n there (c .event) s ≡ offBus t n (min 255 (networkIn t n s .counter + 1)) (networkIn t n s)
+  next-off : nextNetwork t (facts t h) n there (x .event) s ≡ offBus t n (counterPlusOne (networkIn t n s)) (networkIn t n s)
   unfolding nextNetwork
-  next-off = let st = starts t n s c x in rw (st .kind, st .index, eq-eqb n n refl, st .took)
+  next-off = let st = starts t n s x off in rw (st .kind, st .index, eq-eqb n n refl, st .took)
 
-  start-phase : PhaseOf (loaded t n s) (eTicks t n) 0 (networkIn t n (called t s c .state))
+  start-phase : PhaseOf (loaded t n s) (eTicks t n) 0 (networkIn t n (x .state))
   unfolding offBus
   start-phase =
-      let d = done-call t s c (starts t n s c x .answer) in
-      rw (d .1) (next-is t h n there (loaded t n s) (c .event) s 0 (d .0) fit
+      rw (f .state) (next-is t h n there (loaded t n s) (x .event) s 0 (taken f) fit
       (rw next-off (record { recovering = λ z. (refl, omega arith); checking = λ z y. let one = wait-some in absurd (omega arith); settled = λ z. let one = wait-some in absurd (omega arith) })))
 
-  start-asked : networkIn t n (called t s c .state) .asked ≡ askedFull
+  start-asked : networkIn t n s .asked ≡ askedFull → networkIn t n (x .state) .asked ≡ askedFull
   unfolding asksAnother anyWord
-  start-asked =
-      let st = starts t n s c x in
-      call-asked t h n there (loaded t n s) s c fit a (ap (anyWord (asksOther n)) (done-call t s c (st .answer) .2 ∙ no-words t s (c .event) (st .kind)))
+  start-asked a = entry-asked t h n there (loaded t n s) s x f fit a (ap (anyWord (asksOther n)) (f .words ∙ no-words t s (x .event) (starts t n s x off .kind)))
 
 -- The theorem.
 
@@ -229,42 +200,51 @@ phase-shown t n L k s v p =
       settled = λ z. let q = p .settled z in (q, v ∙ rw q);
     }
 
--- from fresh, whatever went before: a bus-off of n is taken while full is asked, then calls that leave n alone
-module _ (t : List ℕ) (h : accepted t ≡ true) (n : ℕ) (before : List Call) (c : Call)
-    (taken : busOffTaken t n (after t (fresh t) before) c ≡ true) (full : networkIn t n (after t (fresh t) before) .asked ≡ askedFull)
-    (cs : List Call) (alone : leftAlone t n (called t (after t (fresh t) before) c .state) cs ≡ true) where
+-- from fresh, whatever went before: a bus-off of n is taken while full is what it was last asked for
+module _ (t : List ℕ) (h : accepted t ≡ true) (n : ℕ) (before : List Entry) (x : Entry)
+    (off : busOffTaken t n (stateAfter (fresh t) before) x ≡ true) (full : lastAskedIn n askedNone before ≡ askedFull) where
   abbrev s₀ : List ℕ
-  s₀ = after t (fresh t) before
+  s₀ = stateAfter (fresh t) before
 
-  abbrev s₁ : List ℕ
-  s₁ = called t s₀ c .state
+  module _ (xs : List Entry) (log : Log t (fresh t) (before ++ x ∷ xs)) where
+    fit₀ : Fits t s₀
+    fit₀ = log-fits t h (fresh t) before (log-parts t (fresh t) before (x ∷ xs) log .0) (fresh-fits t h)
 
-  abbrev s₂ : List ℕ
-  s₂ = after t s₁ cs
+    here : Follows t s₀ x
+    here = log-parts t (fresh t) before (x ∷ xs) log .1 .0
 
-  fit₀ : Fits t s₀
-  fit₀ = after-fits t (fresh t) before h (fresh-fits t h)
+    rest : Log t (x .state) xs
+    rest = log-parts t (fresh t) before (x ∷ xs) log .1 .1
 
-  n-there : n < networks t
-  n-there = there t h n s₀ fit₀ c taken full
+    n-there : n < networks t
+    n-there = there t h n s₀ fit₀ x here off
 
-  run : PhaseOf (loaded t n s₀) (eTicks t n) (tickCount t s₁ cs) (networkIn t n s₂) × (networkIn t n s₂ .asked ≡ askedFull)
-  run =
-      let r = run-phase t h n n-there (loaded t n s₀) cs 0 s₁ (step-fits t s₀ (c .room) (c .event) h fit₀) (start-asked t h n s₀ fit₀ c taken full) alone (start-phase t h n s₀ fit₀ c taken full) in
-      (rw add-zero at (r .0), r .1)
+    asked₁ : networkIn t n (x .state) .asked ≡ askedFull
+    asked₁ = start-asked t h n s₀ fit₀ x here off (asked-from-fresh t h n n-there before (log-parts t (fresh t) before (x ∷ xs) log .0) ∙ full)
 
-  -- after any of them: between ticks nothing of it changes
-  pub network-between : Phase t n (loaded t n s₀) (tickCount t s₁ cs) s₂
-  unfolding after
-  network-between =
-      phase-shown t n _ _ s₂ (rw (after-more t (fresh t) before (c ∷ cs)) at (network-shows t h n n-there (before ++ c ∷ cs) .value)) (run .0)
+    run : (ys zs : List Entry) → xs ≡ ys ++ zs → leftAlone t n (x .state) ys ≡ true
+        → PhaseOf (loaded t n s₀) (eTicks t n) (tickCount ys) (networkIn t n (stateAfter (x .state) ys)) × (networkIn t n (stateAfter (x .state) ys) .asked ≡ askedFull)
+    run ys zs parts alone =
+        let l = log-parts t (x .state) ys zs (rw parts at rest) .0 in
+        let r = log-phase t h n n-there (loaded t n s₀) ys 0 (x .state) l (entry-fits t h s₀ x here fit₀) asked₁ alone (start-phase t h n s₀ fit₀ x here off) in
+        (rw add-zero at (r .0), r .1)
+
+    -- what n shows at the end
+    shown-last : shows t n (stateAfter (x .state) xs) ≡ modeToShow t n (stateAfter (x .state) xs)
+    unfolding stateAfter
+    shown-last = rw (after-append (fresh t) before (x ∷ xs)) at (network-shows t h n n-there (before ++ x ∷ xs) log .value)
+
+  -- after entries that leave it alone: between ticks nothing of it changes
+  pub network-between : (xs : List Entry) → Log t (fresh t) (before ++ x ∷ xs) → leftAlone t n (x .state) xs ≡ true → Phase t n (loaded t n s₀) (tickCount xs) (stateAfter (x .state) xs)
+  network-between xs log alone = phase-shown t n _ _ _ (shown-last xs log) (run xs log xs [] (sym (append-nil xs)) alone .0)
 
   -- and after the next tick, whatever that tick's own lists ask for
-  pub network-at-tick : (d : Call) → ticks t s₂ d ≡ true → Phase t n (loaded t n s₀) (suc (tickCount t s₁ cs)) (called t s₂ d .state)
-  unfolding after ticks
-  network-at-tick d is =
-      let e = done-call t s₂ d (eqb-true _ _ (and-left _ (eqb (eventKind (d .event)) eventTick) is)) in
-      let k : eventKind (d .event) ≡ eventTick = eqb-true _ _ (and-right (answered t s₂ d) _ is) in
-      let fit₂ = after-fits t s₁ cs h (step-fits t s₀ (c .room) (c .event) h fit₀) in
-      phase-shown t n _ _ (called t s₂ d .state) (rw (after-more t (fresh t) before (c ∷ (cs ++ (d ∷ []))), after-more t s₁ cs (d ∷ [])) at (network-shows t h n n-there (before ++ c ∷ (cs ++ (d ∷ []))) .value))
-      (rw (e .1) (tick-done t h n n-there (loaded t n s₀) (tickCount t s₁ cs) s₂ (d .event) k (e .0) fit₂ (run .1) (run .0)))
+  pub network-at-tick : (xs : List Entry) (d : Entry) → Log t (fresh t) (before ++ x ∷ (xs ++ d ∷ [])) → leftAlone t n (x .state) xs ≡ true → ticks d ≡ true → Phase t n (loaded t n s₀) (suc (tickCount xs)) (d .state)
+  unfolding ticks stateAfter
+  network-at-tick xs d log alone is =
+      let r = run (xs ++ d ∷ []) log xs (d ∷ []) refl alone in
+      let parts = log-parts t (x .state) xs (d ∷ []) (rest (xs ++ d ∷ []) log) in
+      let last : Follows t (stateAfter (x .state) xs) d = parts .1 .0 in
+      let fit₂ = log-fits t h (x .state) xs (parts .0) (entry-fits t h s₀ x (here (xs ++ d ∷ []) log) (fit₀ (xs ++ d ∷ []) log)) in
+      phase-shown t n _ _ (d .state) (rw (after-append (x .state) xs (d ∷ [])) at (shown-last (xs ++ d ∷ []) log))
+      (rw (last .state) (tick-done t h n (n-there (xs ++ d ∷ []) log) (loaded t n s₀) (tickCount xs) (stateAfter (x .state) xs) (d .event) (eqb-true _ _ is) (taken last) fit₂ (r .1) (r .0)))

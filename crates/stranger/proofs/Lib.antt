@@ -7,9 +7,8 @@ pub mod Evaluation
 pub mod Lists
 pub mod Arbitration
 pub mod Events
-pub mod Strangers
+pub mod Logs
 pub mod AsksOwn
-pub mod Exceptions
 pub mod Holders
 pub mod Arbitrated
 pub mod Asked
@@ -17,6 +16,3 @@ pub mod Moves
 pub mod Shows
 pub mod AskedAfter
 pub mod Countdown
-pub mod Wakeup
-pub mod NotEmpty
-pub mod Demand3

@@ -1,5 +1,5 @@
--- Ports show: in every state of a run from fresh, the port of a network or source has as its value exactly the shown mode or the
--- status, and is defined exactly if some earlier call changed it. Assumes nothing.
+-- Ports show: in every state of a log from fresh, the port of a network or source has as its value exactly the shown mode or the
+-- status, and is defined exactly if some earlier entry changed it. Assumes nothing.
 use mathlib.Core.Path.{_≡_, refl, sym, _∙_, ap}
 use mathlib.Core.Bool.{Bool, true, false, cond}
 use mathlib.Core.List.{List, [], _∷_}
@@ -13,66 +13,48 @@ use Rattle.rulebook.specs.Reasons.{accepted}
 use Rattle.rulebook.specs.State.{networkIndex, sourceIndex, stateLength, definedOf, valueOf, networkOf, statusOf, packPort, freshPort, freshThing, freshAt, fresh}
 use Rattle.rulebook.specs.Lists.{networkIn}
 use Rattle.rulebook.specs.Events.{shown, happen}
-use Rattle.rulebook.specs.Step.{Result}
 use Rattle.laws.proofs.Tests.{split}
 use Rattle.laws.proofs.Walks.{listed-at}
 use Rattle.laws.proofs.Parts.{thing-port, thing-network, thing-source}
 use Rattle.laws.proofs.Facts.{facts}
 use Rattle.laws.proofs.FitKept.{Fits}
 use Rattle.laws.proofs.FitEvents.{MayShow, may-show}
-use Rattle.laws.proofs.Happen.{Taken}
-use Rattle.laws.proofs.Steps.{Stepped, refused, done, stepped, step-fits, fresh-fits}
-use Rattle.stranger.specs.Calls.{Call, called, after}
+use Rattle.laws.proofs.Steps.{fresh-fits}
+use Rattle.stranger.specs.Logs.{Entry, Follows, Log, stateAfter}
 use Rattle.stranger.specs.Demand.{modeToShow, statusToShow, changes, PortShows}
-use Rattle.stranger.proofs.Moves.{PortMoves, port-stays, nextNetwork, network-moves, source-moves}
+use Rattle.stranger.proofs.Logs.{taken, entry-fits}
+use Rattle.stranger.proofs.Moves.{PortMoves, nextNetwork, network-moves, source-moves}
 
--- every state of a run fits
-pub after-fits : (t s : List ℕ) (cs : List Call) → accepted t ≡ true → Fits t s → Fits t (after t s cs)
-unfolding after
-after-fits t s [] h f = f
-after-fits t s (c ∷ cs) h f = after-fits t _ cs h (step-fits t s (c .room) (c .event) h f)
-
--- a call is refused and the state stays, or done
-pub call-cases : (P : List ℕ → Type 0) (t s : List ℕ) (c : Call) → P s → (Taken t (c .event) → P (happen t (c .event) s .state)) → P (called t s c .state)
-call-cases P t s c same did = go (called t s c) (stepped t s (c .room) (c .event))
-  where
-    go : (r : Result) → Stepped t s (c .room) (c .event) r → P (r .state)
-    go r (refused k a b e) = rw (ap (λ (q : Result). q .state) e) same
-    go r (done k w e) = rw (ap (λ (q : Result). q .state) e) (did w)
-
--- one call
+-- one entry
 module _ (t : List ℕ) (h : accepted t ≡ true) where
-  network-call : (n : ℕ) → n < networks t → (s : List ℕ) (c : Call) → Fits t s → PortMoves (networkPort t n) (modeToShow t n s) (modeToShow t n (called t s c .state)) s (called t s c .state)
+  network-entry : (n : ℕ) → n < networks t → (s : List ℕ) (x : Entry) → Follows t s x → Fits t s → PortMoves (networkPort t n) (modeToShow t n s) (modeToShow t n (x .state)) s (x .state)
   unfolding modeToShow
-  network-call n b s c fit =
-      call-cases (λ x. PortMoves (networkPort t n) (modeToShow t n s) (modeToShow t n x) s x) t s c (port-stays _ _ s s refl)
-      (λ w. let m = network-moves t (facts t h) n b (c .event) s w fit in
-      let e : nextNetwork t (facts t h) n b (c .event) s .state ≡ networkIn t n (happen t (c .event) s .state) .state = sym (ap (λ x. x .state) (m .own)) in
-      rw (← e) (m .port))
+  network-entry n b s x f fit =
+      let m = network-moves t (facts t h) n b (x .event) s (taken f) fit in
+      let e : nextNetwork t (facts t h) n b (x .event) s .state ≡ networkIn t n (happen t (x .event) s .state) .state = sym (ap (λ y. y .state) (m .own)) in
+      rw (f .state) (rw (← e) (m .port))
 
-  source-call : (k : ℕ) → k < sources t → (s : List ℕ) (c : Call) → Fits t s → PortMoves (sourcePort t k) (statusToShow t k s) (statusToShow t k (called t s c .state)) s (called t s c .state)
+  source-entry : (k : ℕ) → k < sources t → (s : List ℕ) (x : Entry) → Follows t s x → Fits t s → PortMoves (sourcePort t k) (statusToShow t k s) (statusToShow t k (x .state)) s (x .state)
   unfolding statusToShow
-  source-call k b s c fit =
-      call-cases (λ x. PortMoves (sourcePort t k) (statusToShow t k s) (statusToShow t k x) s x) t s c (port-stays _ _ s s refl)
-      (λ w. let m = source-moves t (facts t h) k b (c .event) s w fit in rw (m .own) (m .port))
+  source-entry k b s x f fit = let m = source-moves t (facts t h) k b (x .event) s (taken f) fit in rw (f .state) (rw (m .own) (m .port))
 
--- a run of calls
+-- a log
 module _ (t : List ℕ) (h : accepted t ≡ true) (p : ℕ) (look : List ℕ → ℕ)
-    (call : (s : List ℕ) (c : Call) → Fits t s → PortMoves p (look s) (look (called t s c .state)) s (called t s c .state)) where
-  value-after : (cs : List Call) (s : List ℕ) → Fits t s → valueOf (word s p) ≡ look s → valueOf (word (after t s cs) p) ≡ look (after t s cs)
-  unfolding after
-  value-after [] s fit v = v
-  value-after (c ∷ cs) s fit v = value-after cs _ (step-fits t s (c .room) (c .event) h fit) (call s c fit .value v)
+    (one : (s : List ℕ) (x : Entry) → Follows t s x → Fits t s → PortMoves p (look s) (look (x .state)) s (x .state)) where
+  value-after : (xs : List Entry) (s : List ℕ) → Log t s xs → Fits t s → valueOf (word s p) ≡ look s → valueOf (word (stateAfter s xs) p) ≡ look (stateAfter s xs)
+  unfolding stateAfter
+  value-after [] s l fit v = v
+  value-after (x ∷ xs) s l fit v = value-after xs (x .state) (l .1) (entry-fits t h s x (l .0) fit) (one s x (l .0) fit .value v)
 
-  defined-after : (cs : List Call) (s : List ℕ) → Fits t s → definedOf (word (after t s cs) p) ≡ cond (changes look t s cs) 1 (definedOf (word s p))
-  unfolding after changes
-  defined-after [] s fit = refl
-  defined-after (c ∷ cs) s fit =
-      let rest = defined-after cs _ (step-fits t s (c .room) (c .event) h fit) in
-      let one = call s c fit .defined in
-      split (eqb (look (called t s c .state)) (look s))
-      (λ e. rw e (rest ∙ ap (λ (d : ℕ). cond (changes look t (called t s c .state) cs) 1 d) (rw e at one)))
-      (λ e. rw e (rest ∙ ap (λ (d : ℕ). cond (changes look t (called t s c .state) cs) 1 d) (rw e at one) ∙ both-one (changes look t (called t s c .state) cs)))
+  defined-after : (xs : List Entry) (s : List ℕ) → Log t s xs → Fits t s → definedOf (word (stateAfter s xs) p) ≡ cond (changes look s xs) 1 (definedOf (word s p))
+  unfolding stateAfter changes
+  defined-after [] s l fit = refl
+  defined-after (x ∷ xs) s l fit =
+      let rest = defined-after xs (x .state) (l .1) (entry-fits t h s x (l .0) fit) in
+      let here = one s x (l .0) fit .defined in
+      split (eqb (look (x .state)) (look s))
+      (λ e. rw e (rest ∙ ap (λ (d : ℕ). cond (changes look (x .state) xs) 1 d) (rw e at here)))
+      (λ e. rw e (rest ∙ ap (λ (d : ℕ). cond (changes look (x .state) xs) 1 d) (rw e at here) ∙ both-one (changes look (x .state) xs)))
     where
       both-one : (x : Bool) → _≡_ {A = ℕ} (cond x 1 1) 1
       both-one true = refl
@@ -90,7 +72,7 @@ fresh-showing t p m =
     let there = m .there in
     fresh-word t p (omega arith) ∙ rw (thing-port t p there, m .bare, m .mode)
 
-fresh-network : (t : List ℕ) (n : ℕ) → n < networks t → word (fresh t) (networkIndex t n) ≡ 0
+pub fresh-network : (t : List ℕ) (n : ℕ) → n < networks t → word (fresh t) (networkIndex t n) ≡ 0
 unfolding freshAt freshThing
 fresh-network t n b = fresh-word t (networkIndex t n) (omega arith) ∙ rw (thing-network t n b)
 
@@ -102,21 +84,21 @@ zero-port : (valueOf (packPort 0 0 0 0) ≡ 0) × (definedOf (packPort 0 0 0 0) 
 unfolding packPort digit
 zero-port = (refl, refl)
 
-shows-after : (t : List ℕ) (h : accepted t ≡ true) (p : ℕ) (look : List ℕ → ℕ) → ((s : List ℕ) (c : Call) → Fits t s → PortMoves p (look s) (look (called t s c .state)) s (called t s c .state))
-    → MayShow t p → look (fresh t) ≡ 0 → (cs : List Call) → PortShows p look t cs
-shows-after t h p look call m zero-look cs =
+shows-after : (t : List ℕ) (h : accepted t ≡ true) (p : ℕ) (look : List ℕ → ℕ) → ((s : List ℕ) (x : Entry) → Follows t s x → Fits t s → PortMoves p (look s) (look (x .state)) s (x .state))
+    → MayShow t p → look (fresh t) ≡ 0 → (xs : List Entry) → Log t (fresh t) xs → PortShows p look (fresh t) xs
+shows-after t h p look one m zero-look xs l =
     let w = fresh-showing t p m in
     record {
-      value = value-after t h p look call cs (fresh t) (fresh-fits t h) (ap (λ (x : ℕ). valueOf x) w ∙ zero-port .0 ∙ sym zero-look);
-      defined = defined-after t h p look call cs (fresh t) (fresh-fits t h) ∙ ap (λ (d : ℕ). cond (changes look t (fresh t) cs) 1 d) (ap (λ (x : ℕ). definedOf x) w ∙ zero-port .1);
+      value = value-after t h p look one xs (fresh t) l (fresh-fits t h) (ap (λ (x : ℕ). valueOf x) w ∙ zero-port .0 ∙ sym zero-look);
+      defined = defined-after t h p look one xs (fresh t) l (fresh-fits t h) ∙ ap (λ (d : ℕ). cond (changes look (fresh t) xs) 1 d) (ap (λ (x : ℕ). definedOf x) w ∙ zero-port .1);
     }
 
-pub network-shows : (t : List ℕ) → accepted t ≡ true → (n : ℕ) → n < networks t → (cs : List Call) → PortShows (networkPort t n) (modeToShow t n) t cs
+pub network-shows : (t : List ℕ) → accepted t ≡ true → (n : ℕ) → n < networks t → (xs : List Entry) → Log t (fresh t) xs → PortShows (networkPort t n) (modeToShow t n) (fresh t) xs
 unfolding modeToShow digit shown
-network-shows t h n b cs =
-    shows-after t h (networkPort t n) (modeToShow t n) (network-call t h n b) (may-show t _ (facts t h .network n b .may)) (ap (λ (w : ℕ). shown (networkOf w .state)) (fresh-network t n b)) cs
+network-shows t h n b xs l =
+    shows-after t h (networkPort t n) (modeToShow t n) (network-entry t h n b) (may-show t _ (facts t h .network n b .may)) (ap (λ (w : ℕ). shown (networkOf w .state)) (fresh-network t n b)) xs l
 
-pub source-shows : (t : List ℕ) → accepted t ≡ true → (k : ℕ) → k < sources t → (cs : List Call) → PortShows (sourcePort t k) (statusToShow t k) t cs
+pub source-shows : (t : List ℕ) → accepted t ≡ true → (k : ℕ) → k < sources t → (xs : List Entry) → Log t (fresh t) xs → PortShows (sourcePort t k) (statusToShow t k) (fresh t) xs
 unfolding statusToShow digit
-source-shows t h k b cs =
-    shows-after t h (sourcePort t k) (statusToShow t k) (source-call t h k b) (may-show t _ (facts t h .source k b .may)) (ap (λ (w : ℕ). statusOf w) (fresh-source t k b)) cs
+source-shows t h k b xs l =
+    shows-after t h (sourcePort t k) (statusToShow t k) (source-entry t h k b) (may-show t _ (facts t h .source k b .may)) (ap (λ (w : ℕ). statusOf w) (fresh-source t k b)) xs l

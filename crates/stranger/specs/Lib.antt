@@ -1,5 +1,5 @@
--- Demand 3's words: calls and runs, the view of an operator, what is taken, shown, settled.
-pub mod Calls
+-- Demand 3's words: logs, the view of an operator, what is taken, shown, settled, and the statements.
+pub mod Logs
 pub mod View
-pub mod Statements
 pub mod Demand
+pub mod Statements

@@ -1,85 +1,95 @@
--- DEMAND 3, as statements over the rulebook's steps: from fresh, each state passed on, any calls. Each is proved of every accepted
--- table (proofs/Demand3).
+-- DEMAND 3, sentence by sentence. "Take an accepted table and a fresh state, pass each state on, send any events; only those answered
+-- 0 count": s is the fresh state of table t, and Went xs says that xs is a log of what was then taken. In proofs/Demand3 a log is
+-- whatever follows by the rulebook's steps; in crate `demands`, whatever calls of the entries gave.
 use mathlib.Core.Path.{_≡_}
-use mathlib.Core.Bool.{true, false}
-use mathlib.Core.List.{List}
-use Prim.Native.Nat.{ℕ, suc, _≤_, _<_}
+use mathlib.Core.Bool.{Bool, true, _&&_, not}
+use mathlib.Core.List.{List, [], _∷_, _++_}
+use Prim.Native.Nat.{ℕ, suc, _<_}
+use lib.Dec.{eqb}
 use Rattle.rulebook.specs.Table.{networks, networkPort, networkOwner, sources, sourcePort, sourceOwner, timeout}
-use Rattle.rulebook.specs.Reasons.{bound}
-use Rattle.rulebook.specs.State.{askedFull, fresh}
+use Rattle.rulebook.specs.State.{askedNone, askedFull, stateRecover, statusPending}
 use Rattle.rulebook.specs.Lists.{networkIn}
-use Rattle.rulebook.specs.Events.{eventOwner}
+use Rattle.rulebook.specs.Events.{eventOwner, statusIn}
 use Rattle.laws.specs.Sequence.{Each}
-use Rattle.stranger.specs.Calls.{Call, called, after, strangersCall, struckOut}
-use Rattle.stranger.specs.Demand.{ticks, tickCount, busOffTaken, loaded, leftAlone, Phase, becomesPending, wakeupWord, ended, notEnded, Waiting, modeToShow, statusToShow, PortShows}
+use Rattle.stranger.specs.Logs.{Entry, stateAfter, strangersEntry, struckOut}
 use Rattle.stranger.specs.View.{AsksOwn, Unseen, seen}
+use Rattle.stranger.specs.Demand.{ticks, tickCount, busOffTaken, loaded, lastAskedIn, leftAlone, Phase, becomesPending, ended, notEnded, Waiting}
+use Rattle.stranger.specs.Demand.{endStatus, showsStatus, Moment, networkMoment, sourceMoment, moments, modeToShow, statusToShow, PortShows}
 
--- the state after the calls `before` from fresh, and the state after one call more
-abbrev pub reached : List ℕ → List Call → List ℕ
-reached t before = after t (fresh t) before
-
-abbrev pub then : List ℕ → List Call → Call → List ℕ
-then t before c = called t (reached t before) c .state
-
--- "Take an accepted table and a fresh state, pass each state on": the port of a network or source shows its mode or status.
-pub record PortsShow (t : List ℕ) : Type 0 where
-  pub network : (n : ℕ) → n < networks t → (cs : List Call) → PortShows (networkPort t n) (modeToShow t n) t cs
-  pub source : (k : ℕ) → k < sources t → (cs : List Call) → PortShows (sourcePort t k) (statusToShow t k) t cs
+-- v is what it has newly become
+abbrev pub newly : ℕ → ℕ → ℕ → Bool
+newly v before after = not (eqb before v) && eqb after v
 
 -- "A network in which a bus-off is taken, while full communication is what it was last asked for, shows full again at exactly its
--- L-th following tick and is settled E ticks later, if until then no list asks it for another mode and no further bus-off of it is
--- taken." After calls that leave it alone it is in the phase of the ticks taken among them; and so after the next tick, whatever
--- that tick's own lists ask for.
-abbrev pub Recovers : List ℕ → Type 0
-Recovers t =
-    (n : ℕ) (before : List Call) (c : Call) (cs : List Call)
-    → busOffTaken t n (reached t before) c ≡ true
-    → networkIn t n (reached t before) .asked ≡ askedFull
-    → leftAlone t n (then t before c) cs ≡ true
-    → Phase t n (loaded t n (reached t before)) (tickCount t (then t before c) cs) (after t (then t before c) cs)
-    × ((d : Call) → ticks t (after t (then t before c) cs) d ≡ true → Phase t n (loaded t n (reached t before)) (suc (tickCount t (then t before c) cs)) (called t (after t (then t before c) cs) d .state))
+-- L-th following tick (L its short or long wait) and is settled E ticks later, if until then no list asks it for another mode and no
+-- further bus-off of it is taken." Entry x is the bus-off, `before` what went before it.
+pub record NetworkWaits (t s : List ℕ) (Went : List Entry → Type 0) : Type 0 where
+  -- after entries xs that leave it alone it is in the phase of their ticks
+  pub recovers : (n : ℕ) (before : List Entry) (x : Entry) (xs : List Entry) → Went (before ++ x ∷ xs)
+      → busOffTaken t n (stateAfter s before) x ≡ true
+      → lastAskedIn n askedNone before ≡ askedFull
+      → leftAlone t n (x .state) xs ≡ true
+      → Phase t n (loaded t n (stateAfter s before)) (tickCount xs) (stateAfter (x .state) xs)
+  -- and so after the next tick d, whatever that tick's own lists ask for
+  pub atTick : (n : ℕ) (before : List Entry) (x : Entry) (xs : List Entry) (d : Entry) → Went (before ++ x ∷ (xs ++ d ∷ []))
+      → busOffTaken t n (stateAfter s before) x ≡ true
+      → lastAskedIn n askedNone before ≡ askedFull
+      → leftAlone t n (x .state) xs ≡ true
+      → ticks d ≡ true
+      → Phase t n (loaded t n (stateAfter s before)) (suc (tickCount xs)) (d .state)
+  -- what it was last asked for is what its word says it is asked
+  pub asked : (n : ℕ) → n < networks t → (xs : List Entry) → Went xs → networkIn t n (stateAfter s xs) .asked ≡ lastAskedIn n askedNone xs
+  -- a bus-off that is taken, and nothing else, makes it recover
+  pub taken : (n : ℕ) → n < networks t → (xs : List Entry) (x : Entry) → Went (xs ++ x ∷ [])
+      → busOffTaken t n (stateAfter s xs) x ≡ newly stateRecover (networkIn t n (stateAfter s xs) .state) (networkIn t n (x .state) .state)
+  -- its port shows its mode, in every state
+  pub shown : (n : ℕ) → n < networks t → (xs : List Entry) → Went xs → PortShows (networkPort t n) (modeToShow t n) s xs
 
--- "A wakeup source that becomes pending is validated or cleared by its own operator before its T-th tick, or expires at exactly
--- that tick."
-abbrev pub Expires : List ℕ → Type 0
-Expires t =
-    (k : ℕ) (before : List Call) (c : Call) (cs : List Call)
-    → becomesPending t k (reached t before) c ≡ true
-    → notEnded t k (then t before c) cs ≡ true
-    → tickCount t (then t before c) cs < timeout t k
-    → Waiting t k (tickCount t (then t before c) cs) (after t (then t before c) cs)
-    × ((d : Call) → ticks t (after t (then t before c) cs) d ≡ true → Waiting t k (suc (tickCount t (then t before c) cs)) (called t (after t (then t before c) cs) d .state))
-
--- it is its own operator that ends it, not even the platform
-abbrev pub EndedByOwner : List ℕ → Type 0
-EndedByOwner t = (k : ℕ) (s : List ℕ) (c : Call) → ended t k s c ≡ true → eventOwner (c .event) ≡ sourceOwner t k
-
--- and it is not empty: from fresh, with T at least 1 and room B, the owner's wakeup is answered 0 and makes it pending
-abbrev pub Wakes : List ℕ → Type 0
-Wakes t = (k : ℕ) → k < sources t → 1 ≤ timeout t k → becomesPending t k (fresh t) (record { event = wakeupWord (sourceOwner t k) k; room = bound t }) ≡ true
+-- "A wakeup source that becomes pending is validated or cleared by its own operator before its T-th tick, or expires at exactly that
+-- tick." Entry x makes it pending.
+pub record SourceWaits (t s : List ℕ) (Went : List Entry → Type 0) : Type 0 where
+  -- after entries xs that do not end it, fewer than T ticks among them, it is pending still
+  pub waits : (k : ℕ) (before : List Entry) (x : Entry) (xs : List Entry) → Went (before ++ x ∷ xs)
+      → becomesPending t k (stateAfter s before) x ≡ true
+      → notEnded k xs ≡ true
+      → tickCount xs < timeout t k
+      → Waiting t k (tickCount xs) (stateAfter (x .state) xs)
+  -- and after the next tick d pending, or expired if that is the T-th
+  pub atTick : (k : ℕ) (before : List Entry) (x : Entry) (xs : List Entry) (d : Entry) → Went (before ++ x ∷ (xs ++ d ∷ []))
+      → becomesPending t k (stateAfter s before) x ≡ true
+      → notEnded k xs ≡ true
+      → tickCount xs < timeout t k
+      → ticks d ≡ true
+      → Waiting t k (suc (tickCount xs)) (d .state)
+  -- it is its own operator that validates or clears it, not even the platform
+  pub byOwner : (k : ℕ) (xs : List Entry) (x : Entry) → Went (xs ++ x ∷ []) → ended k x ≡ true → eventOwner (x .event) ≡ sourceOwner t k
+  -- and a pending source is then validated, or none, and its port shows it
+  pub ends : (k : ℕ) (xs : List Entry) (x : Entry) → Went (xs ++ x ∷ []) → ended k x ≡ true → statusIn t k (stateAfter s xs) ≡ statusPending
+      → (statusIn t k (x .state) ≡ endStatus x) × (showsStatus t k (x .state) ≡ endStatus x)
+  -- a wakeup on none or expired, and nothing else, makes it pending
+  pub pending : (k : ℕ) → k < sources t → (xs : List Entry) (x : Entry) → Went (xs ++ x ∷ [])
+      → becomesPending t k (stateAfter s xs) x ≡ newly statusPending (statusIn t k (stateAfter s xs)) (statusIn t k (x .state))
+  -- its port shows its status, in every state
+  pub shown : (k : ℕ) → k < sources t → (xs : List Entry) → Went xs → PortShows (sourcePort t k) (statusToShow t k) s xs
 
 -- "No event sent under another operator's number, the platform's excepted, can alter these ticks or bring about either exception:
--- with all such events struck out, each of them falls at the same tick." For the network, with o its owner:
-pub record SameNetwork (t : List ℕ) (n o : ℕ) (before : List Call) (c : Call) (cs : List Call) : Type 0 where
-  pub taken : busOffTaken t n (reached t before) c ≡ busOffTaken t n (reached t (struckOut o before)) c
-  pub asked : networkIn t n (reached t before) .asked ≡ networkIn t n (reached t (struckOut o before)) .asked
-  pub wait : loaded t n (reached t before) ≡ loaded t n (reached t (struckOut o before))
-  pub alone : leftAlone t n (then t before c) cs ≡ leftAlone t n (then t (struckOut o before) c) (struckOut o cs)
-  pub count : tickCount t (then t before c) cs ≡ tickCount t (then t (struckOut o before) c) (struckOut o cs)
-
--- and for the source
-pub record SameSource (t : List ℕ) (k o : ℕ) (before : List Call) (c : Call) (cs : List Call) : Type 0 where
-  pub woken : becomesPending t k (reached t before) c ≡ becomesPending t k (reached t (struckOut o before)) c
-  pub unended : notEnded t k (then t before c) cs ≡ notEnded t k (then t (struckOut o before) c) (struckOut o cs)
-  pub count : tickCount t (then t before c) cs ≡ tickCount t (then t (struckOut o before) c) (struckOut o cs)
-
--- c is a call of o or of the platform: a bus-off or wakeup that counts is
-pub record NoStranger (t : List ℕ) : Type 0 where
-  pub network : (n : ℕ) → n < networks t → (before : List Call) (c : Call) (cs : List Call) → strangersCall (networkOwner t n) c ≡ false → SameNetwork t n (networkOwner t n) before c cs
-  pub source : (k : ℕ) → k < sources t → (before : List Call) (c : Call) (cs : List Call) → strangersCall (sourceOwner t k) c ≡ false → SameSource t k (sourceOwner t k) before c cs
-  -- the view behind it, for every operator o and for the platform: a stranger's call is unseen, and two runs whose calls agree once
-  -- the strangers' are struck out show o the same after each kept call
-  pub unseen : (o : ℕ) (s : List ℕ) (c : Call) → strangersCall o c ≡ true → Unseen t o s (called t s c)
-  pub same : (o : ℕ) (cs₁ cs₂ : List Call) → struckOut o cs₁ ≡ struckOut o cs₂ → seen t o (fresh t) cs₁ ≡ seen t o (fresh t) cs₂
+-- with all such events struck out, each of them falls at the same tick." Two logs whose events agree once the strangers' are struck
+-- out have the same moments, of each network and source of the operator and of the platform: the bus-offs taken with the wait that
+-- each loads, the requests of another mode, the turns to recover, check and full, the wakeups, their ends and expiries, each at the
+-- same tick counted from fresh.
+pub record NoStranger (t s : List ℕ) (Went : List Entry → Type 0) : Type 0 where
+  pub network : (n : ℕ) → n < networks t → (xs ys : List Entry) → Went xs → Went ys → struckOut (networkOwner t n) xs ≡ struckOut (networkOwner t n) ys
+      → moments (networkMoment t n) 0 s xs ≡ moments (networkMoment t n) 0 s ys
+  pub source : (k : ℕ) → k < sources t → (xs ys : List Entry) → Went xs → Went ys → struckOut (sourceOwner t k) xs ≡ struckOut (sourceOwner t k) ys
+      → moments (sourceMoment t k) 0 s xs ≡ moments (sourceMoment t k) 0 s ys
+  -- the view behind it, for every operator o and for the platform: o sees the same after each entry that is no stranger's
+  pub same : (o : ℕ) (xs ys : List Entry) → Went xs → Went ys → struckOut o xs ≡ struckOut o ys → seen t o xs ≡ seen t o ys
+  -- and nothing of a stranger's entry
+  pub unseen : (o : ℕ) (xs : List Entry) (x : Entry) → Went (xs ++ x ∷ []) → strangersEntry o x ≡ true → Unseen t o (stateAfter s xs) x
   -- a trace word that asks a network for a mode carries the network's owner or the platform
-  pub asks : (s : List ℕ) (c : Call) → Each (AsksOwn t) (called t s c .words)
+  pub asks : (xs : List Entry) (x : Entry) → Went (xs ++ x ∷ []) → Each (AsksOwn t) (x .words)
+
+pub record Demand3 (t s : List ℕ) (Went : List Entry → Type 0) : Type 0 where
+  pub network : NetworkWaits t s Went
+  pub source : SourceWaits t s Went
+  pub strangers : NoStranger t s Went

@@ -1,5 +1,5 @@
 -- The view of operator o: the state words and the trace words that are no stranger's to o, those of o and of the platform. What o
--- sees of a run of calls.
+-- sees of a log.
 use mathlib.Core.Path.{_≡_}
 use mathlib.Core.Bool.{Bool, true, false}
 use mathlib.Core.Logic.{_⊎_}
@@ -9,8 +9,7 @@ use lib.ListN.{length}
 use Rattle.rulebook.specs.Words.{word, field}
 use Rattle.rulebook.specs.Table.{networkOwner, itemAsk, platform, stranger}
 use Rattle.rulebook.specs.State.{stateLength, thing, ownerOf}
-use Rattle.rulebook.specs.Step.{Result}
-use Rattle.stranger.specs.Calls.{Call, called, strangersCall}
+use Rattle.stranger.specs.Logs.{Entry, strangersEntry}
 
 -- State words. A word's owner is that of its port, rule, network or source.
 
@@ -42,6 +41,9 @@ traceOwner w = field 4 4 w
 abbrev pub traceA : ℕ → ℕ
 traceA w = field 8 8 w
 
+abbrev pub traceB : ℕ → ℕ
+traceB w = field 16 16 w
+
 -- the trace words of o and of the platform together, in order
 unfoldable pub ownWords : ℕ → List ℕ → List ℕ
 ownWords o [] = []
@@ -51,26 +53,21 @@ ownWords o (w ∷ ws) = elim (stranger o (traceOwner w)) [ true ↦ ownWords o w
 abbrev pub AsksOwn : List ℕ → ℕ → Type 0
 AsksOwn t w = traceKind w ≡ itemAsk → (traceOwner w ≡ networkOwner t (traceA w)) ⊎ (traceOwner w ≡ platform)
 
--- What a stranger's call from s is to o: no state word of o or of the platform changes, no trace word of theirs is written.
-pub record Unseen (t : List ℕ) (o : ℕ) (s : List ℕ) (r : Result) : Type 0 where
-  pub state : SameView t o s (r .state)
-  pub words : ownWords o (r .words) ≡ []
+-- What a stranger's entry from s is to o: no state word of o or of the platform changes, no trace word of theirs is written.
+pub record Unseen (t : List ℕ) (o : ℕ) (s : List ℕ) (x : Entry) : Type 0 where
+  pub state : SameView t o s (x .state)
+  pub words : ownWords o (x .words) ≡ []
 
--- What o sees after a call: the answer, the state words and the trace words that are no stranger's.
+-- What o sees after an entry: the state words and the trace words that are no stranger's.
 
 pub record Seen : Type 0 where
-  pub answer : ℕ
   pub state : List ℕ
   pub words : List ℕ
 
-unfoldable pub seenOf : List ℕ → ℕ → Result → Seen
-seenOf t o r = record { answer = r .answer; state = visibleWords t o (r .state); words = ownWords o (r .words) }
+unfoldable pub seenOf : List ℕ → ℕ → Entry → Seen
+seenOf t o x = record { state = visibleWords t o (x .state); words = ownWords o (x .words) }
 
--- what o sees of a run: one entry for each call that is no stranger's
-unfoldable pub seen : List ℕ → ℕ → List ℕ → List Call → List Seen
-seen t o s [] = []
-seen t o s (c ∷ cs) =
-    elim (strangersCall o c) [
-      | true ↦ seen t o (called t s c .state) cs
-      | false ↦ seenOf t o (called t s c) ∷ seen t o (called t s c .state) cs
-    ]
+-- what o sees of a log: one view for each entry that is no stranger's
+unfoldable pub seen : List ℕ → ℕ → List Entry → List Seen
+seen t o [] = []
+seen t o (x ∷ xs) = elim (strangersEntry o x) [ true ↦ seen t o xs | false ↦ seenOf t o x ∷ seen t o xs ]
