@@ -16,3 +16,4 @@ pub mod Moves
 pub mod Shows
 pub mod AskedAfter
 pub mod Countdown
+pub mod Wakeup
