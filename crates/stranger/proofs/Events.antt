@@ -197,6 +197,10 @@ module _ (t : List ℕ) (e : ℕ) (w : Taken t e) where
   unfolding named ownerOf
   bus-off-owner k = thing-owner (aNetwork (eventIndex e)) (rw k) (rw k)
 
+  pub wakeup-owner : eventKind e ≡ eventWakeup → eventOwner e ≡ sourceOwner t (eventIndex e)
+  unfolding named ownerOf
+  wakeup-owner k = thing-owner (aSource (eventIndex e)) (rw k) (rw k)
+
   -- of a source's event that ends its waiting
   pub ending-owner : (eqb (eventKind e) eventValid || eqb (eventKind e) eventClear) ≡ true → eventOwner e ≡ sourceOwner t (eventIndex e)
   unfolding named ownerOf

@@ -8,7 +8,9 @@ pub mod Lists
 pub mod Arbitration
 pub mod Events
 pub mod Logs
+pub mod Strangers
 pub mod AsksOwn
+pub mod Moments
 pub mod Holders
 pub mod Arbitrated
 pub mod Asked
@@ -17,3 +19,6 @@ pub mod Shows
 pub mod AskedAfter
 pub mod Countdown
 pub mod Wakeup
+pub mod Exactly
+pub mod NotEmpty
+pub mod Demand3

@@ -209,14 +209,14 @@ module _ (t : List ℕ) (h : accepted t ≡ true) (k : ℕ) (s : List ℕ) (x : 
   neither-of : (q : ℕ) → eqb q eventValid ≡ false → eqb q eventClear ≡ false → eventKind e ≡ q → ⊥
   neither-of q u v z = let y : (eqb q eventValid || eqb q eventClear) ≡ true = rw z at ending in clash y (rw (u, v))
 
-  there : k < sources t
-  there =
+  pub ended-there : k < sources t
+  ended-there =
       rw index at (source-index t e (taken l) (neither-of eventTick refl refl) (neither-of eventMode refl refl) (neither-of eventRequest refl refl) (neither-of eventBusOff refl refl))
 
   pub ended-status : Fits t s → statusIn t k s ≡ statusPending → statusIn t k (x .state) ≡ endStatus x
   unfolding nextSource validSource
   ended-status fit pending =
-      ap (λ (w : ℕ). statusOf w) (next-own t h k there s x l fit)
+      ap (λ (w : ℕ). statusOf w) (next-own t h k ended-there s x l fit)
       ∙ split (eqb (eventKind e) eventValid)
       (λ v. rw (eqb-true (eventKind e) eventValid v, index, eq-eqb k k refl, pending) (source-status statusValidated 0))
       (λ v. let c : eqb (eventKind e) eventClear ≡ true = or-elim (eqb (eventKind e) eventValid) _ ending v in
