@@ -1,0 +1,132 @@
+-- A state of 32-bit words stays one: every write of an event is a packed word. Assumes nothing.
+use mathlib.Core.Path.{_≡_, refl}
+use mathlib.Core.Bool.{Bool, true, _&&_, _||_}
+use mathlib.Core.List.{List, [], _∷_}
+use Prim.Native.Nat.{ℕ, zero, suc, _<_, _^_}
+use lib.ListN.{set}
+use lib.Dec.{leb, ltb, eqb}
+use borrow.Author.Tests.{ltb-true}
+use Rattle.rulebook.specs.Words.{word}
+use Rattle.rulebook.specs.Table.{ports, networks, sources, portKind, kindTimer, deferred}
+use Rattle.rulebook.specs.State.{sourceIndex, valueOf, timerStarted, Network, statusNone, statusPending, statusExpired}
+use Rattle.rulebook.specs.Lists.{setPort, networkIn, setNetwork, setResult}
+use Rattle.rulebook.specs.Events.{request, statusIn, setSource, moveSource, wake, validate, clear, shown, moveNetwork, takes, busOff}
+use Rattle.rulebook.specs.Events.{tickNetwork, remainingIn, tickSource, tickTimer, tickThings, arbitrateMarked, tick, happen}
+use Rattle.rulebook.specs.Step.{Result, step}
+use Rattle.rulebook.proofs.Width.{port-word, rule-word, network-word, source-word}
+use Rattle.laws.specs.Facts.{Facts}
+use Rattle.laws.proofs.Tests.{split, and-left, and-right}
+use Rattle.laws.proofs.Walks.{each-keeps}
+use Rattle.laws.proofs.Facts.{facts}
+use Rattle.laws.proofs.Runs.{KeptByWrites, arbitrate-keeps}
+use Rattle.laws.proofs.Happen.{happen-cases}
+use Rattle.laws.proofs.Steps.{Stepped, refused, done, stepped}
+use Rattle.demands.specs.Idle.{Words}
+
+-- words by a computed test
+
+unfoldable pub small : List ℕ → Bool
+small [] = true
+small (w ∷ ws) = ltb w (2 ^ 32) && small ws
+
+pub small-words : (ws : List ℕ) → small ws ≡ true → Words ws
+unfolding small
+small-words [] h = tt
+small-words (w ∷ ws) h = (ltb-true _ _ (and-left _ (small ws) h), small-words ws (and-right (ltb w (2 ^ 32)) _ h))
+
+-- words stay words
+
+set-words : (s : List ℕ) (i w : ℕ) → w < 2 ^ 32 → Words s → Words (set s i w)
+set-words [] i w b h = h
+set-words (x ∷ s) zero w b h = (b, h .1)
+set-words (x ∷ s) (suc i) w b h = (h .0, set-words s i w b (h .1))
+
+put-port : (p m v r : ℕ) (s : List ℕ) → Words s → Words (setPort p m v r s)
+unfolding setPort
+put-port p m v r s h = set-words s p _ (port-word _ _ _ _) h
+
+put-network : (t : List ℕ) (n : ℕ) (c : Network) (s : List ℕ) → Words s → Words (setNetwork t n c s)
+unfolding setNetwork
+put-network t n c s h = set-words s _ _ (network-word c) h
+
+put-source : (t : List ℕ) (k status r : ℕ) (s : List ℕ) → Words s → Words (setSource t k status r s)
+unfolding setSource
+put-source t k status r s h = set-words s _ _ (source-word status r) h
+
+kept-by-writes : (t : List ℕ) → KeptByWrites t Words
+unfolding setResult
+kept-by-writes t =
+    record {
+      clear = λ p s b k h. put-port p _ _ _ s h;
+      begin = λ p s b k h. put-port p _ _ _ s h;
+      stop = λ p s b k h. put-port p _ _ _ s h;
+      ask = λ n mode s b m h. put-network t n _ s h;
+      store = λ r result s b m h. set-words s _ _ (rule-word result) h;
+      unmark = λ p s b h. set-words s p _ (port-word _ _ _ _) h;
+    }
+
+module _ (t : List ℕ) where
+  move-source : (k status r : ℕ) (s : List ℕ) → Words s → Words (moveSource t k status r s)
+  unfolding moveSource
+  move-source k status r s h =
+      split (eqb status (statusIn t k s)) (λ e. rw e (put-source t k status r s h)) (λ e. rw e (put-port _ _ _ _ _ (put-source t k status r s h)))
+
+  move-network : (n : ℕ) (c : Network) (s : List ℕ) → Words s → Words (moveNetwork t n c s)
+  unfolding moveNetwork
+  move-network n c s h =
+      split (eqb (shown (c .state)) (shown (networkIn t n s .state))) (λ e. rw e (put-network t n c s h))
+      (λ e. rw e (put-port _ _ _ _ _ (put-network t n c s h)))
+
+  woken : (k : ℕ) (s : List ℕ) → Words s → Words (wake t k s)
+  unfolding wake
+  woken k s h = split (eqb (statusIn t k s) statusNone || eqb (statusIn t k s) statusExpired) (λ e. rw e (move-source k _ _ s h)) (λ e. rw e h)
+
+  validated : (k : ℕ) (s : List ℕ) → Words s → Words (validate t k s)
+  unfolding validate
+  validated k s h = split (eqb (statusIn t k s) statusPending) (λ e. rw e (move-source k _ _ s h)) (λ e. rw e h)
+
+  off-bus : (n : ℕ) (s : List ℕ) → Words s → Words (busOff t n s)
+  unfolding busOff
+  off-bus n s h = split (takes (networkIn t n s)) (λ e. rw e (move-network n _ s h)) (λ e. rw e h)
+
+  ticked-source : (k : ℕ) (s : List ℕ) → Words s → Words (tickSource t k s)
+  unfolding tickSource
+  ticked-source k s h =
+      split (eqb (statusIn t k s) statusPending)
+      (λ e. split (leb (remainingIn s (sourceIndex t k)) 1) (λ d. rw (e, d) (move-source k _ _ s h)) (λ d. rw (e, d) (move-source k _ _ s h)))
+      (λ e. rw e h)
+
+  ticked-timer : (p : ℕ) (s : List ℕ) → Words s → Words (tickTimer t p s)
+  unfolding tickTimer
+  ticked-timer p s h =
+      split (eqb (portKind t p) kindTimer && eqb (valueOf (word s p)) timerStarted)
+      (λ e. split (leb (remainingIn s p) 1) (λ d. rw (e, d) (put-port p _ _ _ s h)) (λ d. rw (e, d) (put-port p _ _ _ s h)))
+      (λ e. rw e h)
+
+  ticked : (s : List ℕ) → Words s → Words (tickThings t s)
+  unfolding tickThings tickNetwork
+  ticked s h =
+      each-keeps Words (tickTimer t) 0 (ports t) _ (λ p x a b. ticked-timer p x)
+      (each-keeps Words (tickSource t) 0 (sources t) _ (λ k x a b. ticked-source k x)
+      (each-keeps Words (tickNetwork t) 0 (networks t) s (λ n x a b. move-network n _ x) h))
+
+  module _ (f : Facts t) where
+    asked : (p v : ℕ) (s : List ℕ) → Words s → Words (request t p v s .state)
+    unfolding request
+    asked p v s h =
+        split (eqb (deferred t p) 1) (λ e. rw e (put-port p 1 v 0 s h))
+        (λ e. rw e (arbitrate-keeps t f Words (kept-by-writes t) _ _ (put-port p 0 v 0 s h)))
+
+    happened : (e : ℕ) (s : List ℕ) → Words s → Words (happen t e s .state)
+    unfolding tick arbitrateMarked clear
+    happened e s h =
+        happen-cases (λ x. Words (x .state)) t e s
+        (λ k. arbitrate-keeps t f Words (kept-by-writes t) _ _ (ticked s h))
+        (λ k. asked _ _ s h) (λ k. asked _ _ s h) (λ k. woken _ s h) (λ k. validated _ s h) (λ k. off-bus _ s h) (λ k. move-source _ _ _ s h)
+
+pub step-words : (t s : List ℕ) (room e : ℕ) → Words s → Words (step t s room e .state)
+step-words t s room e h = go (step t s room e) (stepped t s room e)
+  where
+    go : (r : Result) → Stepped t s room e r → Words (r .state)
+    go r (refused k a b is) = rw is h
+    go r (done c w is) = rw is (happened t (facts t (c .table)) e s h)
