@@ -6,8 +6,8 @@ use mathlib.Core.List.{List, [], _∷_, _++_, append-nil, append-assoc, List·Me
 use Prim.Native.Nat.{ℕ, _+_, _-_, _≤_, _<_}
 use native.Mathlib.Omega.{arith}
 use native.Mathlib.Nat.{zero-add}
-use lib.Dec.{eqb}
-use borrow.Author.Tests.{eqb-true, eqb-false, eq-eqb, ne-eqb, not-true}
+use lib.Dec.{ltb, eqb}
+use borrow.Author.Tests.{ltb-true, ltb-false, eqb-true, eqb-false, eq-eqb, ne-eqb, not-true}
 use Rattle.rulebook.specs.Words.{each}
 use Rattle.rulebook.specs.Table.{rules, lists, deferred, nestedOnly, ruleExpression, listOwner, firstItem, itemCount, triggered, noList}
 use Rattle.rulebook.specs.Expressions.{deepest, mentions}
@@ -16,7 +16,7 @@ use Rattle.rulebook.specs.Arbitration.{unmarkPorts, storeResults, evaluated, ch
 use Rattle.rulebook.specs.Events.{eventKind, eventIndex, eventValue, tickKind, modeKind, requestKind, request, arbitrateMarked, tick, happen}
 use Rattle.laws.specs.Facts.{Facts}
 use Rattle.laws.specs.Sequence.{Before, Each, InOrder, times}
-use Rattle.laws.specs.Chosen.{Chosen, runAll, startWord, WrittenBy, byNone, byFirst, ListsRan}
+use Rattle.laws.specs.Chosen.{Chosen, runAll, startWord, WrittenBy, byNone, byFirst, beforeLists, ListsRan}
 use Rattle.laws.specs.Chosen.{setsPort, valueSet, Arbitrated, allMarked, onePort, noPort}
 use Rattle.laws.proofs.Tests.{split, clash, and-left, and-right, or-some}
 use Rattle.laws.proofs.Walks.{any-at, any-some}
@@ -199,3 +199,65 @@ module _ (t : List ℕ) (f : Facts t) (s : List ℕ) where
       other h =
           let neither : setsPort e ≡ false = rw (ne-eqb (eventKind e) modeKind (λ y. omega arith), ne-eqb (eventKind e) requestKind (λ y. omega arith)) in
           noPort (λ z. omega arith) (λ z. clash z neither) refl
+
+-- No second way: what ran is settled by the choice and the order, so two arbitrations of the same ports in the same state agree.
+
+member : (P : ℕ → Type 0) (l : ℕ) (ls : List ℕ) → Each P ls → 1 ≤ times l ls → P l
+unfolding times
+member P l [] a h = absurd (omega arith)
+member P l (k ∷ ls) a h =
+    split (eqb l k) (λ e. rw (eqb-true l k e) (a .0))
+    (λ e. member P l ls (a .1) (let n : 1 ≤ 0 + times l ls = rw e at h in omega arith))
+
+one-way : (t : List ℕ) (a b : ℕ) → Before t a b → Before t b a → ⊥
+one-way t a b (inl x) (inl y) = omega arith
+one-way t a b (inl x) (inr y) = let e = y .0 in omega arith
+one-way t a b (inr x) (inl y) = let e = x .0 in omega arith
+one-way t a b (inr x) (inr y) = let c = x .1 in let d = y .1 in omega arith
+
+heads : (l : ℕ) (ls : List ℕ) → times l (l ∷ ls) ≡ 1 + times l ls
+unfolding times
+heads l ls = rw (eq-eqb l l refl)
+
+tails : (l k : ℕ) (ls : List ℕ) → (l ≡ k → ⊥) → times l (k ∷ ls) ≡ times l ls
+unfolding times
+tails l k ls n = rw (ne-eqb l k n) (zero-add _)
+
+-- of two lists that have the same members, the first of one is the first of the other
+same-head : (t : List ℕ) (x y : ℕ) (xs ys : List ℕ) → InOrder t (x ∷ xs) → InOrder t (y ∷ ys) → ((l : ℕ) → times l (x ∷ xs) ≡ times l (y ∷ ys)) → x ≡ y
+same-head t x y xs ys a b h =
+    split (eqb x y) (eqb-true x y)
+    (λ e. let n = eqb-false x y e in
+    let later : 1 ≤ times x ys = let i = h x in let j = heads x xs in let k = tails x y ys n in omega arith in
+    let sooner : 1 ≤ times y xs = let i = h y in let j = heads y ys in let k = tails y x xs (λ z. n (sym z)) in omega arith in
+    absurd (one-way t x y (member (Before t x) y xs (a .0) sooner) (member (Before t y) x ys (b .0) later)))
+
+same-order : (t xs ys : List ℕ) → InOrder t xs → InOrder t ys → ((l : ℕ) → times l xs ≡ times l ys) → xs ≡ ys
+unfolding times
+same-order t [] [] a b h = refl
+same-order t [] (y ∷ ys) a b h = let n = h y in let m = heads y ys in absurd (omega arith)
+same-order t (x ∷ xs) [] a b h = let n = h x in let m = heads x xs in absurd (omega arith)
+same-order t (x ∷ xs) (y ∷ ys) a b h =
+    let e : x ≡ y = same-head t x y xs ys a b h in
+    let rest : (l : ℕ) → times l xs ≡ times l ys
+    = λ l. let n : cond (eqb l y) 1 0 + times l xs ≡ cond (eqb l y) 1 0 + times l ys = rw e at (h l) in omega arith in
+    rw (e, same-order t xs ys (a .1) (b .1) rest)
+
+module _ (t : List ℕ) (q : ℕ → Bool) (s : List ℕ) {s₁ ws₁ s₂ ws₂ : List ℕ} (a : ListsRan t q s s₁ ws₁) (b : ListsRan t q s s₂ ws₂) where
+  as-often : (l : ℕ) → times l (a .ran) ≡ times l (b .ran)
+  as-often l =
+      split (ltb 0 (times l (a .ran))) (λ e. both (member _ l (a .ran) (a .noOther) (ltb-true _ _ e)))
+      (λ e. split (ltb 0 (times l (b .ran))) (λ d. both (member _ l (b .ran) (b .noOther) (ltb-true _ _ d)))
+      (λ d. let n = ltb-false 0 (times l (a .ran)) e in let m = ltb-false 0 (times l (b .ran)) d in omega arith))
+    where
+      both : Chosen t q (unmarkPorts t q s) l → times l (a .ran) ≡ times l (b .ran)
+      both c = a .once l c ∙ sym (b .once l c)
+
+  same-lists : a .ran ≡ b .ran
+  same-lists = same-order t (a .ran) (b .ran) (a .ordered) (b .ordered) as-often
+
+  pub one-way-to-run : (s₁ ≡ s₂) × (ws₁ ≡ ws₂)
+  one-way-to-run = (
+    a .state ∙ ap (λ (ls : List ℕ). runAll t ls (beforeLists t q s) .state) same-lists ∙ sym (b .state),
+    a .words ∙ ap (λ (ls : List ℕ). runAll t ls (beforeLists t q s) .words) same-lists ∙ sym (b .words),
+  )
