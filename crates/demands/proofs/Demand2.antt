@@ -43,7 +43,8 @@ module _ (t s trace : List ℕ) (e : ℕ) (r : Answer) (s′ trace′ : List ℕ
   pub steps : Steps t s trace e r s′ trace′
   steps =
       let n : countOf r ≡ length (happen t e s .words) = p .count ∙ ap (λ (v : List ℕ). length v) (call .words) in
-      let tr : trace′ ≡ happen t e s .words ++ drop (length (happen t e s .words)) trace = p .words ∙ ap (λ (v : List ℕ). v ++ drop (length v) trace) (call .words) in
+      let tr : trace′ ≡ happen t e s .words ++ drop (length (happen t e s .words)) trace
+      = p .words ∙ ap (λ (v : List ℕ). v ++ drop (length v) trace) (call .words) in
       record {
         state = p .state ∙ call .state;
         count = n;

@@ -14,7 +14,8 @@ unfolding same
 same-eq [] [] h = refl
 same-eq [] (y ∷ ys) h = clash refl (sym h)
 same-eq (x ∷ xs) [] h = clash refl (sym h)
-same-eq (x ∷ xs) (y ∷ ys) h = let e = eqb-true x y (and-left (eqb x y) (same xs ys) h) in let d = same-eq xs ys (and-right (eqb x y) (same xs ys) h) in rw (e, d)
+same-eq (x ∷ xs) (y ∷ ys) h =
+    let e = eqb-true x y (and-left (eqb x y) (same xs ys) h) in let d = same-eq xs ys (and-right (eqb x y) (same xs ys) h) in rw (e, d)
 
 pub record Given (r : Result) (k : ℕ) (s ws : List ℕ) : Type 0 where
   pub answer : r .answer ≡ k

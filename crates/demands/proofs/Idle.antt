@@ -17,15 +17,17 @@ use Rattle.laws.specs.Chosen.{runAll, beforeLists, WrittenBy, byNone, byFirst}
 use Rattle.laws.proofs.Tests.{split, clash, part-of, and-left, and-right}
 use Rattle.laws.proofs.Walks.{listed-length, listed-at}
 use Rattle.laws.proofs.Facts.{facts}
+use Rattle.laws.proofs.Order.{each-both}
 use Rattle.laws.proofs.Chosen.{behind}
 use Rattle.laws.proofs.Steps.{Stepped, refused, done, stepped, happen-paid}
 use Rattle.events.specs.declared.Answer.{Answer}
 use Rattle.events.specs.declared.Answer.the-variants.{Done, BadTable, UnfitState, ShortTrace, Malformed, NoSuchThing, NotItsOwner}
 use Rattle.events.specs.Answers.{numberOf, countOf, Told}
-use Rattle.demands.specs.Idle.{Outcome, Program, Words, Input, Meets, RefusesAll, AnswersAlike, DoesNothing, OnlyFirstTick, OnlyFirstList, InventsCount, CountsAlike}
+use Rattle.demands.specs.Idle.{Outcome, Program, Words, Input, Meets, LeavesWords}
+use Rattle.demands.specs.Idle.{RefusesAll, AnswersAlike, DoesNothing, OnlyFirstTick, OnlyFirstList, InventsCount, CountsAlike}
 use Rattle.demands.proofs.Demand2.{steps, done-step}
 use Rattle.demands.proofs.Given.{same-eq, Given, given}
-use Rattle.demands.proofs.Words.{small, small-words, step-words}
+use Rattle.demands.proofs.Words.{small, small-words, step-words, drop-words}
 
 -- What is read off the claim.
 
@@ -65,7 +67,7 @@ given-words s e h b = record { table = small-words table refl; state = h; trace 
 
 marked-words : (s : List ℕ) (e : ℕ) → Words s → Words (marked s e .state)
 unfolding marked
-marked-words s e h = step-words table s 3 e h
+marked-words s e h = step-words table s 3 e h .0
 
 fresh-words : Words atFresh
 unfolding small
@@ -124,7 +126,8 @@ module _ (p : Program) (meets : Meets p) where
   not-only-first-tick idle =
       let on : (s : List ℕ) → Words s → Words (marked s 0 .state) = λ s h. marked-words s 0 h in
       let one : (s : List ℕ) → Words s → marked (marked s 0 .state) 0 .state ≡ marked s 0 .state
-      = λ s h. rw (sym (states (marked s 0 .state) 0 (on s h) (omega arith)), sym (states s 0 h (omega arith))) (idle table s lent (given-words s 0 h (omega arith))) in
+      = λ s h. rw (sym (states (marked s 0 .state) 0 (on s h) (omega arith)), sym (states s 0 h (omega arith)))
+      (idle table s lent (given-words s 0 h (omega arith))) in
       let h₁ = on afterBusOff bus-off-words in
       let h₃ = on _ (on _ h₁) in
       let h₄ = on _ h₃ in
@@ -263,9 +266,13 @@ unfolding outcome answerWith
 told t s trace room e x (refused k a b is) = rw is (record { answer = answer-number k 0 b; count = no-count k; state = refl; words = refl })
 told t s trace room e x (done c w is) = rw is (record { answer = refl; count = refl; state = refl; words = refl })
 
-pub meets-exists : (p : Program) × Meets p
+pub meets-exists : (p : Program) × Meets p × LeavesWords p
 unfolding outcome
 meets-exists = (
   λ t s trace e. outcome trace (step t s (length trace) e),
   λ t s trace e i. told t s trace (length trace) e _ (stepped t s (length trace) e),
+  λ t s trace e i.
+      let ws = step t s (length trace) e .words in
+      let w = step-words t s (length trace) e (i .state) in
+      (w .0, each-both _ ws _ (w .1) (drop-words (length ws) trace (i .trace))),
 )

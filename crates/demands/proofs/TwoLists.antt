@@ -11,11 +11,15 @@ use borrow.Author.Tests.{ne-eqb}
 use Rattle.rulebook.specs.Words.{digit, first, all, any, sum, listed, each}
 use Rattle.rulebook.specs.Table.{part, stranger, deferred}
 use Rattle.rulebook.specs.Expressions.{operator, expressionNests, expressionWithin, expressionMentions, mentions, condition, expressionHolds, holds}
-use Rattle.rulebook.specs.Reasons.{hasHeader, knownEdition, countsInside, exactLength, portFields, expressionFields, itemFields, ownFields, networkHas, held, mayShow, expressionNames, listOrNone, itemNames, names}
-use Rattle.rulebook.specs.Reasons.{itemNests, listNests, listWithin, nesting, strangersPort, ruleOwned, itemOwned, owners, itemCost, listCost, costWithin, bound, affordable, breaks, lowest, wholly, wordwise, check, accepted}
+use Rattle.rulebook.specs.Reasons.{hasHeader, knownEdition, countsInside, exactLength, portFields, expressionFields, itemFields, ownFields}
+use Rattle.rulebook.specs.Reasons.{networkHas, held, mayShow, expressionNames, listOrNone, itemNames, names}
+use Rattle.rulebook.specs.Reasons.{itemNests, listNests, listWithin, nesting, strangersPort, ruleOwned, itemOwned, owners, itemCost, listCost}
+use Rattle.rulebook.specs.Reasons.{costWithin, bound, affordable, breaks, lowest, wholly, wordwise, check, accepted}
 use Rattle.rulebook.specs.State.{thing, ownerOf, packPort, packRule, portFits, ruleFits, thingFits, fitsAt, fits}
-use Rattle.rulebook.specs.Lists.{traceWord, setPort, effect, act, valueIn, undefinedIn, unready, resultIn, choice, choiceIn, setResult, runItem, runItems, runList}
-use Rattle.rulebook.specs.Arbitration.{unmarkPort, unmarkPorts, evaluated, storeResult, storeResults, chooses, chosen, ofPriority, orderBelow, order, runIf, runChosen, decide, arbitrate}
+use Rattle.rulebook.specs.Lists.{Run, traceWord, setPort, effect, act, valueIn, undefinedIn, unready, resultIn, choice, choiceIn, setResult, runItem}
+use Rattle.rulebook.specs.Lists.{runItems, runList}
+use Rattle.rulebook.specs.Arbitration.{unmarkPort, unmarkPorts, evaluated, storeResult, storeResults, chooses, chosen, ofPriority, orderBelow, order}
+use Rattle.rulebook.specs.Arbitration.{runIf, runChosen, decide, arbitrate}
 use Rattle.rulebook.specs.Events.{eventKind, eventIndex, tickKind, only, request, happen}
 use Rattle.rulebook.specs.Step.{refusedState, refusedCall, wellFormed, named, present, suited, known, sentByOwner, refusedEvent, finish, handle, step}
 use Rattle.rulebook.specs.Marked.{same, gives}
@@ -30,7 +34,14 @@ use Rattle.demands.proofs.Given.{Given, given}
 use Rattle.demands.specs.TwoLists.{table, fresh, bothRun}
 
 pub claim : bothRun ≡ true
-unfolding digit first all any sum listed each part stranger operator expressionNests expressionWithin expressionMentions mentions condition expressionHolds holds hasHeader knownEdition countsInside exactLength portFields expressionFields itemFields ownFields networkHas held mayShow expressionNames listOrNone itemNames names itemNests listNests listWithin nesting strangersPort ruleOwned itemOwned owners itemCost listCost costWithin bound affordable breaks lowest wholly wordwise check thing ownerOf packPort packRule portFits ruleFits thingFits fitsAt fits traceWord setPort effect act valueIn undefinedIn unready resultIn choice choiceIn setResult runItem runItems runList unmarkPort unmarkPorts evaluated storeResult storeResults chooses chosen ofPriority orderBelow order runIf runChosen decide arbitrate only request happen refusedState refusedCall wellFormed named present suited known sentByOwner refusedEvent finish handle step same gives table fresh bothRun
+unfolding digit first all any sum listed each part stranger operator expressionNests expressionWithin expressionMentions mentions condition
+    expressionHolds holds hasHeader knownEdition countsInside exactLength portFields expressionFields itemFields ownFields networkHas
+    held mayShow expressionNames listOrNone itemNames names itemNests listNests listWithin nesting strangersPort ruleOwned itemOwned
+    owners itemCost listCost costWithin bound affordable breaks lowest wholly wordwise check thing ownerOf packPort packRule portFits
+    ruleFits thingFits fitsAt fits traceWord setPort effect act valueIn undefinedIn unready resultIn choice choiceIn setResult runItem
+    runItems runList unmarkPort unmarkPorts evaluated storeResult storeResults chooses chosen ofPriority orderBelow order runIf
+    runChosen decide arbitrate only request happen refusedState refusedCall wellFormed named present suited known sentByOwner
+    refusedEvent finish handle step same gives table fresh bothRun
 claim = refl
 
 -- both lists are chosen
@@ -42,7 +53,8 @@ abbrev set : List ℕ
 set = setPort (eventIndex e) 0 (valueSet e) 0 fresh
 
 both-chosen : (l : ℕ) → l < 2 → Chosen table (only (eventIndex e)) (unmarkPorts table (only (eventIndex e)) set) l
-unfolding digit each mentions expressionMentions condition expressionHolds holds operator packPort setPort valueIn undefinedIn unready resultIn unmarkPort unmarkPorts only table fresh
+unfolding digit each mentions expressionMentions condition expressionHolds holds operator packPort setPort valueIn undefinedIn unready
+    resultIn unmarkPort unmarkPorts only table fresh
 both-chosen zero h =
     record { list = omega arith; rule = 0; there = omega arith; notNested = refl; arbitrated = refl; ready = refl; itsList = refl; because = inl refl }
 both-chosen (suc zero) h =
@@ -81,10 +93,13 @@ unfolding bothRun
 answered = given _ _ _ _ claim
 
 -- what the request arbitrates is port 0 alone
-request-runs : ListsRan table (only (eventIndex e)) set (happen table e fresh .state) (happen table e fresh .words)
+abbrev x : Run
+x = happen table e fresh
+
+request-runs : ListsRan table (only (eventIndex e)) set (x .state) (x .words)
 request-runs = go (happen-arbitrates table (facts table (done-step table fresh 4 e (answered .answer) .callable .table)) fresh e)
   where
-    go : Arbitrated table e fresh (happen table e fresh .state) (happen table e fresh .words) → ListsRan table (only (eventIndex e)) set (happen table e fresh .state) (happen table e fresh .words)
+    go : Arbitrated table e fresh (x .state) (x .words) → ListsRan table (only (eventIndex e)) set (x .state) (x .words)
     go (allMarked k r) = absurd (not-a-tick k)
     go (onePort k d r) = r
     go (noPort n k w) = absurd (immediate (k sets))

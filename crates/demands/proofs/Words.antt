@@ -1,24 +1,26 @@
--- A state of 32-bit words stays one: every write of an event is a packed word. Assumes nothing.
+-- A state of 32-bit words stays one, and a trace's new words are such: whatever an event writes is a packed word. Assumes nothing.
 use mathlib.Core.Path.{_≡_, refl}
 use mathlib.Core.Bool.{Bool, true, _&&_, _||_}
-use mathlib.Core.List.{List, [], _∷_}
+use mathlib.Core.List.{List, [], _∷_, _++_}
 use Prim.Native.Nat.{ℕ, zero, suc, _<_, _^_}
-use lib.ListN.{set}
+use lib.ListN.{set, drop}
 use lib.Dec.{leb, ltb, eqb}
 use borrow.Author.Tests.{ltb-true}
 use Rattle.rulebook.specs.Words.{word}
 use Rattle.rulebook.specs.Table.{ports, networks, sources, portKind, kindTimer, deferred}
 use Rattle.rulebook.specs.State.{sourceIndex, valueOf, timerStarted, Network, statusNone, statusPending, statusExpired}
-use Rattle.rulebook.specs.Lists.{setPort, networkIn, setNetwork, setResult}
+use Rattle.rulebook.specs.Lists.{Run, traceWord, setPort, networkIn, setNetwork, setResult, act, judge}
+use Rattle.rulebook.specs.Arbitration.{arbitrate}
 use Rattle.rulebook.specs.Events.{request, statusIn, setSource, moveSource, wake, validate, clear, shown, moveNetwork, takes, busOff}
 use Rattle.rulebook.specs.Events.{tickNetwork, remainingIn, tickSource, tickTimer, tickThings, arbitrateMarked, tick, happen}
 use Rattle.rulebook.specs.Step.{Result, step}
-use Rattle.rulebook.proofs.Width.{port-word, rule-word, network-word, source-word}
+use Rattle.rulebook.proofs.Width.{port-word, rule-word, network-word, source-word, trace-word}
 use Rattle.laws.specs.Facts.{Facts}
 use Rattle.laws.proofs.Tests.{split, and-left, and-right}
 use Rattle.laws.proofs.Walks.{each-keeps}
 use Rattle.laws.proofs.Facts.{facts}
-use Rattle.laws.proofs.Runs.{KeptByWrites, arbitrate-keeps}
+use Rattle.laws.proofs.Order.{each-both}
+use Rattle.laws.proofs.Runs.{KeptByActs, decide-keeps, KeptByWrites, arbitrate-keeps}
 use Rattle.laws.proofs.Happen.{happen-cases}
 use Rattle.laws.proofs.Steps.{Stepped, refused, done, stepped}
 use Rattle.demands.specs.Idle.{Words}
@@ -65,6 +67,20 @@ kept-by-writes t =
       unmark = λ p s b h. set-words s p _ (port-word _ _ _ _) h;
     }
 
+kept-by-acts : (t : List ℕ) → KeptByActs t (λ x. Words (x .words))
+unfolding act judge
+kept-by-acts t =
+    record {
+      begin = λ l x b h. one-more x _ _ _ _ h;
+      act = λ l i x w a b h. one-more x _ _ _ _ h;
+      undefined = λ l i x w e h. one-more x _ _ _ _ h;
+      judge = λ l i x w e u h. one-more x _ _ _ _ h;
+      deep = λ x h. h;
+    }
+  where
+    one-more : (x : Run) (k o a b : ℕ) → Words (x .words) → Words (x .words ++ (traceWord k o a b ∷ []))
+    one-more x k o a b h = each-both _ (x .words) _ h (trace-word k o a b, tt)
+
 module _ (t : List ℕ) where
   move-source : (k status r : ℕ) (s : List ℕ) → Words s → Words (moveSource t k status r s)
   unfolding moveSource
@@ -110,23 +126,39 @@ module _ (t : List ℕ) where
       (each-keeps Words (tickSource t) 0 (sources t) _ (λ k x a b. ticked-source k x)
       (each-keeps Words (tickNetwork t) 0 (networks t) s (λ n x a b. move-network n _ x) h))
 
+  -- a run that leaves words of 32 bits
+  pub record Packed (x : Run) : Type 0 where
+    pub state : Words (x .state)
+    pub words : Words (x .words)
+
   module _ (f : Facts t) where
-    asked : (p v : ℕ) (s : List ℕ) → Words s → Words (request t p v s .state)
+    arbitrated : (q : ℕ → Bool) (s : List ℕ) → Words s → Packed (arbitrate t q s)
+    unfolding arbitrate
+    arbitrated q s h =
+        record { state = arbitrate-keeps t f Words (kept-by-writes t) q s h; words = decide-keeps t f (λ x. Words (x .words)) (kept-by-acts t) q _ tt }
+
+    asked : (p v : ℕ) (s : List ℕ) → Words s → Packed (request t p v s)
     unfolding request
     asked p v s h =
-        split (eqb (deferred t p) 1) (λ e. rw e (put-port p 1 v 0 s h))
-        (λ e. rw e (arbitrate-keeps t f Words (kept-by-writes t) _ _ (put-port p 0 v 0 s h)))
+        split (eqb (deferred t p) 1) (λ e. rw e (record { state = put-port p 1 v 0 s h; words = tt }))
+        (λ e. rw e (arbitrated _ _ (put-port p 0 v 0 s h)))
 
-    happened : (e : ℕ) (s : List ℕ) → Words s → Words (happen t e s .state)
+    happened : (e : ℕ) (s : List ℕ) → Words s → Packed (happen t e s)
     unfolding tick arbitrateMarked clear
     happened e s h =
-        happen-cases (λ x. Words (x .state)) t e s
-        (λ k. arbitrate-keeps t f Words (kept-by-writes t) _ _ (ticked s h))
-        (λ k. asked _ _ s h) (λ k. asked _ _ s h) (λ k. woken _ s h) (λ k. validated _ s h) (λ k. off-bus _ s h) (λ k. move-source _ _ _ s h)
+        happen-cases Packed t e s
+        (λ k. arbitrated _ _ (ticked s h)) (λ k. asked _ _ s h) (λ k. asked _ _ s h)
+        (λ k. record { state = woken _ s h; words = tt }) (λ k. record { state = validated _ s h; words = tt })
+        (λ k. record { state = off-bus _ s h; words = tt }) (λ k. record { state = move-source _ _ _ s h; words = tt })
 
-pub step-words : (t s : List ℕ) (room e : ℕ) → Words s → Words (step t s room e .state)
+pub step-words : (t s : List ℕ) (room e : ℕ) → Words s → Words (step t s room e .state) × Words (step t s room e .words)
 step-words t s room e h = go (step t s room e) (stepped t s room e)
   where
-    go : (r : Result) → Stepped t s room e r → Words (r .state)
-    go r (refused k a b is) = rw is h
-    go r (done c w is) = rw is (happened t (facts t (c .table)) e s h)
+    go : (r : Result) → Stepped t s room e r → Words (r .state) × Words (r .words)
+    go r (refused k a b is) = rw is (h, tt)
+    go r (done c w is) = let p = happened t (facts t (c .table)) e s h in rw is (p .state, p .words)
+
+pub drop-words : (n : ℕ) (ws : List ℕ) → Words ws → Words (drop n ws)
+drop-words zero ws h = h
+drop-words (suc n) [] h = h
+drop-words (suc n) (w ∷ ws) h = drop-words n ws (h .1)

@@ -1,5 +1,4 @@
--- Demand 2, each statement under the sentence that it says: of any answer r, state s′ and trace′ that `take_event` allows with
--- answer 0, and of any answer that `check_table` allows.
+-- Demand 2, each statement under the sentence that it says, over what `take_event` and `check_table` promise.
 use mathlib.Core.Path.{_≡_}
 use mathlib.Core.Logic.{_↔_}
 use mathlib.Core.List.{List}
@@ -26,11 +25,15 @@ pub record Steps (t s trace : List ℕ) (e : ℕ) (r : Answer) (s′ trace′ : 
   pub new : newWords r trace′ ≡ happen t e s .words
   pub unchanged : drop (countOf r) trace′ ≡ drop (countOf r) trace
 
+-- any answer r, state s′ and trace′ that `take_event` allows with answer 0 have P
+abbrev pub OfEachCall : ((t s trace : List ℕ) (e : ℕ) (r : Answer) (s′ trace′ : List ℕ) → Type 0) → Type 0
+OfEachCall P = (t s trace : List ℕ) (e : ℕ) (r : Answer) (s′ trace′ : List ℕ) → TakesEvent t s trace e r s′ trace′ → numberOf r ≡ 0 → P t s trace e r s′ trace′
+
 pub record Demand2 : Type 0 where
-  -- "For an accepted table, each event gives exactly the next state and ordered trace that document 01 condenses .., the reported count true."
-  pub steps : (t s trace : List ℕ) (e : ℕ) (r : Answer) (s′ trace′ : List ℕ) → TakesEvent t s trace e r s′ trace′ → numberOf r ≡ 0 → Steps t s trace e r s′ trace′
+  -- "For an accepted table, each event gives exactly the next state and ordered trace that document 01 condenses from the AUTOSAR
+  -- papers: .. the reported count true."
+  pub steps : OfEachCall Steps
   -- "lists by falling priority, each chosen list run once on its own account"
-  pub lists : (t s trace : List ℕ) (e : ℕ) (r : Answer) (s′ trace′ : List ℕ) → TakesEvent t s trace e r s′ trace′ → numberOf r ≡ 0
-      → Arbitrated t e s s′ (newWords r trace′)
+  pub lists : OfEachCall (λ t s trace e r s′ trace′. Arbitrated t e s s′ (newWords r trace′))
   -- "A table is accepted exactly if document 01's rules hold of it."
   pub accepts : (t : List ℕ) (c : Checked) → ChecksTable t c → (told c .reason ≡ 0) ↔ Rules t

@@ -40,6 +40,10 @@ abbrev pub Meets : Program → Type 0
 Meets p = (t s trace : List ℕ) (e : ℕ) → Input t s trace e
     → TakesEvent t s trace e (p t s trace e .answer) (p t s trace e .state) (p t s trace e .trace)
 
+-- it leaves words, as the code does
+abbrev pub LeavesWords : Program → Type 0
+LeavesWords p = (t s trace : List ℕ) (e : ℕ) → Input t s trace e → Words (p t s trace e .state) × Words (p t s trace e .trace)
+
 abbrev pub RefusesAll : Program → Type 0
 RefusesAll p = (t s trace : List ℕ) (e : ℕ) → Input t s trace e → numberOf (p t s trace e .answer) ≡ 0 → ⊥
 
