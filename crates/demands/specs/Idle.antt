@@ -1,6 +1,6 @@
--- Document 01's five idle programs, the fourth of them ("only the first list or tick") in two parts. A program is whatever gives an
--- answer, a state and a trace for each input; each definition says of a program that it idles in one way, and proofs/Idle that no
--- program that meets the event call's promise does.
+-- Document 01's five idle programs, the fourth (only the first list or tick) and the fifth (an invented count) in two parts each. A
+-- program is whatever gives an answer, a state and a trace for each input; each definition says of a program that it idles in one way,
+-- and proofs/Idle that no program that meets the event call's promise does.
 use mathlib.Core.Path.{_≡_}
 use mathlib.Core.Bool.{Bool}
 use mathlib.Core.List.{List, [], _∷_, _++_}
