@@ -20,7 +20,7 @@ use Rattle.rulebook.specs.Lists.{Run, traceWord, setPort, effect, act, valueIn,
 use Rattle.rulebook.specs.Lists.{runItems, runList}
 use Rattle.rulebook.specs.Arbitration.{unmarkPort, unmarkPorts, evaluated, storeResult, storeResults, chooses, chosen, ofPriority, orderBelow, order}
 use Rattle.rulebook.specs.Arbitration.{runIf, runChosen, decide, arbitrate}
-use Rattle.rulebook.specs.Events.{eventKind, eventIndex, tickKind, only, request, happen}
+use Rattle.rulebook.specs.Events.{eventKind, eventIndex, eventTick, only, request, happen}
 use Rattle.rulebook.specs.Step.{refusedState, refusedCall, wellFormed, named, present, suited, known, sentByOwner, refusedEvent, finish, handle, step}
 use Rattle.rulebook.specs.Marked.{same, gives}
 use Rattle.laws.specs.Sequence.{times}
@@ -61,7 +61,7 @@ both-chosen (suc zero) h =
     record { list = omega arith; rule = 1; there = omega arith; notNested = refl; arbitrated = refl; ready = refl; itsList = refl; because = inl refl }
 both-chosen (suc (suc l)) h = absurd (omega arith)
 
-not-a-tick : eventKind e ≡ tickKind → ⊥
+not-a-tick : eventKind e ≡ eventTick → ⊥
 unfolding digit
 not-a-tick k = omega arith
 

@@ -7,7 +7,7 @@ use lib.ListN.{set, drop}
 use lib.Dec.{leb, ltb, eqb}
 use borrow.Author.Tests.{ltb-true}
 use Rattle.rulebook.specs.Words.{word}
-use Rattle.rulebook.specs.Table.{ports, networks, sources, portKind, kindTimer, deferred}
+use Rattle.rulebook.specs.Table.{ports, networks, sources, portKind, portTimer, deferred}
 use Rattle.rulebook.specs.State.{sourceIndex, valueOf, timerStarted, Network, statusNone, statusPending, statusExpired}
 use Rattle.rulebook.specs.Lists.{Run, traceWord, setPort, networkIn, setNetwork, setResult, act, judge}
 use Rattle.rulebook.specs.Arbitration.{arbitrate}
@@ -115,7 +115,7 @@ module _ (t : List ℕ) where
   ticked-timer : (p : ℕ) (s : List ℕ) → Words s → Words (tickTimer t p s)
   unfolding tickTimer
   ticked-timer p s h =
-      split (eqb (portKind t p) kindTimer && eqb (valueOf (word s p)) timerStarted)
+      split (eqb (portKind t p) portTimer && eqb (valueOf (word s p)) timerStarted)
       (λ e. split (leb (remainingIn s p) 1) (λ d. rw (e, d) (put-port p _ _ _ s h)) (λ d. rw (e, d) (put-port p _ _ _ s h)))
       (λ e. rw e h)
 

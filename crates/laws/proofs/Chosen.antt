@@ -13,7 +13,7 @@ use Rattle.rulebook.specs.Table.{rules, lists, deferred, nestedOnly, ruleExpres
 use Rattle.rulebook.specs.Expressions.{deepest, mentions}
 use Rattle.rulebook.specs.Lists.{Run, start, emit, resultIn, previousIn, listFor, choice, choiceIn, runItem, runItems, runList}
 use Rattle.rulebook.specs.Arbitration.{unmarkPorts, storeResults, evaluated, chooses, chosen, order, runChosen, decide, arbitrate}
-use Rattle.rulebook.specs.Events.{eventKind, eventIndex, eventValue, tickKind, modeKind, requestKind, request, arbitrateMarked, tick, happen}
+use Rattle.rulebook.specs.Events.{eventKind, eventIndex, eventValue, eventTick, eventMode, eventRequest, request, arbitrateMarked, tick, happen}
 use Rattle.laws.specs.Facts.{Facts}
 use Rattle.laws.specs.Sequence.{Before, Each, InOrder, times}
 use Rattle.laws.specs.Chosen.{Chosen, runAll, startWord, WrittenBy, byNone, byFirst, beforeLists, ListsRan}
@@ -178,7 +178,7 @@ module _ (t : List ℕ) (f : Facts t) (s : List ℕ) where
   deferred-or-not : (p : ℕ) → (deferred t p ≡ 1 → ⊥) → deferred t p ≡ 0
   deferred-or-not p n = let b : deferred t p < 2 = digit-small _ 2 _ (omega arith) in omega arith
 
-  port-set : (e value : ℕ) → setsPort e ≡ true → valueSet e ≡ value → (eventKind e ≡ tickKind → ⊥)
+  port-set : (e value : ℕ) → setsPort e ≡ true → valueSet e ≡ value → (eventKind e ≡ eventTick → ⊥)
       → Arbitrated t e s (request t (eventIndex e) value s .state) (request t (eventIndex e) value s .words)
   unfolding request
   port-set e value k v n =
@@ -197,7 +197,7 @@ module _ (t : List ℕ) (f : Facts t) (s : List ℕ) where
     where
       other : {u : List ℕ} → 3 ≤ eventKind e → Arbitrated t e s u []
       other h =
-          let neither : setsPort e ≡ false = rw (ne-eqb (eventKind e) modeKind (λ y. omega arith), ne-eqb (eventKind e) requestKind (λ y. omega arith)) in
+          let neither : setsPort e ≡ false = rw (ne-eqb (eventKind e) eventMode (λ y. omega arith), ne-eqb (eventKind e) eventRequest (λ y. omega arith)) in
           noPort (λ z. omega arith) (λ z. clash z neither) refl
 
 -- No second way: what ran is settled by the choice and the order, so two arbitrations of the same ports in the same state agree.

@@ -7,9 +7,9 @@ use Prim.Native.Nat.{ℕ, _<_}
 use lib.Dec.{eqb}
 use Rattle.rulebook.specs.Table.{rules, lists, deferred, nestedOnly, ruleExpression, listOwner, triggered}
 use Rattle.rulebook.specs.Expressions.{deepest, mentions}
-use Rattle.rulebook.specs.Lists.{Run, start, traceWord, kindListStart, setPort, unready, resultIn, previousIn, listFor, runList}
+use Rattle.rulebook.specs.Lists.{Run, start, traceWord, traceListStart, setPort, unready, resultIn, previousIn, listFor, runList}
 use Rattle.rulebook.specs.Arbitration.{unmarkPorts, storeResults}
-use Rattle.rulebook.specs.Events.{eventKind, eventIndex, eventValue, tickKind, modeKind, requestKind, only, tickThings, markedIn}
+use Rattle.rulebook.specs.Events.{eventKind, eventIndex, eventValue, eventTick, eventMode, eventRequest, only, tickThings, markedIn}
 use Rattle.laws.specs.Sequence.{Each, InOrder, times}
 
 -- List l is chosen where the ports that q holds of are arbitrated in state s. "Every rule that isn't nested-only, mentions an
@@ -31,7 +31,7 @@ runAll t [] x = x
 runAll t (l ∷ ls) x = runAll t ls (runList deepest t l x)
 
 abbrev pub startWord : List ℕ → ℕ → ℕ
-startWord t l = traceWord kindListStart (listOwner t l) l 0
+startWord t l = traceWord traceListStart (listOwner t l) l 0
 
 -- words list by list: for each of the lists, in their order, its start word and whatever its items wrote
 pub data WrittenBy (t : List ℕ) : List ℕ → List ℕ → Type 0 where
@@ -57,17 +57,17 @@ pub record ListsRan (t : List ℕ) (q : ℕ → Bool) (s s′ ws : List ℕ) : T
 -- "Kinds 1, 2 set the port's value (event: 1)"
 
 abbrev pub setsPort : ℕ → Bool
-setsPort e = eqb (eventKind e) modeKind || eqb (eventKind e) requestKind
+setsPort e = eqb (eventKind e) eventMode || eqb (eventKind e) eventRequest
 
 abbrev pub valueSet : ℕ → ℕ
-valueSet e = cond (eqb (eventKind e) modeKind) (eventValue e) 1
+valueSet e = cond (eqb (eventKind e) eventMode) (eventValue e) 1
 
 -- What event e arbitrates in state s, with the state and the words that come of it. No list ran exactly where there is no word, since
 -- each list that runs writes its start word.
 pub data Arbitrated (t : List ℕ) (e : ℕ) (s s′ ws : List ℕ) : Type 0 where
   -- "Tick, in order: networks, sources, timers by number, then all marked ports are arbitrated."
-  allMarked : eventKind e ≡ tickKind → ListsRan t (markedIn t (tickThings t s)) (tickThings t s) s′ ws → Arbitrated t e s s′ ws
+  allMarked : eventKind e ≡ eventTick → ListsRan t (markedIn t (tickThings t s)) (tickThings t s) s′ ws → Arbitrated t e s s′ ws
   -- "an immediate one is arbitrated now, the same value included": that port alone
   onePort : setsPort e ≡ true → deferred t (eventIndex e) ≡ 0
       → ListsRan t (only (eventIndex e)) (setPort (eventIndex e) 0 (valueSet e) 0 s) s′ ws → Arbitrated t e s s′ ws
-  noPort : (eventKind e ≡ tickKind → ⊥) → (setsPort e ≡ true → deferred t (eventIndex e) ≡ 1) → ws ≡ [] → Arbitrated t e s s′ ws
+  noPort : (eventKind e ≡ eventTick → ⊥) → (setsPort e ≡ true → deferred t (eventIndex e) ≡ 1) → ws ≡ [] → Arbitrated t e s s′ ws
