@@ -31,7 +31,7 @@ use Rattle.states.specs.Made as made
 use Rattle.events.specs.declared.Answer.{Answer}
 use Rattle.events.specs.Answers.{numberOf, countOf, Told}
 use Rattle.demands.specs.Calls.{Played, none, more}
-use Rattle.demands.specs.Demands.{firstFault, Demand1, Steps, Demand2, Demand3, Demand3OfCalls}
+use Rattle.demands.specs.Demands.{firstFault, Demand1, Demand3, Demand3OfCalls}
 
 -- Demand 1.
 
@@ -60,36 +60,6 @@ demand-1 t s trace e r s′ trace′ p =
   where
     same : (numberOf r ≡ 0 → ⊥) → (step t s (length trace) e .state ≡ s) × (step t s (length trace) e .words ≡ [])
     same n = refusal-changes-nothing t s (length trace) e (λ z. n (p .answer ∙ z))
-
--- Demand 2.
-
-steps : (t s trace : List ℕ) (e : ℕ) (r : Answer) (s′ trace′ : List ℕ) → Told (step t s (length trace) e) trace r s′ trace′ → numberOf r ≡ 0 → Steps t s trace e r s′ trace′
-steps t s trace e r s′ trace′ p z = go (step t s (length trace) e) (stepped t s (length trace) e) p
-  where
-    go : (x : Result) → Stepped t s (length trace) e x → Told x trace r s′ trace′ → Steps t s trace e r s′ trace′
-    go x (refused k a b is) q = let y : numberOf r ≡ k = q .answer ∙ ap (λ (v : Result). v .answer) is in absurd (omega arith)
-    go x (done c w is) q =
-        let st : s′ ≡ happen t e s .state = q .state ∙ ap (λ (v : Result). v .state) is in
-        let ws : x .words ≡ happen t e s .words = ap (λ (v : Result). v .words) is in
-        let n : countOf r ≡ length (happen t e s .words) = q .count ∙ ap (λ (v : List ℕ). length v) ws in
-        let tr : trace′ ≡ happen t e s .words ++ drop (length (happen t e s .words)) trace = q .words ∙ ap (λ (v : List ℕ). v ++ drop (length v) trace) ws in
-        record {
-          state = st;
-          count = n;
-          within = rw n (happen-paid t (facts t (c .table)) e s);
-          new = rw (n, tr) (take-append-seam (happen t e s .words) _);
-          unchanged = rw (n, tr) (drop-append-seam (happen t e s .words) _);
-        }
-
-accepts : (t : List ℕ) (c : Checked) → tables.told c ≡ tables.promised t → (tables.told c .reason ≡ 0) ↔ Rules t
-unfolding tables.promised
-accepts t c p =
-    let is : tables.told c .reason ≡ check t .reason = ap (λ (v : tables.Told). v .reason) p in
-    let exactly = accepted-exactly t in
-    (λ z. exactly .0 (eq-eqb _ _ (sym is ∙ z)), λ rules. is ∙ eqb-true _ _ (exactly .1 rules))
-
-pub demand-2 : Demand2
-demand-2 = record { accepts = accepts; steps = steps; ordered = in-order; once = once }
 
 -- The run that a sequence of results is.
 

@@ -1,43 +1,35 @@
--- No idle program meets the promise of the event call: each by one or two cases of the marked run. Assumes nothing.
+-- No idle program meets the promise of the event call: those of the marked run by one or two of its cases, the first list alone and the
+-- invented count wherever they occur. And a program that meets it exists. Assumes nothing.
 use mathlib.Core.Path.{_≡_, refl, sym, _∙_, ap}
-use mathlib.Core.Bool.{true, _&&_, and-false}
-use mathlib.Core.List.{List, [], _∷_}
-use Prim.Native.Nat.{ℕ}
+use mathlib.Core.Bool.{Bool, true, _&&_, and-false}
+use mathlib.Core.List.{List, [], _∷_, _++_}
+use Prim.Native.Nat.{ℕ, zero, suc, _+_, _≤_, _<_, _^_}
 use native.Mathlib.Omega.{arith}
-use lib.ListN.{length}
-use lib.Dec.{eqb}
-use borrow.Author.Tests.{eqb-true}
-use Rattle.rulebook.specs.Words.{word}
-use Rattle.rulebook.specs.Step.{Result}
-use Rattle.rulebook.specs.Marked.{table, marked, after, same, gives, refuses, atFresh, afterRequest, afterBusOff, afterThree, afterFive, markedRun}
+use lib.ListN.{length, drop, getD, length-append, length-drop, List·getD-append}
+use lib.Seq.{drop-cons, getD-append-seam}
+use lib.Dec.{ltb, eqb}
+use borrow.Author.Tests.{ltb-true, ltb-false, eqb-true}
+use Rattle.rulebook.specs.Words.{word, listed}
+use Rattle.rulebook.specs.Step.{Result, step}
+use Rattle.rulebook.specs.Marked.{table, marked, after, same, gives, refuses, atFresh, afterRequest, afterTick, afterBusOff, afterThree, afterFive, markedRun}
 use Rattle.rulebook.proofs.Marked.{claim}
-use Rattle.laws.proofs.Tests.{clash, part-of, and-left, and-right}
-use Rattle.events.specs.Answers.{numberOf, countOf}
-use Rattle.demands.specs.Idle.{Program, Meets, RefusesAll, AnswersAlike, DoesNothing, OnlyFirstTick, InventsCount}
+use Rattle.laws.specs.Chosen.{runAll, beforeLists, WrittenBy, byNone, byFirst}
+use Rattle.laws.proofs.Tests.{split, clash, part-of, and-left, and-right}
+use Rattle.laws.proofs.Walks.{listed-length, listed-at}
+use Rattle.laws.proofs.Facts.{facts}
+use Rattle.laws.proofs.Order.{each-both}
+use Rattle.laws.proofs.Chosen.{behind}
+use Rattle.laws.proofs.Steps.{Stepped, refused, done, stepped, happen-paid}
+use Rattle.events.specs.declared.Answer.{Answer}
+use Rattle.events.specs.declared.Answer.the-variants.{Done, BadTable, UnfitState, ShortTrace, Malformed, NoSuchThing, NotItsOwner}
+use Rattle.events.specs.Answers.{numberOf, countOf, Told}
+use Rattle.demands.specs.Idle.{Outcome, Program, Words, Input, Meets, LeavesWords}
+use Rattle.demands.specs.Idle.{RefusesAll, AnswersAlike, DoesNothing, OnlyFirstTick, OnlyFirstList, InventsCount, CountsAlike}
+use Rattle.demands.proofs.Demand2.{steps, done-step}
+use Rattle.demands.proofs.Given.{same-eq, Given, given}
+use Rattle.demands.proofs.Words.{small, small-words, step-words, drop-words}
 
 -- What is read off the claim.
-
-same-eq : (xs ys : List ℕ) → same xs ys ≡ true → xs ≡ ys
-unfolding same
-same-eq [] [] h = refl
-same-eq [] (y ∷ ys) h = clash refl (sym h)
-same-eq (x ∷ xs) [] h = clash refl (sym h)
-same-eq (x ∷ xs) (y ∷ ys) h = let e = eqb-true x y (and-left (eqb x y) (same xs ys) h) in let d = same-eq xs ys (and-right (eqb x y) (same xs ys) h) in rw (e, d)
-
-record Given (r : Result) (k : ℕ) (s ws : List ℕ) : Type 0 where
-  answer : r .answer ≡ k
-  state : r .state ≡ s
-  words : r .words ≡ ws
-
-given : (r : Result) (k : ℕ) (s ws : List ℕ) → gives r k s ws ≡ true → Given r k s ws
-unfolding gives
-given r k s ws h =
-    let q = and-left (eqb (r .answer) k && same (r .state) s) _ h in
-    record {
-      answer = eqb-true _ _ (and-left (eqb (r .answer) k) _ q);
-      state = same-eq _ _ (and-right (eqb (r .answer) k) _ q);
-      words = same-eq _ _ (and-right (eqb (r .answer) k && same (r .state) s) _ h);
-    }
 
 at-fresh : atFresh ≡ 0 ∷ 0 ∷ 0 ∷ 0 ∷ []
 unfolding markedRun
@@ -63,35 +55,68 @@ five : word afterFive 3 ≡ 0x98000000
 unfolding markedRun
 five = eqb-true _ _ (part-of _ (λ e. rw (markedRun, e, and-false) at claim))
 
--- The programs. A trace of three words is lent, as in the marked run.
+-- Inputs of words.
 
+-- a trace of three words is lent, as in the marked run
 lent : List ℕ
 lent = 0 ∷ 0 ∷ 0 ∷ []
 
+given-words : (s : List ℕ) (e : ℕ) → Words s → e < 2 ^ 32 → Input table s lent e
+unfolding table lent small
+given-words s e h b = record { table = small-words table refl; state = h; trace = small-words lent refl; event = b }
+
+marked-words : (s : List ℕ) (e : ℕ) → Words s → Words (marked s e .state)
+unfolding marked
+marked-words s e h = step-words table s 3 e h .0
+
+fresh-words : Words atFresh
+unfolding small
+fresh-words = rw at-fresh (small-words (0 ∷ 0 ∷ 0 ∷ 0 ∷ []) refl)
+
+requested-words : Words afterRequest
+unfolding afterRequest after
+requested-words = marked-words atFresh _ fresh-words
+
+bus-off-words : Words afterBusOff
+unfolding afterBusOff afterTick after
+bus-off-words = marked-words _ _ (marked-words afterRequest 0 requested-words)
+
+-- The programs that the marked run refutes.
+
 module _ (p : Program) (meets : Meets p) where
-  answers : (s : List ℕ) (e : ℕ) → numberOf (p table s lent e .answer) ≡ marked s e .answer
-  unfolding marked lent
-  answers s e = meets table s lent e .answer
+  module _ (s : List ℕ) (e : ℕ) (h : Words s) (b : e < 2 ^ 32) where
+    answers : numberOf (p table s lent e .answer) ≡ marked s e .answer
+    unfolding marked lent
+    answers = meets table s lent e (given-words s e h b) .answer
 
-  states : (s : List ℕ) (e : ℕ) → p table s lent e .state ≡ marked s e .state
-  unfolding marked lent
-  states s e = meets table s lent e .state
+    states : p table s lent e .state ≡ marked s e .state
+    unfolding marked lent
+    states = meets table s lent e (given-words s e h b) .state
 
-  counts : (s : List ℕ) (e : ℕ) → countOf (p table s lent e .answer) ≡ length (marked s e .words)
-  unfolding marked lent
-  counts s e = meets table s lent e .count
+    counts : countOf (p table s lent e .answer) ≡ length (marked s e .words)
+    unfolding marked lent
+    counts = meets table s lent e (given-words s e h b) .count
+
+  at-request : Input table atFresh lent 0x11000500
+  at-request = given-words atFresh _ fresh-words (omega arith)
+
+  request-done : numberOf (p table atFresh lent 0x11000500 .answer) ≡ 0
+  request-done = answers atFresh _ fresh-words (omega arith) ∙ requested .answer
 
   pub not-refuses-all : RefusesAll p → ⊥
-  not-refuses-all idle = idle table atFresh lent 0x11000500 (answers atFresh 0x11000500 ∙ requested .answer)
+  not-refuses-all idle = idle table atFresh lent _ at-request request-done
 
   pub not-answers-alike : AnswersAlike p → ⊥
   not-answers-alike idle =
-      let z : _≡_ {A = ℕ} 0 4 = sym (answers atFresh 0x11000500 ∙ requested .answer) ∙ idle table atFresh lent 0x11000500 0x21000500 ∙ answers atFresh 0x21000500 ∙ malformed .answer in
+      let other = given-words atFresh 0x21000500 fresh-words (omega arith) in
+      let z : _≡_ {A = ℕ} 0 4
+      = sym request-done ∙ idle table atFresh lent _ _ at-request other ∙ answers atFresh _ fresh-words (omega arith) ∙ malformed .answer in
       absurd (omega arith)
 
   pub not-does-nothing : DoesNothing p → ⊥
   not-does-nothing idle =
-      let is : _≡_ {A = List ℕ} (0 ∷ 0 ∷ 0 ∷ 0 ∷ []) (0x81400000 ∷ 0 ∷ 0x40000000 ∷ 0x80000000 ∷ []) = sym at-fresh ∙ sym (idle table atFresh lent 0x11000500) ∙ states atFresh 0x11000500 ∙ requested .state in
+      let is : _≡_ {A = List ℕ} (0 ∷ 0 ∷ 0 ∷ 0 ∷ []) (0x81400000 ∷ 0 ∷ 0x40000000 ∷ 0x80000000 ∷ [])
+      = sym at-fresh ∙ sym (idle table atFresh lent _ at-request) ∙ states atFresh _ fresh-words (omega arith) ∙ requested .state in
       let z : _≡_ {A = ℕ} 0 0x81400000 = ap (λ (s : List ℕ). word s 0) is in
       absurd (omega arith)
 
@@ -99,16 +124,155 @@ module _ (p : Program) (meets : Meets p) where
   pub not-only-first-tick : OnlyFirstTick p → ⊥
   unfolding afterThree afterFive after
   not-only-first-tick idle =
-      let one : (s : List ℕ) → marked (marked s 0 .state) 0 .state ≡ marked s 0 .state
-      = λ s. rw (sym (states (marked s 0 .state) 0), sym (states s 0)) (idle table s lent) in
-      let two : afterThree ≡ marked afterBusOff 0 .state = one _ ∙ one _ in
-      let more : afterFive ≡ marked afterThree 0 .state = one _ ∙ one _ ∙ one _ ∙ one _ in
-      let z : afterFive ≡ afterThree = more ∙ one _ in
+      let on : (s : List ℕ) → Words s → Words (marked s 0 .state) = λ s h. marked-words s 0 h in
+      let one : (s : List ℕ) → Words s → marked (marked s 0 .state) 0 .state ≡ marked s 0 .state
+      = λ s h. rw (sym (states (marked s 0 .state) 0 (on s h) (omega arith)), sym (states s 0 h (omega arith)))
+      (idle table s lent (given-words s 0 h (omega arith))) in
+      let h₁ = on afterBusOff bus-off-words in
+      let h₃ = on _ (on _ h₁) in
+      let h₄ = on _ h₃ in
+      let h₅ = on _ h₄ in
+      let h₆ = on _ h₅ in
+      let three-one : afterThree ≡ marked afterBusOff 0 .state = one _ h₁ ∙ one _ bus-off-words in
+      let five-one : afterFive ≡ marked afterThree 0 .state = one _ h₆ ∙ one _ h₅ ∙ one _ h₄ ∙ one _ h₃ in
+      let z : afterFive ≡ afterThree = five-one ∙ one _ (on _ h₁) in
       let y : _≡_ {A = ℕ} 0x98000000 0x90080005 = sym five ∙ ap (λ (s : List ℕ). word s 3) z ∙ three in
       absurd (omega arith)
 
-  pub not-invents-count : InventsCount p → ⊥
-  not-invents-count idle =
-      let same-count = idle table atFresh afterRequest lent 0x11000500 0 (answers atFresh 0x11000500 ∙ requested .answer) (answers afterRequest 0 ∙ ticked .answer) in
-      let z : _≡_ {A = ℕ} 3 0 = sym (counts atFresh 0x11000500 ∙ ap (λ (ws : List ℕ). length ws) (requested .words)) ∙ same-count ∙ counts afterRequest 0 ∙ ap (λ (ws : List ℕ). length ws) (ticked .words) in
+  pub not-counts-alike : CountsAlike p → ⊥
+  not-counts-alike idle =
+      let at-tick = given-words afterRequest 0 requested-words (omega arith) in
+      let tick-done = answers afterRequest 0 requested-words (omega arith) ∙ ticked .answer in
+      let three-words = counts atFresh _ fresh-words (omega arith) ∙ ap (λ (ws : List ℕ). length ws) (requested .words) in
+      let no-words = counts afterRequest 0 requested-words (omega arith) ∙ ap (λ (ws : List ℕ). length ws) (ticked .words) in
+      let z : _≡_ {A = ℕ} 3 0 = sym three-words ∙ idle table atFresh afterRequest lent _ 0 at-request at-tick request-done tick-done ∙ no-words in
       absurd (omega arith)
+
+-- The first list alone. Lists that run write at least one word each, so what follows the first is not nothing.
+
+word-each : {t ls ws : List ℕ} → WrittenBy t ls ws → length ls ≤ length ws
+word-each byNone = omega arith
+word-each (byFirst {ls = ls} {rest = rest} ws w) = let h = word-each w in simp length-append (omega arith)
+
+pub not-only-first-list : (p : Program) → Meets p → OnlyFirstList p → ⊥
+not-only-first-list p meets idle =
+    let t = idle .table in
+    let c = idle .call in
+    let o = p t (idle .state) (idle .trace) (idle .event) in
+    let m = meets t (idle .state) (idle .trace) (idle .event) (c .input) in
+    let new = steps t (idle .state) (idle .trace) (idle .event) (o .answer) (o .state) (o .trace) m (m .answer ∙ c .done) .new in
+    let x = beforeLists t (c .ports) (c .from) in
+    let first = runAll t (c .first ∷ []) x in
+    let b = behind t (c .second ∷ c .more) first in
+    let is : first .words ≡ first .words ++ b .more
+    = sym (idle .alone) ∙ new ∙ c .lists .words ∙ ap (λ (ls : List ℕ). runAll t ls x .words) (c .several) ∙ b .words in
+    let n : length (first .words) ≡ length (first .words) + length (b .more) = ap (λ (ws : List ℕ). length ws) is ∙ length-append (first .words) (b .more) in
+    let some : suc (length (c .more)) ≤ length (b .more) = word-each (b .written) in
+    absurd (omega arith)
+
+-- The invented count. What is written whatever is lent has one length: a word of it that were lent could be 0 and could be 1.
+
+same-words : (v i n : ℕ) → v < 2 ^ 32 → Words (listed i n (λ j. v))
+unfolding listed
+same-words v i zero b = tt
+same-words v i (suc n) b = (b, same-words v (suc i) n b)
+
+-- the word behind ws is the one that was lent
+behind-front : (ws : List ℕ) (v n : ℕ) → length ws < n → getD (ws ++ drop (length ws) (listed 0 n (λ j. v))) (length ws) 0 ≡ v
+behind-front ws v n b =
+    let h : length ws < length (listed 0 n (λ j. v)) = rw listed-length b in
+    rw (drop-cons (listed 0 n (λ j. v)) (length ws) 0 h) (getD-append-seam ws _ _ 0 ∙ listed-at (λ j. v) 0 n (length ws) b)
+
+abbrev SameTraces : ℕ → List ℕ → List ℕ → Type 0
+SameTraces n ws vs = (trace : List ℕ) → Words trace → length trace ≡ n → ws ++ drop (length ws) trace ≡ vs ++ drop (length vs) trace
+
+not-fewer : (n : ℕ) (ws vs : List ℕ) → length vs ≤ n → SameTraces n ws vs → length ws < length vs → ⊥
+not-fewer n ws vs h same lt =
+    let at : (v : ℕ) → v < 2 ^ 32 → v ≡ getD vs (length ws) 0
+    = λ v b. sym (behind-front ws v n (omega arith)) ∙ ap (λ (us : List ℕ). getD us (length ws) 0) (same _ (same-words v 0 n b) (listed-length _ 0 n))
+    ∙ List·getD-append vs _ 0 (length ws) lt in
+    let z : _≡_ {A = ℕ} 0 1 = at 0 (omega arith) ∙ sym (at 1 (omega arith)) in
+    absurd (omega arith)
+
+as-many : (n : ℕ) (ws vs : List ℕ) → length ws ≤ n → length vs ≤ n → SameTraces n ws vs → length ws ≡ length vs
+as-many n ws vs a b same =
+    let c = not-fewer n ws vs b same in
+    let d = not-fewer n vs ws a (λ trace h k. sym (same trace h k)) in
+    split (ltb (length ws) (length vs)) (λ e. absurd (c (ltb-true _ _ e)))
+    (λ e. split (ltb (length vs) (length ws)) (λ g. absurd (d (ltb-true _ _ g)))
+    (λ g. let le = ltb-false (length ws) (length vs) e in let ge = ltb-false (length vs) (length ws) g in omega arith))
+
+-- a trace keeps its length, so no more is written than was lent
+within-lent : (ws vs trace : List ℕ) → length vs ≤ length trace → ws ++ drop (length ws) trace ≡ vs ++ drop (length vs) trace → length ws ≤ length trace
+within-lent ws vs trace b is = omega (arith, simp (length-append, length-drop) at (ap (λ (us : List ℕ). length us) is))
+
+pub not-invents-count : (p : Program) → Meets p → InventsCount p → ⊥
+not-invents-count p meets idle =
+    let t = idle .table in
+    let s = idle .state in
+    let e = idle .event in
+    let i = idle .input in
+    let room = length (idle .trace) in
+    let vs = step t s room e .words in
+    let m = meets t s (idle .trace) e i in
+    let call = done-step t s room e (sym (m .answer) ∙ idle .done) in
+    let paid = happen-paid t (facts t (call .callable .table)) e s in
+    let enough = call .callable .enough in
+    let most : length vs ≤ room = rw (call .words) (omega arith) in
+    let same : SameTraces room (idle .words) vs
+    = λ trace h n. sym (idle .writes trace h n) ∙ meets t s trace e (record { table = i .table; state = i .state; trace = h; event = i .event }) .words
+    ∙ ap (λ (k : ℕ). step t s k e .words ++ drop (length (step t s k e .words)) trace) n in
+    let least = within-lent (idle .words) vs (idle .trace) most (same (idle .trace) (i .trace) refl) in
+    idle .count (m .count ∙ sym (as-many room (idle .words) vs least most same))
+
+-- A program that meets the promise: the step, in the call's answers.
+
+answerWith : ℕ → ℕ → Answer
+answerWith zero n = Done (record { count = n })
+answerWith (suc zero) n = BadTable
+answerWith (suc (suc zero)) n = UnfitState
+answerWith (suc (suc (suc zero))) n = ShortTrace
+answerWith (suc (suc (suc (suc zero)))) n = Malformed
+answerWith (suc (suc (suc (suc (suc zero))))) n = NoSuchThing
+answerWith (suc (suc (suc (suc (suc (suc k)))))) n = NotItsOwner
+
+answer-number : (k n : ℕ) → k ≤ 6 → numberOf (answerWith k n) ≡ k
+unfolding answerWith
+answer-number zero n h = refl
+answer-number (suc zero) n h = refl
+answer-number (suc (suc zero)) n h = refl
+answer-number (suc (suc (suc zero))) n h = refl
+answer-number (suc (suc (suc (suc zero)))) n h = refl
+answer-number (suc (suc (suc (suc (suc zero))))) n h = refl
+answer-number (suc (suc (suc (suc (suc (suc zero)))))) n h = refl
+answer-number (suc (suc (suc (suc (suc (suc (suc k))))))) n h = absurd (omega arith)
+
+no-count : (k : ℕ) → countOf (answerWith k 0) ≡ 0
+unfolding answerWith
+no-count zero = refl
+no-count (suc zero) = refl
+no-count (suc (suc zero)) = refl
+no-count (suc (suc (suc zero))) = refl
+no-count (suc (suc (suc (suc zero)))) = refl
+no-count (suc (suc (suc (suc (suc zero))))) = refl
+no-count (suc (suc (suc (suc (suc (suc k)))))) = refl
+
+outcome : List ℕ → Result → Outcome
+outcome trace x = record { answer = answerWith (x .answer) (length (x .words)); state = x .state; trace = x .words ++ drop (length (x .words)) trace }
+
+told : (t s trace : List ℕ) (room e : ℕ) (x : Result) → Stepped t s room e x
+    → Told x trace (outcome trace x .answer) (outcome trace x .state) (outcome trace x .trace)
+unfolding outcome answerWith
+told t s trace room e x (refused k a b is) = rw is (record { answer = answer-number k 0 b; count = no-count k; state = refl; words = refl })
+told t s trace room e x (done c w is) = rw is (record { answer = refl; count = refl; state = refl; words = refl })
+
+pub meets-exists : (p : Program) × Meets p × LeavesWords p
+unfolding outcome
+meets-exists = (
+  λ t s trace e. outcome trace (step t s (length trace) e),
+  λ t s trace e i. told t s trace (length trace) e _ (stepped t s (length trace) e),
+  λ t s trace e i.
+      let ws = step t s (length trace) e .words in
+      let w = step-words t s (length trace) e (i .state) in
+      (w .0, each-both _ ws _ (w .1) (drop-words (length ws) trace (i .trace))),
+)

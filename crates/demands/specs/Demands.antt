@@ -51,22 +51,6 @@ abbrev pub Demand1 : Type 0
 Demand1 =
     (t s trace : List ℕ) (e : ℕ) (r : Answer) (s′ trace′ : List ℕ) → Told (step t s (length trace) e) trace r s′ trace′ → Refuses t s trace e r s′ trace′
 
--- Demand 2. "For an accepted table, each event gives exactly the next state and ordered trace .., the reported count true. A table is
--- accepted exactly if document 01's rules hold of it."
-
-pub record Steps (t s trace : List ℕ) (e : ℕ) (r : Answer) (s′ trace′ : List ℕ) : Type 0 where
-  pub state : s′ ≡ happen t e s .state
-  pub count : countOf r ≡ length (happen t e s .words)
-  pub within : countOf r ≤ bound t
-  pub new : take (countOf r) trace′ ≡ happen t e s .words
-  pub unchanged : drop (countOf r) trace′ ≡ drop (countOf r) trace
-
-pub record Demand2 : Type 0 where
-  pub accepts : (t : List ℕ) (c : Checked) → tables.told c ≡ tables.promised t → (tables.told c .reason ≡ 0) ↔ Rules t
-  pub steps : (t s trace : List ℕ) (e : ℕ) (r : Answer) (s′ trace′ : List ℕ) → Told (step t s (length trace) e) trace r s′ trace′ → numberOf r ≡ 0 → Steps t s trace e r s′ trace′
-  pub ordered : (t : List ℕ) → InOrder t (order t)
-  pub once : (t : List ℕ) (l : ℕ) → l < lists t → times l (order t) ≡ 1
-
 -- Demand 3. "Take an accepted table and a fresh state, pass each state on, send any events": s is the state that `make_fresh` made,
 -- and any results of `take_event` follow.
 

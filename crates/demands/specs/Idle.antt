@@ -1,12 +1,19 @@
--- Document 01's five idle programs. A program is whatever gives an answer, a state and a trace for each input; each definition says
--- of a program that it idles in one way, and Idle proves that no program that meets the event call's promise does.
+-- Document 01's five idle programs, the fourth (only the first list or tick) and the fifth (an invented count) in two parts each. A
+-- program is whatever gives an answer, a state and a trace for each input; each definition says of a program that it idles in one way,
+-- and proofs/Idle that no program that meets the event call's promise does.
 use mathlib.Core.Path.{_≡_}
-use mathlib.Core.List.{List}
-use Prim.Native.Nat.{ℕ}
-use lib.ListN.{length}
+use mathlib.Core.Bool.{Bool}
+use mathlib.Core.List.{List, [], _∷_, _++_}
+use Prim.Native.Nat.{ℕ, _<_, _^_}
+use lib.ListN.{length, drop}
+use Rattle.rulebook.specs.Events.{happen}
 use Rattle.rulebook.specs.Step.{step}
+use Rattle.laws.specs.Sequence.{Each}
+use Rattle.laws.specs.Chosen.{runAll, beforeLists, ListsRan}
 use Rattle.events.specs.declared.Answer.{Answer}
-use Rattle.events.specs.Answers.{numberOf, countOf, Told}
+use Rattle.events.specs.Answers.{numberOf, countOf}
+use Rattle.manager.specs.Promises.{TakesEvent}
+use Rattle.demands.specs.Demand2.{newWords}
 
 pub record Outcome : Type 0 where
   pub answer : Answer
@@ -17,24 +24,82 @@ pub record Outcome : Type 0 where
 abbrev pub Program : Type 0
 Program = List ℕ → List ℕ → List ℕ → ℕ → Outcome
 
+-- "Table, state and trace are lent tables of 32-bit words": the inputs that the code can be given
+
+abbrev pub Words : List ℕ → Type 0
+Words ws = Each (λ w. w < 2 ^ 32) ws
+
+pub record Input (t s lent : List ℕ) (e : ℕ) : Type 0 where
+  pub table : Words t
+  pub state : Words s
+  pub trace : Words lent
+  pub event : e < 2 ^ 32
+
 -- it gives what `take_event` promises
 abbrev pub Meets : Program → Type 0
-Meets p = (t s trace : List ℕ) (e : ℕ) → Told (step t s (length trace) e) trace (p t s trace e .answer) (p t s trace e .state) (p t s trace e .trace)
+Meets p = (t s trace : List ℕ) (e : ℕ) → Input t s trace e
+    → TakesEvent t s trace e (p t s trace e .answer) (p t s trace e .state) (p t s trace e .trace)
+
+-- it leaves words, as the code does
+abbrev pub LeavesWords : Program → Type 0
+LeavesWords p = (t s trace : List ℕ) (e : ℕ) → Input t s trace e → Words (p t s trace e .state) × Words (p t s trace e .trace)
 
 abbrev pub RefusesAll : Program → Type 0
-RefusesAll p = (t s trace : List ℕ) (e : ℕ) → numberOf (p t s trace e .answer) ≡ 0 → ⊥
+RefusesAll p = (t s trace : List ℕ) (e : ℕ) → Input t s trace e → numberOf (p t s trace e .answer) ≡ 0 → ⊥
 
 -- one answer for all
 abbrev pub AnswersAlike : Program → Type 0
-AnswersAlike p = (t s trace : List ℕ) (e d : ℕ) → numberOf (p t s trace e .answer) ≡ numberOf (p t s trace d .answer)
+AnswersAlike p = (t s trace : List ℕ) (e d : ℕ) → Input t s trace e → Input t s trace d
+    → numberOf (p t s trace e .answer) ≡ numberOf (p t s trace d .answer)
 
 abbrev pub DoesNothing : Program → Type 0
-DoesNothing p = (t s trace : List ℕ) (e : ℕ) → p t s trace e .state ≡ s
+DoesNothing p = (t s trace : List ℕ) (e : ℕ) → Input t s trace e → p t s trace e .state ≡ s
 
 -- a tick that follows a tick changes nothing
 abbrev pub OnlyFirstTick : Program → Type 0
-OnlyFirstTick p = (t s trace : List ℕ) → p t (p t s trace 0 .state) trace 0 .state ≡ p t s trace 0 .state
+OnlyFirstTick p = (t s trace : List ℕ) → Input t s trace 0 → p t (p t s trace 0 .state) trace 0 .state ≡ p t s trace 0 .state
 
--- the count is one number, whatever was written
-abbrev pub InventsCount : Program → Type 0
-InventsCount p = (t s₁ s₂ trace : List ℕ) (e d : ℕ) → numberOf (p t s₁ trace e .answer) ≡ 0 → numberOf (p t s₂ trace d .answer) ≡ 0 → countOf (p t s₁ trace e .answer) ≡ countOf (p t s₂ trace d .answer)
+-- a call that is done and in which two lists or more are to run, one after the other
+pub record Several (t s trace : List ℕ) (e : ℕ) : Type 0 where
+  pub input : Input t s trace e
+  pub done : step t s (length trace) e .answer ≡ 0
+  pub ports : ℕ → Bool
+  pub from : List ℕ
+  pub lists : ListsRan t ports from (happen t e s .state) (happen t e s .words)
+  pub first : ℕ
+  pub second : ℕ
+  pub more : List ℕ
+  pub several : lists .ran ≡ first ∷ second ∷ more
+
+-- in some such call it writes what the first of the lists writes, and no more
+pub record OnlyFirstList (p : Program) : Type 0 where
+  pub table : List ℕ
+  pub state : List ℕ
+  pub trace : List ℕ
+  pub event : ℕ
+  pub call : Several table state trace event
+  pub alone : newWords (p table state trace event .answer) (p table state trace event .trace)
+      ≡ runAll table (call .first ∷ []) (beforeLists table (call .ports) (call .from)) .words
+
+-- The words that a program writes of a trace of some length are those that do not hang on it: whatever is lent, they stand at its
+-- front afterwards, and the rest is as it was.
+abbrev pub Writes : Program → List ℕ → List ℕ → ℕ → ℕ → List ℕ → Type 0
+Writes p t s room e ws = (trace : List ℕ) → Words trace → length trace ≡ room → p t s trace e .trace ≡ ws ++ drop (length ws) trace
+
+-- in some call that is done, the count is not the number of words that it writes
+pub record InventsCount (p : Program) : Type 0 where
+  pub table : List ℕ
+  pub state : List ℕ
+  pub trace : List ℕ
+  pub event : ℕ
+  pub input : Input table state trace event
+  pub done : numberOf (p table state trace event .answer) ≡ 0
+  pub words : List ℕ
+  pub writes : Writes p table state (length trace) event words
+  pub count : countOf (p table state trace event .answer) ≡ length words → ⊥
+
+-- the count is one number, whatever is written
+abbrev pub CountsAlike : Program → Type 0
+CountsAlike p = (t s₁ s₂ trace : List ℕ) (e d : ℕ) → Input t s₁ trace e → Input t s₂ trace d
+    → numberOf (p t s₁ trace e .answer) ≡ 0 → numberOf (p t s₂ trace d .answer) ≡ 0
+    → countOf (p t s₁ trace e .answer) ≡ countOf (p t s₂ trace d .answer)

@@ -1,4 +1,6 @@
 -- The user's three demands, over what the public entries promise.
 pub mod Calls
 pub mod Demands
+pub mod Demand2
 pub mod Idle
+pub mod TwoLists

@@ -19,3 +19,4 @@ pub mod Happen
 pub mod FitEvents
 pub mod Steps
 pub mod Chains
+pub mod Chosen

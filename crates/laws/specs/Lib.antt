@@ -2,3 +2,4 @@
 pub mod Acceptance
 pub mod Facts
 pub mod Sequence
+pub mod Chosen
