@@ -1,10 +1,10 @@
--- Demand 2 holds of whatever the promises of `take_event` and `check_table` allow. Assumes nothing.
+-- Demand 2 holds of whatever the promises of the event call and the table check allow. Assumes nothing.
 use mathlib.Core.Path.{_≡_, sym, _∙_, ap}
 use mathlib.Core.Logic.{_↔_}
 use mathlib.Core.List.{List, _++_}
 use Prim.Native.Nat.{ℕ}
 use native.Mathlib.Omega.{arith}
-use lib.ListN.{length, drop}
+use lib.ListN.{length, take, drop}
 use lib.Seq.{take-append-seam, drop-append-seam}
 use borrow.Author.Tests.{eqb-true, eq-eqb}
 use Rattle.rulebook.specs.Reasons.{check}
@@ -14,18 +14,17 @@ use Rattle.laws.specs.Acceptance.{Rules}
 use Rattle.laws.specs.Chosen.{Arbitrated}
 use Rattle.laws.proofs.Acceptance.{accepted-exactly}
 use Rattle.laws.proofs.Facts.{facts}
+use Rattle.laws.proofs.Happen.{Taken}
 use Rattle.laws.proofs.Steps.{Callable, Stepped, refused, done, stepped, happen-paid}
 use Rattle.laws.proofs.Chosen.{happen-arbitrates}
-use Rattle.tables.specs.declared.Checked.{Checked}
-use Rattle.tables.specs.Told as tables
-use Rattle.events.specs.declared.Answer.{Answer}
-use Rattle.events.specs.Answers.{numberOf, countOf, Told}
-use Rattle.manager.specs.Promises.{ChecksTable, TakesEvent}
-use Rattle.demands.specs.Demand2.{newWords, Steps, Demand2}
+use Rattle.tables.specs.Told.{promised}
+use Rattle.manager.specs.Promises.{ChecksTableIn, TakesEventIn}
+use Rattle.demands.specs.Demand2.{Steps, Demand2}
 
 -- a call answered 0 went through the checks, and the step is what the event does
 pub record Done (t s : List ℕ) (room e : ℕ) : Type 0 where
   pub callable : Callable t s room
+  pub taken : Taken t e
   pub state : step t s room e .state ≡ happen t e s .state
   pub words : step t s room e .words ≡ happen t e s .words
 
@@ -34,32 +33,32 @@ done-step t s room e z = go (stepped t s room e)
   where
     go : Stepped t s room e (step t s room e) → Done t s room e
     go (refused k a b is) = let y : step t s room e .answer ≡ k = ap (λ (v : Result). v .answer) is in absurd (omega arith)
-    go (done c w is) = record { callable = c; state = ap (λ (v : Result). v .state) is; words = ap (λ (v : Result). v .words) is }
+    go (done c w is) = record { callable = c; taken = w; state = ap (λ (v : Result). v .state) is; words = ap (λ (v : Result). v .words) is }
 
-module _ (t s trace : List ℕ) (e : ℕ) (r : Answer) (s′ trace′ : List ℕ) (p : TakesEvent t s trace e r s′ trace′) (z : numberOf r ≡ 0) where
-  call : Done t s (length trace) e
+module _ (t s trace : List ℕ) (e k n : ℕ) (s′ trace′ : List ℕ) (p : TakesEventIn t s trace e k n s′ trace′) (z : k ≡ 0) where
+  pub call : Done t s (length trace) e
   call = done-step t s (length trace) e (sym (p .answer) ∙ z)
 
-  pub steps : Steps t s trace e r s′ trace′
+  pub steps : Steps t s trace e n s′ trace′
   steps =
-      let n : countOf r ≡ length (happen t e s .words) = p .count ∙ ap (λ (v : List ℕ). length v) (call .words) in
+      let is : n ≡ length (happen t e s .words) = p .count ∙ ap (λ (v : List ℕ). length v) (call .words) in
       let tr : trace′ ≡ happen t e s .words ++ drop (length (happen t e s .words)) trace
       = p .words ∙ ap (λ (v : List ℕ). v ++ drop (length v) trace) (call .words) in
       record {
         state = p .state ∙ call .state;
-        count = n;
-        within = rw n (happen-paid t (facts t (call .callable .table)) e s);
-        new = rw (n, tr) (take-append-seam (happen t e s .words) _);
-        unchanged = rw (n, tr) (drop-append-seam (happen t e s .words) _);
+        count = is;
+        within = rw is (happen-paid t (facts t (call .callable .table)) e s);
+        new = rw (is, tr) (take-append-seam (happen t e s .words) _);
+        unchanged = rw (is, tr) (drop-append-seam (happen t e s .words) _);
       }
 
-  lists : Arbitrated t e s s′ (newWords r trace′)
+  pub lists : Arbitrated t e s s′ (take n trace′)
   lists = rw (steps .state, steps .new) (happen-arbitrates t (facts t (call .callable .table)) s e)
 
-accepts : (t : List ℕ) (c : Checked) → ChecksTable t c → (tables.told c .reason ≡ 0) ↔ Rules t
-unfolding tables.promised
-accepts t c p =
-    let is : tables.told c .reason ≡ check t .reason = ap (λ (v : tables.Told). v .reason) p in
+pub accepts : (t : List ℕ) (reason place bound : ℕ) → ChecksTableIn t reason place bound → (reason ≡ 0) ↔ Rules t
+unfolding promised
+accepts t reason place bound p =
+    let is : reason ≡ check t .reason = p .0 in
     let exactly = accepted-exactly t in
     (λ z. exactly .0 (eq-eqb _ _ (sym is ∙ z)), λ rules. is ∙ eqb-true _ _ (exactly .1 rules))
 

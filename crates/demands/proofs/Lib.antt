@@ -1,6 +1,8 @@
 -- The demands, proved from the laws and from `stranger`.
-pub mod Demands
+pub mod Demand1
 pub mod Demand2
+pub mod Demand3
+pub mod Conclusions
 pub mod Given
 pub mod Words
 pub mod TwoLists

@@ -1,14 +1,15 @@
--- Sequences of results that the promise of the event call allows, each state passed on.
+-- What calls gave: any results that the event call's promise allows, each state passed on, and the log of those answered 0.
+use mathlib.Core.Path.{_≡_}
 use mathlib.Core.List.{List, [], _∷_}
 use Prim.Native.Nat.{ℕ}
-use lib.ListN.{length}
-use Rattle.rulebook.specs.Step.{step}
-use Rattle.stranger.specs.Calls.{Call}
-use Rattle.events.specs.declared.Answer.{Answer}
-use Rattle.events.specs.Answers.{Told}
+use lib.ListN.{take}
+use Rattle.stranger.specs.Logs.{Entry}
+use Rattle.manager.specs.Promises.{TakesEventIn}
 
--- from state s the calls cs lead to the last state
-pub data Played (t : List ℕ) : List ℕ → List Call → List ℕ → Type 0 where
-  none : {s : List ℕ} → Played t s [] s
-  more : {s s₁ s₂ trace trace₁ : List ℕ} {e : ℕ} {cs : List Call} (r : Answer)
-      → Told (step t s (length trace) e) trace r s₁ trace₁ → Played t s₁ cs s₂ → Played t s (record { event = e; room = length trace } ∷ cs) s₂
+-- From state s. A call that is answered 0 leaves an entry: its event, the state afterwards, and the words that the count covers. A
+-- refused call leaves none; whatever trace was lent, none tells.
+pub data Played (t : List ℕ) : List ℕ → List Entry → Type 0 where
+  none : {s : List ℕ} → Played t s []
+  refused : {s trace s′ trace′ : List ℕ} {e k n : ℕ} {xs : List Entry} → TakesEventIn t s trace e k n s′ trace′ → (k ≡ 0 → ⊥) → Played t s′ xs → Played t s xs
+  taken : {s trace s′ trace′ : List ℕ} {e k n : ℕ} {xs : List Entry} → TakesEventIn t s trace e k n s′ trace′ → k ≡ 0 → Played t s′ xs
+      → Played t s (record { event = e; state = s′; words = take n trace′ } ∷ xs)

@@ -1,4 +1,5 @@
--- Demand 2, each statement under the sentence that it says, over what `take_event` and `check_table` promise.
+-- Demand 2, each statement under the sentence that it says, over what the event call and the table check promise, in numbers: k is
+-- the answer, n the count.
 use mathlib.Core.Path.{_≡_}
 use mathlib.Core.Logic.{_↔_}
 use mathlib.Core.List.{List}
@@ -8,32 +9,24 @@ use Rattle.rulebook.specs.Reasons.{bound}
 use Rattle.rulebook.specs.Events.{happen}
 use Rattle.laws.specs.Acceptance.{Rules}
 use Rattle.laws.specs.Chosen.{Arbitrated}
-use Rattle.tables.specs.declared.Checked.{Checked}
-use Rattle.tables.specs.Told.{told}
-use Rattle.events.specs.declared.Answer.{Answer}
-use Rattle.events.specs.Answers.{numberOf, countOf}
-use Rattle.manager.specs.Promises.{ChecksTable, TakesEvent}
+use Rattle.manager.specs.Promises.{ChecksTableIn, TakesEventIn}
 
--- the words that a call reports as written
-abbrev pub newWords : Answer → List ℕ → List ℕ
-newWords r trace′ = take (countOf r) trace′
-
-pub record Steps (t s trace : List ℕ) (e : ℕ) (r : Answer) (s′ trace′ : List ℕ) : Type 0 where
+pub record Steps (t s trace : List ℕ) (e n : ℕ) (s′ trace′ : List ℕ) : Type 0 where
   pub state : s′ ≡ happen t e s .state
-  pub count : countOf r ≡ length (happen t e s .words)
-  pub within : countOf r ≤ bound t
-  pub new : newWords r trace′ ≡ happen t e s .words
-  pub unchanged : drop (countOf r) trace′ ≡ drop (countOf r) trace
+  pub count : n ≡ length (happen t e s .words)
+  pub within : n ≤ bound t
+  pub new : take n trace′ ≡ happen t e s .words
+  pub unchanged : drop n trace′ ≡ drop n trace
 
--- any answer r, state s′ and trace′ that `take_event` allows with answer 0 have P
-abbrev pub OfEachCall : ((t s trace : List ℕ) (e : ℕ) (r : Answer) (s′ trace′ : List ℕ) → Type 0) → Type 0
-OfEachCall P = (t s trace : List ℕ) (e : ℕ) (r : Answer) (s′ trace′ : List ℕ) → TakesEvent t s trace e r s′ trace′ → numberOf r ≡ 0 → P t s trace e r s′ trace′
+-- any count n, state s′ and trace′ that the event call allows with answer 0 have P
+abbrev pub OfEachCall : ((t s trace : List ℕ) (e n : ℕ) (s′ trace′ : List ℕ) → Type 0) → Type 0
+OfEachCall P = (t s trace : List ℕ) (e k n : ℕ) (s′ trace′ : List ℕ) → TakesEventIn t s trace e k n s′ trace′ → k ≡ 0 → P t s trace e n s′ trace′
 
 pub record Demand2 : Type 0 where
   -- "For an accepted table, each event gives exactly the next state and ordered trace that document 01 condenses from the AUTOSAR
   -- papers: .. the reported count true."
   pub steps : OfEachCall Steps
   -- "lists by falling priority, each chosen list run once on its own account"
-  pub lists : OfEachCall (λ t s trace e r s′ trace′. Arbitrated t e s s′ (newWords r trace′))
+  pub lists : OfEachCall (λ t s trace e n s′ trace′. Arbitrated t e s s′ (take n trace′))
   -- "A table is accepted exactly if document 01's rules hold of it."
-  pub accepts : (t : List ℕ) (c : Checked) → ChecksTable t c → (told c .reason ≡ 0) ↔ Rules t
+  pub accepts : (t : List ℕ) (reason place bound : ℕ) → ChecksTableIn t reason place bound → (reason ≡ 0) ↔ Rules t

@@ -5,7 +5,7 @@ use mathlib.Core.Path.{_≡_}
 use mathlib.Core.Bool.{Bool}
 use mathlib.Core.List.{List, [], _∷_, _++_}
 use Prim.Native.Nat.{ℕ, _<_, _^_}
-use lib.ListN.{length, drop}
+use lib.ListN.{length, take, drop}
 use Rattle.rulebook.specs.Events.{happen}
 use Rattle.rulebook.specs.Step.{step}
 use Rattle.laws.specs.Sequence.{Each}
@@ -13,7 +13,6 @@ use Rattle.laws.specs.Chosen.{runAll, beforeLists, ListsRan}
 use Rattle.events.specs.declared.Answer.{Answer}
 use Rattle.events.specs.Answers.{numberOf, countOf}
 use Rattle.manager.specs.Promises.{TakesEvent}
-use Rattle.demands.specs.Demand2.{newWords}
 
 pub record Outcome : Type 0 where
   pub answer : Answer
@@ -78,7 +77,7 @@ pub record OnlyFirstList (p : Program) : Type 0 where
   pub trace : List ℕ
   pub event : ℕ
   pub call : Several table state trace event
-  pub alone : newWords (p table state trace event .answer) (p table state trace event .trace)
+  pub alone : take (countOf (p table state trace event .answer)) (p table state trace event .trace)
       ≡ runAll table (call .first ∷ []) (beforeLists table (call .ports) (call .from)) .words
 
 -- The words that a program writes of a trace of some length are those that do not hang on it: whatever is lent, they stand at its

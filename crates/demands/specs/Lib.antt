@@ -1,6 +1,8 @@
 -- The user's three demands, over what the public entries promise.
 pub mod Calls
-pub mod Demands
+pub mod Demand1
 pub mod Demand2
-pub mod Idle
+pub mod Demand3
+pub mod Conclusions
 pub mod TwoLists
+pub mod Idle

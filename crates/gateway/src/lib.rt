@@ -1,13 +1,9 @@
 // What a gateway's C or Rust code links: `manager`'s entries under C's calling convention, their answers in document 01's numbers.
 // library/herringcart.h says what each call needs of its pointers.
 ghost use mathlib.Core.Path.{_≡_};
-ghost use lib.ListN.{length};
-ghost use Rattle.rulebook.specs.State.{stateLength};
-ghost use Rattle.rulebook.specs.Step.{refusedState, step};
-ghost use Rattle.tables.specs.Told.{Says, promised};
-ghost use Rattle.states.specs.Made.{numberOf as madeNumber, Makes};
-ghost use Rattle.events.specs.Answers.{Tells};
+ghost use Rattle.states.specs.Made.{numberOf as madeNumber};
 ghost use Rattle.manager.specs.Answers.{stateNumber};
+ghost use Rattle.manager.specs.Promises.{ChecksTableIn, CountsWords, MakesFreshIn, ChecksStateIn, TakesEventIn};
 use manager::Fit;
 use states::Made;
 
@@ -34,7 +30,7 @@ fn fit_number(fit: Fit) -> u32
 // Checks a table: gives its reason, 0 if it is accepted, and writes the place and B.
 #[no_mangle]
 pub extern "C" fn herringcart_check_table(table: &[u32], place: &mut usize, bound: &mut u32) -> u32
-    ensures { λ r. ⌜ Says (promised (now (table .entry))) r (now (place .exit)) (now (bound .exit)) ⌝ }
+    ensures { λ r. ⌜ ChecksTableIn (now (table .entry)) r (now (place .exit)) (now (bound .exit)) ⌝ }
 {
     let said = tables::numbers(manager::check_table(table));
     *place = said.1;
@@ -45,7 +41,7 @@ pub extern "C" fn herringcart_check_table(table: &[u32], place: &mut usize, boun
 // How many words a state of this table has, by its header alone.
 #[no_mangle]
 pub extern "C" fn herringcart_state_words(table: &[u32]) -> usize
-    ensures { λ r. ⌜ r ≡ stateLength (now (table .entry)) ⌝ }
+    ensures { λ r. ⌜ CountsWords (now (table .entry)) r ⌝ }
 {
     manager::state_words(table)
 }
@@ -53,7 +49,7 @@ pub extern "C" fn herringcart_state_words(table: &[u32]) -> usize
 // Makes a fresh state in the lent words, 0; or refuses, 1 or 2, and writes nothing.
 #[no_mangle]
 pub extern "C" fn herringcart_make_fresh(table: &[u32], state: &mut [u32]) -> u32
-    ensures { λ r. ⌜ Makes (now (table .entry)) (now (state .entry)) r (now (state .exit)) ⌝ }
+    ensures { λ r. ⌜ MakesFreshIn (now (table .entry)) (now (state .entry)) r (now (state .exit)) ⌝ }
 {
     made_number(manager::make_fresh(table, state))
 }
@@ -61,7 +57,7 @@ pub extern "C" fn herringcart_make_fresh(table: &[u32], state: &mut [u32]) -> u3
 // Checks a state: 0 if it fits, 1 if the table has a reason, 2 if it does not fit.
 #[no_mangle]
 pub extern "C" fn herringcart_check_state(table: &[u32], state: &[u32]) -> u32
-    ensures { λ r. ⌜ r ≡ refusedState (now (table .entry)) (now (state .entry)) ⌝ }
+    ensures { λ r. ⌜ ChecksStateIn (now (table .entry)) (now (state .entry)) r ⌝ }
 {
     fit_number(manager::check_state(table, state))
 }
@@ -75,7 +71,7 @@ pub extern "C" fn herringcart_take_event(
     event: u32,
     count: &mut usize,
 ) -> u32
-    ensures { λ r. ⌜ Tells (step (now (table .entry)) (now (state .entry)) (length (now (trace .entry))) event) (now (trace .entry)) r (now (count .exit)) (now (state .exit)) (now (trace .exit)) ⌝ }
+    ensures { λ r. ⌜ TakesEventIn (now (table .entry)) (now (state .entry)) (now (trace .entry)) event r (now (count .exit)) (now (state .exit)) (now (trace .exit)) ⌝ }
 {
     let answer = manager::take_event(table, state, trace, event);
     *count = events::count(answer);

@@ -1,5 +1,6 @@
 -- What each public entry promises: its input, its answer, and every lent word afterwards. One name an entry, for the contracts and
--- for whoever builds on them.
+-- for whoever builds on them; first over document 01's numbers, as `gateway` hands them to C (..In), then over the answer that the
+-- numbers are of.
 use Prim.Native.Nat.{ℕ}
 use mathlib.Core.Path.{_≡_}
 use mathlib.Core.List.{List}
@@ -7,30 +8,48 @@ use lib.ListN.{length}
 use Rattle.rulebook.specs.State.{stateLength}
 use Rattle.rulebook.specs.Step.{refusedState, step}
 use Rattle.tables.specs.declared.Checked.{Checked}
-use Rattle.tables.specs.Told.{told, promised}
+use Rattle.tables.specs.Told.{told, Says, promised}
 use Rattle.states.specs.declared.Made.{Made}
-use Rattle.states.specs.Made.{Fresh}
+use Rattle.states.specs.Made.{Makes}
+use Rattle.states.specs.Made as made
 use Rattle.events.specs.declared.Answer.{Answer}
-use Rattle.events.specs.Answers.{Told}
+use Rattle.events.specs.Answers.{numberOf, countOf, Tells}
 use Rattle.manager.specs.declared.Fit.{Fit}
 use Rattle.manager.specs.Answers.{stateNumber}
 
--- `check_table` of table t
+-- `check_table` of table t: the reason, the place and B, 0 where there is none
+
+abbrev pub ChecksTableIn : List ℕ → ℕ → ℕ → ℕ → Type 0
+ChecksTableIn t reason place bound = Says (promised t) reason place bound
+
 abbrev pub ChecksTable : List ℕ → Checked → Type 0
-ChecksTable t r = told r ≡ promised t
+ChecksTable t r = ChecksTableIn t (told r .reason) (told r .place) (told r .bound)
 
 -- `state_words` of table t
 abbrev pub CountsWords : List ℕ → ℕ → Type 0
 CountsWords t n = n ≡ stateLength t
 
--- `make_fresh` of table t in the lent state s
+-- `make_fresh` of table t in the lent state s: the answer's number k, the state afterwards
+
+abbrev pub MakesFreshIn : List ℕ → List ℕ → ℕ → List ℕ → Type 0
+MakesFreshIn t s k s′ = Makes t s k s′
+
 abbrev pub MakesFresh : List ℕ → List ℕ → Made → List ℕ → Type 0
-MakesFresh t s r s′ = Fresh t s r s′
+MakesFresh t s r s′ = MakesFreshIn t s (made.numberOf r) s′
 
 -- `check_state` of table t and state s
-abbrev pub ChecksState : List ℕ → List ℕ → Fit → Type 0
-ChecksState t s r = stateNumber r ≡ refusedState t s
 
--- `take_event` of table t, state s, the lent trace and the event word e
+abbrev pub ChecksStateIn : List ℕ → List ℕ → ℕ → Type 0
+ChecksStateIn t s k = k ≡ refusedState t s
+
+abbrev pub ChecksState : List ℕ → List ℕ → Fit → Type 0
+ChecksState t s r = ChecksStateIn t s (stateNumber r)
+
+-- `take_event` of table t, state s, the lent trace and the event word e: the answer's number k and the count n, state and trace
+-- afterwards
+
+abbrev pub TakesEventIn : List ℕ → List ℕ → List ℕ → ℕ → ℕ → ℕ → List ℕ → List ℕ → Type 0
+TakesEventIn t s trace e k n s′ trace′ = Tells (step t s (length trace) e) trace k n s′ trace′
+
 abbrev pub TakesEvent : List ℕ → List ℕ → List ℕ → ℕ → Answer → List ℕ → List ℕ → Type 0
-TakesEvent t s trace e r s′ trace′ = Told (step t s (length trace) e) trace r s′ trace′
+TakesEvent t s trace e r s′ trace′ = TakesEventIn t s trace e (numberOf r) (countOf r) s′ trace′

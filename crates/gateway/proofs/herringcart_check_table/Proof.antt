@@ -1,4 +1,5 @@
 -- `gateway::herringcart_check_table` meets its promise: the numbers of what the table check tells. Assumes nothing.
+use mathlib.Core.Path.{_∙_}
 use borrow.Author.Needs.{needs}
 use Rattle.gateway.proofs.herringcart_check_table.Statement.{statement}
 use Rattle.gateway.proofs.herringcart_check_table.Tie as tie
@@ -10,7 +11,9 @@ numbers-requires : tie.Need-numbers-requires
 numbers-requires c κs = search needs
 
 returns : tie.Need-returns
-returns c = rw (c .before .check-table .ensures) at (c .numbers .ensures)
+returns c =
+    let said = c .numbers .ensures in let is = c .before .check-table .ensures in
+    (said .0 ∙ is .0, said .1 ∙ is .1, said .2 ∙ is .2)
 
 pub herringcart-check-table-spec : {M : Type 1} → statement M
 herringcart-check-table-spec = tie.close (tie.spec check-table-requires numbers-requires returns)

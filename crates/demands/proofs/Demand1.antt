@@ -1,0 +1,91 @@
+-- Demand 1 holds of whatever the promises of the public entries allow. Assumes nothing.
+use mathlib.Core.Path.{_≡_, refl, sym, _∙_, ap}
+use mathlib.Core.Bool.{true, false}
+use mathlib.Core.List.{List, [], _++_}
+use Prim.Native.Nat.{ℕ}
+use native.Mathlib.Omega.{arith}
+use lib.ListN.{length, drop}
+use lib.Dec.{ltb, eqb}
+use borrow.Author.Tests.{eqb-true, eqb-false, eq-eqb, ne-eqb}
+use Rattle.rulebook.specs.Reasons.{Verdict, bound, accepted, check}
+use Rattle.rulebook.specs.State.{stateLength, fits, fresh, freshAnswer, freshState}
+use Rattle.rulebook.specs.Step.{refusedState, firstFault, wellFormed, known, sentByOwner, finish, conclude, step}
+use Rattle.laws.specs.Acceptance.{Given}
+use Rattle.laws.proofs.Tests.{split}
+use Rattle.laws.proofs.Acceptance.{Exact, clean, given, check-exact}
+use Rattle.laws.proofs.Facts.{facts}
+use Rattle.laws.proofs.Steps.{refusal-changes-nothing, happen-shallow}
+use Rattle.tables.specs.Told.{promised}
+use Rattle.manager.specs.Promises.{ChecksTableIn, MakesFreshIn, ChecksStateIn, TakesEventIn}
+use Rattle.demands.specs.Demand1.{TableAnswered, FreshAnswered, StateAnswered, EventAnswered, Demand1}
+
+-- The table check.
+
+check-first : (t : List ℕ) (v : Verdict) → Exact t v → (v .reason ≡ 0 → ⊥) → Given t (v .reason) (v .place)
+check-first t v (clean b is) n = absurd (n (ap (λ (u : Verdict). u .reason) is))
+check-first t v (given g is) n = rw is g
+
+check-place : (t : List ℕ) (v : Verdict) → Exact t v → v .reason ≡ 0 → v .place ≡ 0
+check-place t v (clean b is) z = ap (λ (u : Verdict). u .place) is
+check-place t v (given g is) z = let y = ap (λ (u : Verdict). u .reason) is in let one = g .atLeast in absurd (omega arith)
+
+pub table-answered : (t : List ℕ) (reason place b : ℕ) → ChecksTableIn t reason place b → TableAnswered t reason place b
+unfolding promised
+table-answered t reason place b p =
+    let is : reason ≡ check t .reason = p .0 in
+    record {
+      first = λ n. rw (is, p .1) (check-first t (check t) (check-exact t) (λ z. n (is ∙ z)));
+      noPlace = λ z. p .1 ∙ check-place t (check t) (check-exact t) (sym is ∙ z);
+      bound = λ z. p .2 ∙ rw (eq-eqb _ 0 (sym is ∙ z));
+      noBound = λ n. p .2 ∙ rw (ne-eqb (check t .reason) 0 (λ z. n (is ∙ z)));
+    }
+
+-- Making a fresh state.
+
+pub fresh-answered : (t s : List ℕ) (k : ℕ) (s′ : List ℕ) → MakesFreshIn t s k s′ → FreshAnswered t s k s′
+unfolding freshAnswer freshState
+fresh-answered t s k s′ p =
+    record {
+      badTable = λ a. p .answer ∙ rw a;
+      wrongLength = λ a l. p .answer ∙ rw (a, ne-eqb (length s) (stateLength t) l);
+      done = λ a l. p .answer ∙ rw (a, eq-eqb (length s) (stateLength t) l);
+      made = λ z. p .state ∙ rw (sym (p .answer) ∙ z);
+      stateKept = λ n. p .state ∙ rw (ne-eqb (freshAnswer t s) 0 (λ z. n (p .answer ∙ z)));
+    }
+
+-- The state check.
+
+pub state-answered : (t s : List ℕ) (k : ℕ) → ChecksStateIn t s k → StateAnswered t s k
+unfolding refusedState
+state-answered t s k p = record { badTable = λ a. p ∙ rw a; unfit = λ a f. p ∙ rw (a, f); done = λ a f. p ∙ rw (a, f) }
+
+-- The event call.
+
+fault-is : (t s : List ℕ) (room e : ℕ) → step t s room e .answer ≡ firstFault t s room e
+unfolding step conclude finish firstFault
+fault-is t s room e =
+    split (accepted t)
+    (λ a. split (fits t s)
+    (λ b. split (ltb room (bound t)) (λ c. rw (a, b, c))
+    (λ c. split (wellFormed e)
+    (λ d. split (known t e)
+    (λ f. split (sentByOwner t e) (λ g. rw (a, b, c, d, f, g, happen-shallow t (facts t a) e s)) (λ g. rw (a, b, c, d, f, g)))
+    (λ f. rw (a, b, c, d, f)))
+    (λ d. rw (a, b, c, d))))
+    (λ b. rw (a, b)))
+    (λ a. rw a)
+
+pub event-answered : (t s trace : List ℕ) (e k n : ℕ) (s′ trace′ : List ℕ) → TakesEventIn t s trace e k n s′ trace′ → EventAnswered t s trace e k n s′ trace′
+event-answered t s trace e k n s′ trace′ p =
+    record {
+      number = p .answer ∙ fault-is t s (length trace) e;
+      stateKept = λ r. p .state ∙ same r .0;
+      traceKept = λ r. p .words ∙ ap (λ (ws : List ℕ). ws ++ drop (length ws) trace) (same r .1);
+      noCount = λ r. p .count ∙ ap (λ (ws : List ℕ). length ws) (same r .1);
+    }
+  where
+    same : (k ≡ 0 → ⊥) → (step t s (length trace) e .state ≡ s) × (step t s (length trace) e .words ≡ [])
+    same r = refusal-changes-nothing t s (length trace) e (λ z. r (p .answer ∙ z))
+
+pub demand-1 : Demand1
+demand-1 = record { checkTable = table-answered; makeFresh = fresh-answered; checkState = state-answered; takeEvent = event-answered }

@@ -1,0 +1,35 @@
+-- What the demands conclude of one call of each entry: t, s, trace and e are handed in, the numbers answered, s′ and trace′ what is lent
+-- afterwards.
+use mathlib.Core.Path.{_≡_}
+use mathlib.Core.List.{List, [], _∷_, _++_}
+use mathlib.Core.Logic.{_↔_}
+use Prim.Native.Nat.{ℕ}
+use lib.ListN.{take}
+use Rattle.laws.specs.Acceptance.{Rules}
+use Rattle.laws.specs.Chosen.{Arbitrated}
+use Rattle.stranger.specs.Logs.{Entry, stateAfter}
+use Rattle.stranger.specs.Statements.{Demand3}
+use Rattle.demands.specs.Calls.{Played}
+use Rattle.demands.specs.Demand1.{TableAnswered, FreshAnswered, StateAnswered, EventAnswered}
+use Rattle.demands.specs.Demand2.{Steps}
+use Rattle.demands.specs.Demand3.{AnsweredAfter}
+
+pub record OfTable (t : List ℕ) (reason place b : ℕ) : Type 0 where
+  pub answered : TableAnswered t reason place b
+  pub accepts : (reason ≡ 0) ↔ Rules t
+
+pub record OfFresh (t s : List ℕ) (k : ℕ) (s′ : List ℕ) : Type 0 where
+  pub answered : FreshAnswered t s k s′
+  -- whatever calls follow from this state
+  pub waits : k ≡ 0 → Demand3 t s′ (Played t s′)
+  pub after : k ≡ 0 → AnsweredAfter t s′
+
+abbrev pub OfState : List ℕ → List ℕ → ℕ → Type 0
+OfState t s k = StateAnswered t s k
+
+pub record OfEvent (t s trace : List ℕ) (e k n : ℕ) (s′ trace′ : List ℕ) : Type 0 where
+  pub answered : EventAnswered t s trace e k n s′ trace′
+  pub steps : k ≡ 0 → Steps t s trace e n s′ trace′
+  pub lists : k ≡ 0 → Arbitrated t e s s′ (take n trace′)
+  -- the log goes on: calls that led from s₀ to s, and this one
+  pub taken : k ≡ 0 → (s₀ : List ℕ) (xs : List Entry) → Played t s₀ xs → stateAfter s₀ xs ≡ s → Played t s₀ (xs ++ record { event = e; state = s′; words = take n trace′ } ∷ [])

@@ -1,0 +1,46 @@
+-- Demand 1. "Any table, state and event may be handed in. Every public entry checks for itself. A refusal gives the numbered answer of
+-- document 01, first fault first, and changes no word of state or trace." A field an entry, over what it promises in numbers.
+use mathlib.Core.Path.{_≡_}
+use mathlib.Core.Bool.{true, false}
+use mathlib.Core.List.{List}
+use Prim.Native.Nat.{ℕ}
+use lib.ListN.{length}
+use Rattle.rulebook.specs.Reasons.{accepted, bound}
+use Rattle.rulebook.specs.State.{stateLength, fits, fresh}
+use Rattle.rulebook.specs.Step.{firstFault}
+use Rattle.laws.specs.Acceptance.{Given}
+use Rattle.manager.specs.Promises.{ChecksTableIn, MakesFreshIn, ChecksStateIn, TakesEventIn}
+
+-- the table check: the first reason that holds, at the lowest word that breaks its rule; B of an accepted table
+pub record TableAnswered (t : List ℕ) (reason place b : ℕ) : Type 0 where
+  pub first : (reason ≡ 0 → ⊥) → Given t reason place
+  pub noPlace : reason ≡ 0 → place ≡ 0
+  pub bound : reason ≡ 0 → b ≡ bound t
+  pub noBound : (reason ≡ 0 → ⊥) → b ≡ 0
+
+-- making a fresh state: 1 before 2
+pub record FreshAnswered (t s : List ℕ) (k : ℕ) (s′ : List ℕ) : Type 0 where
+  pub badTable : accepted t ≡ false → k ≡ 1
+  pub wrongLength : accepted t ≡ true → (length s ≡ stateLength t → ⊥) → k ≡ 2
+  pub done : accepted t ≡ true → length s ≡ stateLength t → k ≡ 0
+  pub made : k ≡ 0 → s′ ≡ fresh t
+  pub stateKept : (k ≡ 0 → ⊥) → s′ ≡ s
+
+-- the state check: 1 before 2
+pub record StateAnswered (t s : List ℕ) (k : ℕ) : Type 0 where
+  pub badTable : accepted t ≡ false → k ≡ 1
+  pub unfit : accepted t ≡ true → fits t s ≡ false → k ≡ 2
+  pub done : accepted t ≡ true → fits t s ≡ true → k ≡ 0
+
+-- the event call
+pub record EventAnswered (t s trace : List ℕ) (e k n : ℕ) (s′ trace′ : List ℕ) : Type 0 where
+  pub number : k ≡ firstFault t s (length trace) e
+  pub stateKept : (k ≡ 0 → ⊥) → s′ ≡ s
+  pub traceKept : (k ≡ 0 → ⊥) → trace′ ≡ trace
+  pub noCount : (k ≡ 0 → ⊥) → n ≡ 0
+
+pub record Demand1 : Type 0 where
+  pub checkTable : (t : List ℕ) (reason place b : ℕ) → ChecksTableIn t reason place b → TableAnswered t reason place b
+  pub makeFresh : (t s : List ℕ) (k : ℕ) (s′ : List ℕ) → MakesFreshIn t s k s′ → FreshAnswered t s k s′
+  pub checkState : (t s : List ℕ) (k : ℕ) → ChecksStateIn t s k → StateAnswered t s k
+  pub takeEvent : (t s trace : List ℕ) (e k n : ℕ) (s′ trace′ : List ℕ) → TakesEventIn t s trace e k n s′ trace′ → EventAnswered t s trace e k n s′ trace′

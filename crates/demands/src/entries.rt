@@ -1,0 +1,34 @@
+// The entries of `manager`.
+ghost use Rattle.tables.specs.Told.{told};
+ghost use Rattle.states.specs.Made.{numberOf as madeNumber};
+ghost use Rattle.events.specs.Answers.{numberOf, countOf};
+ghost use Rattle.manager.specs.Answers.{stateNumber};
+ghost use Rattle.demands.specs.Conclusions.{OfTable, OfFresh, OfState, OfEvent};
+use events::Answer;
+use manager::Fit;
+use states::Made;
+use tables::Checked;
+
+pub fn check_table(t: &[u32]) -> Checked
+    ensures { λ r. ⌜ OfTable (now (t .entry)) (told r .reason) (told r .place) (told r .bound) ⌝ }
+{
+    manager::check_table(t)
+}
+
+pub fn make_fresh(t: &[u32], s: &mut [u32]) -> Made
+    ensures { λ r. ⌜ OfFresh (now (t .entry)) (now (s .entry)) (madeNumber r) (now (s .exit)) ⌝ }
+{
+    manager::make_fresh(t, s)
+}
+
+pub fn check_state(t: &[u32], s: &[u32]) -> Fit
+    ensures { λ r. ⌜ OfState (now (t .entry)) (now (s .entry)) (stateNumber r) ⌝ }
+{
+    manager::check_state(t, s)
+}
+
+pub fn take_event(t: &[u32], s: &mut [u32], trace: &mut [u32], e: u32) -> Answer
+    ensures { λ r. ⌜ OfEvent (now (t .entry)) (now (s .entry)) (now (trace .entry)) e (numberOf r) (countOf r) (now (s .exit)) (now (trace .exit)) ⌝ }
+{
+    manager::take_event(t, s, trace, e)
+}

@@ -1,0 +1,26 @@
+// The same entries as a gateway links them, in numbers.
+ghost use Rattle.demands.specs.Conclusions.{OfTable, OfFresh, OfState, OfEvent};
+
+pub fn check_table(t: &[u32], place: &mut usize, bound: &mut u32) -> u32
+    ensures { λ r. ⌜ OfTable (now (t .entry)) r (now (place .exit)) (now (bound .exit)) ⌝ }
+{
+    gateway::herringcart_check_table(t, place, bound)
+}
+
+pub fn make_fresh(t: &[u32], s: &mut [u32]) -> u32
+    ensures { λ r. ⌜ OfFresh (now (t .entry)) (now (s .entry)) r (now (s .exit)) ⌝ }
+{
+    gateway::herringcart_make_fresh(t, s)
+}
+
+pub fn check_state(t: &[u32], s: &[u32]) -> u32
+    ensures { λ r. ⌜ OfState (now (t .entry)) (now (s .entry)) r ⌝ }
+{
+    gateway::herringcart_check_state(t, s)
+}
+
+pub fn take_event(t: &[u32], s: &mut [u32], trace: &mut [u32], e: u32, count: &mut usize) -> u32
+    ensures { λ r. ⌜ OfEvent (now (t .entry)) (now (s .entry)) (now (trace .entry)) e r (now (count .exit)) (now (s .exit)) (now (trace .exit)) ⌝ }
+{
+    gateway::herringcart_take_event(t, s, trace, e, count)
+}
