@@ -22,10 +22,10 @@ of-fresh t s k s′ p = record { answered = fresh-answered t s k s′ p; waits =
 goes-on : (t s trace : List ℕ) (e k n : ℕ) (s′ trace′ : List ℕ) → TakesEventIn t s trace e k n s′ trace′ → k ≡ 0 → (s₀ : List ℕ) (xs : List Entry) → Played t s₀ xs → stateAfter s₀ xs ≡ s
     → Played t s₀ (xs ++ record { event = e; state = s′; words = take n trace′ } ∷ [])
 unfolding stateAfter
-goes-on t s trace e k n s′ trace′ p z s₀ xs calls.none is = rw is (calls.taken p z calls.none)
-goes-on t s trace e k n s′ trace′ p z s₀ xs (calls.refused {s′ = u} q r rest) is =
-    calls.refused q r (goes-on t s trace e k n s′ trace′ p z u xs rest (rw (event-answered t s₀ _ _ _ _ u _ q .stateKept r) is))
-goes-on t s trace e k n s′ trace′ p z s₀ xs (calls.taken {s′ = u} {xs = ys} q r rest) is = calls.taken q r (goes-on t s trace e k n s′ trace′ p z u ys rest is)
+goes-on t s trace e k n s′ trace′ p z s₀ xs calls.none is = rw is (calls.taken e p z calls.none)
+goes-on t s trace e k n s′ trace′ p z s₀ xs (calls.refused {s′ = u} d q r rest) is =
+    calls.refused d q r (goes-on t s trace e k n s′ trace′ p z u xs rest (rw (event-answered t s₀ _ d _ _ u _ q .stateKept r) is))
+goes-on t s trace e k n s′ trace′ p z s₀ xs (calls.taken {s′ = u} d {xs = ys} q r rest) is = calls.taken d q r (goes-on t s trace e k n s′ trace′ p z u ys rest is)
 
 pub of-event : (t s trace : List ℕ) (e k n : ℕ) (s′ trace′ : List ℕ) → TakesEventIn t s trace e k n s′ trace′ → OfEvent t s trace e k n s′ trace′
 of-event t s trace e k n s′ trace′ p =

@@ -45,8 +45,8 @@ follows t s trace e k n s′ trace′ p z =
 
 pub log-of : (t s : List ℕ) (xs : List Entry) → Played t s xs → Log t s xs
 log-of t s xs calls.none = tt
-log-of t s xs (calls.refused {s′ = u} p n rest) = rw (event-answered t s _ _ _ _ u _ p .stateKept n) at (log-of t u xs rest)
-log-of t s xs (calls.taken {s′ = u} {xs = ys} p z rest) = (follows t s _ _ _ _ u _ p z, log-of t u ys rest)
+log-of t s xs (calls.refused {s′ = u} e p n rest) = rw (event-answered t s _ e _ _ u _ p .stateKept n) at (log-of t u xs rest)
+log-of t s xs (calls.taken {s′ = u} e {xs = ys} p z rest) = (follows t s _ e _ _ u _ p z, log-of t u ys rest)
 
 -- The answers after any calls.
 

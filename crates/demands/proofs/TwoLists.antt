@@ -21,7 +21,7 @@ use Rattle.rulebook.specs.Lists.{runItems, runList}
 use Rattle.rulebook.specs.Arbitration.{unmarkPort, unmarkPorts, evaluated, storeResult, storeResults, chooses, chosen, ofPriority, orderBelow, order}
 use Rattle.rulebook.specs.Arbitration.{runIf, runChosen, decide, arbitrate}
 use Rattle.rulebook.specs.Events.{eventKind, eventIndex, eventTick, only, request, happen}
-use Rattle.rulebook.specs.Step.{refusedState, refusedCall, wellFormed, named, present, suited, known, sentByOwner, refusedEvent, finish, handle, step}
+use Rattle.rulebook.specs.Step.{wellFormed, named, present, suited, known, sentByOwner, firstFault, finish, conclude, step}
 use Rattle.rulebook.specs.Marked.{same, gives}
 use Rattle.laws.specs.Sequence.{times}
 use Rattle.laws.specs.Chosen.{Chosen, ListsRan, setsPort, valueSet, Arbitrated, allMarked, onePort, noPort}
@@ -40,8 +40,8 @@ unfolding digit first all any sum listed each part stranger operator expressionN
     owners itemCost listCost costWithin bound affordable breaks lowest wholly wordwise check thing ownerOf packPort packRule portFits
     ruleFits thingFits fitsAt fits traceWord setPort effect act valueIn undefinedIn unready resultIn choice choiceIn setResult runItem
     runItems runList unmarkPort unmarkPorts evaluated storeResult storeResults chooses chosen ofPriority orderBelow order runIf
-    runChosen decide arbitrate only request happen refusedState refusedCall wellFormed named present suited known sentByOwner
-    refusedEvent finish handle step same gives table fresh bothRun
+    runChosen decide arbitrate only request happen wellFormed named present suited known sentByOwner
+    firstFault finish conclude step same gives table fresh bothRun
 claim = refl
 
 -- both lists are chosen

@@ -7,10 +7,12 @@ use native.Mathlib.Omega.{arith}
 use borrow.Author.Tests.{lt-leb, ne-eqb, eqb-true}
 use Rattle.rulebook.specs.Table.{threshold, l2, networkOwner, itemKind, itemA, itemAsk, platform}
 use Rattle.rulebook.specs.Reasons.{itemOwned}
-use Rattle.rulebook.specs.State.{stateRecover, statusPending}
+use lib.Dec.{eqb}
+use Rattle.rulebook.specs.State.{ownerOf, stateRecover, statusPending}
 use Rattle.rulebook.specs.Lists.{networkIn}
 use Rattle.rulebook.specs.Arbitration.{unmarkPort}
-use Rattle.rulebook.specs.Events.{statusIn, wake, moved, moveNetwork, takes, wait, offBus, busOff}
+use Rattle.rulebook.specs.Step.{named, sentByOwner}
+use Rattle.rulebook.specs.Events.{eventKind, eventOwner, eventTick, statusIn, wake, moved, moveNetwork, takes, wait, offBus, busOff}
 
 -- a repeated wakeup does not restart the timeout
 pub wake-pending : (t : List ℕ) (k : ℕ) (s : List ℕ) → statusIn t k s ≡ statusPending → wake t k s ≡ s
@@ -34,3 +36,8 @@ wait-at-threshold t n s h e b =
 pub asks-own : (t : List ℕ) (o i : ℕ) → itemOwned t o i ≡ true → (o ≡ platform → ⊥) → itemKind t i ≡ itemAsk → networkOwner t (itemA t i) ≡ o
 unfolding itemOwned
 asks-own t o i h ne k = eqb-true (networkOwner t (itemA t i)) o (rw (k, ne-eqb o platform ne) at h)
+
+-- an event that answer 6 does not refuse carries its thing's owner, not even the platform excepted; a tick names nothing
+pub sent-by-owner : (t : List ℕ) (e : ℕ) → sentByOwner t e ≡ true → eqb (eventKind e) eventTick ≡ false → eventOwner e ≡ ownerOf t (named e)
+unfolding sentByOwner
+sent-by-owner t e h k = eqb-true (eventOwner e) (ownerOf t (named e)) (rw k at h)
