@@ -40,15 +40,13 @@ pub fn long(folder: &str, command: &[&str]) -> Result<(), String> {
         Long { name: "truck", draft: draft(&truck)?, events: 2 * BLOCK + 9_001, past: 3 },
         Long { name: "generated table", draft: generated, events: 2 * BLOCK + 1, past: 2 },
     ];
-    for file in files {
-        let events = sent(&mut rng, &file.draft, file.events);
-        let table = file.draft.words();
-        shows(&table, &events).map_err(|what| format!("{}: {what}", file.name))?;
-        let moving = moved(&table, &events);
-        program
-            .compare(&bytes(&table, 0), &bytes(&events, file.past))
-            .map_err(|what| format!("{}: {what}", file.name))?;
-        println!("{}: {} events, {moving} of them move the state: the same bytes", file.name, file.events);
+    for Long { name, draft, events: count, past } in files {
+        let (table, events) = (draft.words(), sent(&mut rng, &draft, count));
+        let compared = moves(&table, &events)
+            .and_then(|()| shows(&table, &events))
+            .and_then(|()| program.compare(&bytes(&table, 0), &bytes(&events, past)));
+        compared.map_err(|what| format!("{name}: {what}"))?;
+        println!("{name}: {count} events: the same bytes");
     }
     Ok(())
 }
@@ -61,9 +59,28 @@ fn sent(rng: &mut Prng, draft: &Draft, count: usize) -> Vec<u32> {
     let mut events = vec![];
     while events.len() < count {
         let piece = PIECE.min(count - events.len());
-        events.extend(sequence(rng, draft, piece, REFUSED_PERCENT).into_iter().map(|(event, _)| event));
+        events.extend(
+            sequence(rng, draft, piece, REFUSED_PERCENT).into_iter().map(|(event, _)| event),
+        );
     }
     events
+}
+
+/// Fails where fewer than half of the events change the state.
+fn moves(table: &[u32], events: &[u32]) -> Result<(), String> {
+    let mut state = vec![0; herringcart::state_words(table)];
+    let mut trace = vec![0; second::check(table).b];
+    second::fresh(table, &mut state);
+    let mut moving = 0;
+    for &event in events {
+        let before = state.clone();
+        second::step(table, &mut state, &mut trace, event);
+        moving += usize::from(state != before);
+    }
+    if 2 * moving < events.len() {
+        return Err(format!("only {moving} of {} events change the state", events.len()));
+    }
+    Ok(())
 }
 
 /// Fails where a block that starts from the fresh state prints what it prints in its place.
@@ -77,18 +94,4 @@ fn shows(table: &[u32], events: &[u32]) -> Result<(), String> {
         }
     }
     Ok(())
-}
-
-/// How many events change the state.
-fn moved(table: &[u32], events: &[u32]) -> usize {
-    let mut state = vec![0; herringcart::state_words(table)];
-    let mut trace = vec![0; second::check(table).b];
-    second::fresh(table, &mut state);
-    let mut count = 0;
-    for &event in events {
-        let before = state.clone();
-        second::step(table, &mut state, &mut trace, event);
-        count += usize::from(state != before);
-    }
-    count
 }

@@ -25,18 +25,18 @@ opens-lent opens none long room =
       room = let b = opened-trace opens none in omega arith;
     }
 
-pub ran-from : {t s s₁ es : List ℕ} {ended : Bool} {s′ : List ℕ} → s₁ ≡ s → Ran t s₁ es ended s′ → Ran t s es ended s′
-ran-from {t} {es = es} {ended} {s′} is r = subst (λ (v : List ℕ). Ran t v es ended s′) is r
+pub ran-from : {t s s₁ es : List ℕ} {whole : Bool} {s′ : List ℕ} → s₁ ≡ s → Ran t s₁ es whole s′ → Ran t s es whole s′
+ran-from {t} {es = es} {whole} {s′} is r = subst (λ (v : List ℕ). Ran t v es whole s′) is r
 
 -- a run that goes on behind a whole block
-pub ran-on : {t s s₁ es fs : List ℕ} {ended : Bool} {s′ : List ℕ} → s₁ ≡ stateAfter t s es → Ran t s₁ fs ended s′ → Ran t s es ended s′
+pub ran-on : {t s s₁ es fs : List ℕ} {whole : Bool} {s′ : List ℕ} → s₁ ≡ stateAfter t s es → Ran t s₁ fs whole s′ → Ran t s es whole s′
 ran-on {t} {s} {s₁} {es} {fs} is (kept.past later h) =
     kept.past (fs ++ later) (h ∙ ap (λ (v : List ℕ). stateAfter t v (fs ++ later)) is ∙ sym (state-append t s es (fs ++ later)))
 ran-on {t} {s} {s₁} {es} {fs} is (kept.stopped p) =
     let some = take (p .count) fs in
     kept.past some (p .state ∙ ap (λ (v : List ℕ). stateAfter t v some) is ∙ sym (state-append t s es some))
 
--- a run that takes no further block has ended only where the block has no bytes
+-- a run that takes no further block leaves none before its end only where the one at hand has no bytes
 pub ran-none : (t s block : List ℕ) (n : ℕ) → Ran t s (wordsOf (take n block)) (eqb n 0) s
 unfolding stateAfter wordsOf
 ran-none t s block n = by (eqb n 0) refl

@@ -24,8 +24,8 @@ pub record TookBlock (t s es : List ℕ) (written : Bool) (s′ : List ℕ) : Ty
   pub all : written ≡ true → s′ ≡ stateAfter t s es
   pub some : TookSome t s es s′
 
--- A run whose first block has the events es; `ended` says that it came to the end of the file. What a file's later blocks hold no
+-- A run whose first block has the events es; `whole` says that no block was left before its end. What a file's later blocks hold no
 -- contract says, so their events are some list.
 pub data Ran (t s es : List ℕ) : Bool → List ℕ → Type 0 where
-  past : {ended : Bool} {s′ : List ℕ} (later : List ℕ) → s′ ≡ stateAfter t s (es ++ later) → Ran t s es ended s′
+  past : {whole : Bool} {s′ : List ℕ} (later : List ℕ) → s′ ≡ stateAfter t s (es ++ later) → Ran t s es whole s′
   stopped : {s′ : List ℕ} → TookSome t s es s′ → Ran t s es false s′

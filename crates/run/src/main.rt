@@ -151,8 +151,8 @@ fn next_block(
     Turn { written, bytes }
 }
 
-// Runs the first block and then those that the file still has; false where it did not come to the file's end. A proved loop has to
-// end, and nothing says that a file does: the turns count down from a number that no run uses up.
+// Runs the first block and then those that the file still has; false where one was left before its end. A proved loop has to end, and
+// nothing says that a file does: the turns count down from a number that no run uses up.
 fn run(
     t: &[u32],
     s: &mut [u32],

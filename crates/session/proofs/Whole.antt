@@ -91,7 +91,8 @@ blocks-print t s file ls (blocks.block {bytes = bytes} {rest = rest} {s₁ = s�
 
 -- The program, by what its functions promise.
 
-fresh-printed : (table events ls : List ℕ) → accepted (wordsOf table) ≡ true → Blocks (wordsOf table) (fresh (wordsOf table)) events ls → ls ≡ printed table events
+fresh-printed : (table events ls : List ℕ) → accepted (wordsOf table) ≡ true → Blocks (wordsOf table) (fresh (wordsOf table)) events ls
+    → ls ≡ printed table events
 unfolding printed
 fresh-printed table events ls h b = rw h (blocks-print (wordsOf table) (fresh (wordsOf table)) events ls b)
 
@@ -119,8 +120,8 @@ run-printed table events ls opens none long made b =
     fresh-printed table events ls ok (rw (made-fresh ok (long ∙ opened-state opens none) made) at b)
 
 -- a reason from `open`, and the bytes that `lay_reason` lays for it where there is room
-pub reason-printed : (table events : List ℕ) {o : Opening} {out : List ℕ} {n : ℕ} {out′ : List ℕ} → Opens (wordsOf table) o → (o .reason ≡ 0 → ⊥) → 22 ≤ length out
-    → PutLines 22 (reasonLines (verdict (o .reason) (o .place))) out n out′ → take n out′ ≡ printed table events
+pub reason-printed : (table events : List ℕ) {o : Opening} {out : List ℕ} {n : ℕ} {out′ : List ℕ} → Opens (wordsOf table) o → (o .reason ≡ 0 → ⊥)
+    → 22 ≤ length out → PutLines 22 (reasonLines (verdict (o .reason) (o .place))) out n out′ → take n out′ ≡ printed table events
 unfolding printed lay
 reason-printed table events {out = out} opens some room put =
     let no : accepted (wordsOf table) ≡ false = ne-eqb (check (wordsOf table) .reason) 0 (λ e. some (opens .reason ∙ e)) in

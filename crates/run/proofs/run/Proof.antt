@@ -26,7 +26,7 @@ Inv-loop t s₀ trace₀ fd path block₀ first out₀ n₀ turns₀ s trace blo
     × (262144 ≡ length out)
     × Counts n block
     × Ready t s trace
-    × ((ended : Bool) (s′ : List ℕ) → Ran t s (wordsOf (take n block)) ended s′ → Ran t s₀ (wordsOf (take first block₀)) ended s′)
+    × ((whole : Bool) (s′ : List ℕ) → Ran t s (wordsOf (take n block)) whole s′ → Ran t s₀ (wordsOf (take first block₀)) whole s′)
 
 abbrev μ-loop : tie.MeasureT-loop
 μ-loop t s₀ trace₀ fd path block₀ first out₀ n₀ turns₀ s trace block out n turns = turns
@@ -37,7 +37,7 @@ lines-requires c κs = search needs
 loop-holds : tie.Need-loop-holds Inv-loop μ-loop
 loop-holds c =
     let p = c .before .before .before .before .before .before .pre in
-    (refl, refl, refl, c .lines .ensures, p .0, p .1, λ ended s′ r. r)
+    (refl, refl, refl, c .lines .ensures, p .0, p .1, λ whole s′ r. r)
 
 slice-aggregate-next-block : tie.Need-slice-aggregate-next-block Inv-loop μ-loop
 slice-aggregate-next-block c = c .before .before .before .before .before .before .loop .inv .3
@@ -74,7 +74,7 @@ loop-again c =
       l .3 ∙ sym (k .1 .1 .1 .1 .1 .1 .1 .0),
       p .0,
       ready-after _ (l .5) (k .1 .1 .0) (p .1 .some .state),
-      λ ended s′ r. l .6 ended s′ (ran-on (p .1 .all (not-false _ (c .if2 .left))) r),
+      λ whole s′ r. l .6 whole s′ (ran-on (p .1 .all (not-false _ (c .if2 .left))) r),
     )
 
 same-length-4 : tie.Need-same-length-4 Inv-loop μ-loop
