@@ -5,6 +5,7 @@ mod differ;
 mod found;
 mod generated;
 mod hunt;
+mod long;
 mod programs;
 mod shrink;
 mod subject;
@@ -17,6 +18,7 @@ const USAGE: &str = "usage: compare cases SEED COUNT [SEED COUNT ...]
        compare hunt SECONDS
        compare run TABLE EVENTS
        compare programs DIR COUNT SEED PROGRAM...
+       compare long DIR PROGRAM...
        compare bench
        compare bench-programs PROGRAM...";
 
@@ -31,6 +33,7 @@ fn main() -> ExitCode {
         ["programs", folder, count, seed, ref program @ ..] if !program.is_empty() => {
             programs::programs(folder, count, seed, program)
         }
+        ["long", folder, ref program @ ..] if !program.is_empty() => long::long(folder, program),
         ["bench"] => bench::bench(),
         ["bench-programs", ref program @ ..] if !program.is_empty() => bench::programs(program),
         _ => {

@@ -73,7 +73,7 @@ impl<'a> Program<'a> {
     }
 
     /// Fails where its standard output is not the second program's.
-    fn compare(&self, table: &[u8], events: &[u8]) -> Result<(), String> {
+    pub fn compare(&self, table: &[u8], events: &[u8]) -> Result<(), String> {
         self.write(table, events)?;
         let output = self.start()?;
         let expected = printed(table, events);

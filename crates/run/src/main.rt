@@ -1,12 +1,12 @@
 // `run TABLE EVENTS`: document 01's program. Thin: it opens, reads and writes; what is printed is laid by `session`.
 ghost use Prim.Native.Nat.{_+_, _≤_};
-ghost use lib.ListN.{length};
-ghost use mathlib.Core.Bool.{true};
-ghost use mathlib.Core.Path.{_≡_};
+ghost use lib.ListN.{length, take};
+ghost use Rattle.rulebook.specs.State.{fresh};
 ghost use Rattle.text.specs.Words.{wordsOf};
-ghost use Rattle.session.specs.Printed.{stateAfter, most};
+ghost use Rattle.session.specs.Printed.{most};
 ghost use Rattle.session.specs.Promises.{Ready};
 ghost use Rattle.io.specs.Counts.{Counts};
+ghost use Rattle.run.specs.Kept.{Lent, TookBlock, Ran};
 
 mod space;
 
@@ -102,8 +102,7 @@ fn print(out: &[u8]) -> bool {
 // Takes the events of a block and prints their lines; false where they cannot be written.
 fn run_block(t: &[u32], s: &mut [u32], trace: &mut [u32], block: &[u8], out: &mut [u8]) -> bool
     requires { ⌜ Ready (now t) (now s) (now trace) × (most ≤ length (now out)) ⌝ }
-    ensures { λ _. ⌜ Ready (now (t .entry)) (now (s .exit)) (now (trace .exit)) ⌝ }
-    ensures { λ ok. ⌜ (ok ≡ true → now (s .exit) ≡ stateAfter (now (t .entry)) (now (s .entry)) (wordsOf (now (block .entry)))) ⌝ }
+    ensures { λ r. ⌜ TookBlock (now (t .entry)) (now (s .entry)) (wordsOf (now (block .entry))) r (now (s .exit)) ⌝ }
 {
     let total = word_count(block);
     let mut from = 0;
@@ -118,7 +117,13 @@ fn run_block(t: &[u32], s: &mut [u32], trace: &mut [u32], block: &[u8], out: &mu
     true
 }
 
-// Runs the n bytes of a block and reads the next one; the bytes that it has, 0 to end.
+// Whether a block's lines could be written, and the bytes that the next block has, 0 to end.
+struct Turn {
+    written: bool,
+    bytes: usize,
+}
+
+// Runs the n bytes of a block and reads the next one.
 fn next_block(
     t: &[u32],
     s: &mut [u32],
@@ -128,22 +133,26 @@ fn next_block(
     block: &mut [u8],
     n: usize,
     out: &mut [u8],
-) -> usize
+) -> Turn
     requires { ⌜ Counts n (now block) × Ready (now t) (now s) (now trace) × (most ≤ length (now out)) ⌝ }
-    ensures { λ r. ⌜ Counts r (now (block .exit)) × Ready (now (t .entry)) (now (s .exit)) (now (trace .exit)) ⌝ }
+    ensures { λ r. ⌜ Counts (r .bytes) (now (block .exit)) ⌝ }
+    ensures { λ r. ⌜ TookBlock (now (t .entry)) (now (s .entry)) (wordsOf (take n (now (block .entry)))) (r .written) (now (s .exit)) ⌝ }
 {
-    if !run_block(t, s, trace, &block[..n], out) {
-        return 0;
+    let written = run_block(t, s, trace, &block[..n], out);
+    if !written {
+        return Turn { written, bytes: 0 };
     }
     let filled = fill(fd, block);
     if filled.failed {
         os::fail(path);
-        return 0;
+        return Turn { written, bytes: 0 };
     }
-    filled.bytes
+    let bytes = filled.bytes;
+    Turn { written, bytes }
 }
 
-// A proved loop has to end, and nothing says that a file does: the turns count down from a number that no run uses up.
+// Runs the first block and then those that the file still has; false where one was left before its end. A proved loop has to end, and
+// nothing says that a file does: the turns count down from a number that no run uses up.
 fn run(
     t: &[u32],
     s: &mut [u32],
@@ -152,16 +161,39 @@ fn run(
     path: &[u8],
     block: &mut [u8],
     first: usize,
-)
+) -> bool
     requires { ⌜ Counts first (now block) × Ready (now t) (now s) (now trace) ⌝ }
+    ensures { λ r. ⌜ Ran (now (t .entry)) (now (s .entry)) (wordsOf (take first (now (block .entry)))) r (now (s .exit)) ⌝ }
 {
     let mut out = space::lines();
     let mut n = first;
     let mut turns = u64::MAX;
     while turns > 0 && n > 0 {
-        n = next_block(t, s, trace, fd, path, block, n, &mut out);
+        let turn = next_block(t, s, trace, fd, path, block, n, &mut out);
+        if !turn.written {
+            return false;
+        }
+        n = turn.bytes;
         turns -= 1;
     }
+    n == 0
+}
+
+// Makes the fresh state in the lent words and runs from it.
+fn run_fresh(
+    t: &[u32],
+    s: &mut [u32],
+    trace: &mut [u32],
+    fd: i32,
+    path: &[u8],
+    block: &mut [u8],
+    first: usize,
+) -> bool
+    requires { ⌜ Counts first (now block) × Lent (now t) (now s) (now trace) ⌝ }
+    ensures { λ r. ⌜ Ran (now (t .entry)) (fresh (now (t .entry))) (wordsOf (take first (now (block .entry)))) r (now (s .exit)) ⌝ }
+{
+    manager::make_fresh(t, s);
+    run(t, s, trace, fd, path, block, first)
 }
 
 fn print_reason(reason: u32, place: u32) {
@@ -185,8 +217,7 @@ fn play(t: &[u32], fd: i32, path: &[u8], block: &mut [u8], n: usize)
     let mut traces = space::trace_words();
     let s: &mut [u32] = &mut states[..words];
     let trace: &mut [u32] = &mut traces[..room];
-    manager::make_fresh(t, s);
-    run(t, s, trace, fd, path, block, n);
+    run_fresh(t, s, trace, fd, path, block, n);
 }
 
 // The events file is opened and its first block read before anything is printed.

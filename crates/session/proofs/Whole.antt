@@ -7,10 +7,10 @@ use mathlib.Core.List.{List, [], _∷_, _++_, append-nil}
 use native.Mathlib.Nat.{add-zero}
 use native.Mathlib.Omega.{arith}
 use lib.ListN.{length, take, drop, take-append-drop}
-use lib.Seq.{drop-drop, take-append-seam}
+use lib.Seq.{drop-drop, take-add, take-append-seam}
 use lib.Dec.{eqb}
-use borrow.Author.Tests.{eq-eqb}
-use Rattle.rulebook.specs.Reasons.{accepted, check, bound}
+use borrow.Author.Tests.{eq-eqb, ne-eqb, le-leb}
+use Rattle.rulebook.specs.Reasons.{accepted, check, verdict, bound}
 use Rattle.rulebook.specs.State.{fits, fresh, stateLength, freshAnswer, freshState}
 use Rattle.rulebook.specs.Step.{refusedCall}
 use Rattle.laws.proofs.Tests.{split}
@@ -22,7 +22,7 @@ use Rattle.text.proofs.Digits.{below}
 use Rattle.session.specs.declared.Opening.{Opening}
 use Rattle.session.specs.declared.Taken.{Taken}
 use Rattle.session.specs.Printed.{taken, runLines, stateAfter, reasonLines, printed, most}
-use Rattle.session.specs.Promises.{Opens, Ready, offered, TookEvents}
+use Rattle.session.specs.Promises.{Opens, PutLines, Ready, offered, TookEvents}
 use Rattle.session.specs.Blocks.{Calls, Blocks}
 use Rattle.session.specs.Blocks as blocks
 use Rattle.session.proofs.Steps.{ready-is}
@@ -89,15 +89,44 @@ blocks-print t s file ls (blocks.block {bytes = bytes} {rest = rest} {s₁ = s�
     let c = calls-print t bytes 0 s _ s₁ calls in
     rw (two-parts bytes rest whole, lines-append t s (wordsOf bytes) (wordsOf rest), c .0, blocks-print t s₁ rest _ more, c .1)
 
--- The program.
+-- The program, by what its functions promise.
 
-pub run-printed : (table events ls : List ℕ) → accepted (wordsOf table) ≡ true → Blocks (wordsOf table) (fresh (wordsOf table)) events ls → ls ≡ printed table events
+fresh-printed : (table events ls : List ℕ) → accepted (wordsOf table) ≡ true → Blocks (wordsOf table) (fresh (wordsOf table)) events ls
+    → ls ≡ printed table events
 unfolding printed
-run-printed table events ls h b = rw h (blocks-print (wordsOf table) (fresh (wordsOf table)) events ls b)
+fresh-printed table events ls h b = rw h (blocks-print (wordsOf table) (fresh (wordsOf table)) events ls b)
 
-pub reason-printed : (table events : List ℕ) → accepted (wordsOf table) ≡ false → reasonLines (check (wordsOf table)) ≡ printed table events
-unfolding printed
-reason-printed table events h = rw h
+-- no reason from `open`: the table stands, and the sizes are those of its state and of its trace
+module _ {t : List ℕ} {o : Opening} (opens : Opens t o) (none : o .reason ≡ 0) where
+  pub opened : accepted t ≡ true
+  opened = eq-eqb (check t .reason) 0 (sym (opens .reason) ∙ none)
+
+  pub opened-state : o .state ≡ stateLength t
+  opened-state = rw opened at (opens .state)
+
+  pub opened-trace : o .trace ≡ bound t
+  opened-trace = rw opened at (opens .trace)
+
+-- what `make_fresh` leaves in as many words as the state has
+pub made-fresh : {t s₀ s : List ℕ} {k : ℕ} → accepted t ≡ true → length s₀ ≡ stateLength t → Makes t s₀ k s → s ≡ fresh t
+unfolding freshAnswer freshState
+made-fresh {t} {s₀} ok long made = let right = eq-eqb (length s₀) (stateLength t) long in rw (ok, right) at (made .state)
+
+-- no reason from `open`, a state from `make_fresh`, and the file's blocks from there
+pub run-printed : (table events ls : List ℕ) {o : Opening} {s₀ s : List ℕ} {k : ℕ} → Opens (wordsOf table) o → o .reason ≡ 0 → length s₀ ≡ o .state
+    → Makes (wordsOf table) s₀ k s → Blocks (wordsOf table) s events ls → ls ≡ printed table events
+run-printed table events ls opens none long made b =
+    let ok = opened opens none in
+    fresh-printed table events ls ok (rw (made-fresh ok (long ∙ opened-state opens none) made) at b)
+
+-- a reason from `open`, and the bytes that `lay_reason` lays for it where there is room
+pub reason-printed : (table events : List ℕ) {o : Opening} {out : List ℕ} {n : ℕ} {out′ : List ℕ} → Opens (wordsOf table) o → (o .reason ≡ 0 → ⊥)
+    → 22 ≤ length out → PutLines 22 (reasonLines (verdict (o .reason) (o .place))) out n out′ → take n out′ ≡ printed table events
+unfolding printed lay
+reason-printed table events {out = out} opens some room put =
+    let no : accepted (wordsOf table) ≡ false = ne-eqb (check (wordsOf table) .reason) 0 (λ e. some (opens .reason ∙ e)) in
+    let fits = le-leb 22 (length out) room in
+    rw (no, rw fits at (put .bytes), rw fits at (put .count), ← opens .reason, ← opens .place) (take-append-seam _ _)
 
 -- No call is stuck: ready, with an event left and with room for one, it takes one, and what it leaves is ready again.
 
@@ -118,32 +147,42 @@ unfolding stateAfter
 fits-after t s [] h f = f
 fits-after t s (e ∷ es) h f = fits-after t (taken t s e .state) es h (step-fits t s _ e h f)
 
-pub ready-again : {t s trace es out : List ℕ} {r : Taken} {s₁ w₁ o₁ : List ℕ} → Ready t s trace → length w₁ ≡ length trace → TookEvents t s trace es out r s₁ w₁ o₁ → Ready t s₁ w₁
-ready-again ready same p =
+-- what events leave of a ready state
+pub ready-after : {t s trace s₁ w₁ : List ℕ} (es : List ℕ) → Ready t s trace → length w₁ ≡ length trace → s₁ ≡ stateAfter t s es → Ready t s₁ w₁
+ready-after es ready same is =
     record {
       table = ready .table;
-      state = rw (p .state) (fits-after _ _ _ (ready .table) (ready .state));
+      state = rw is (fits-after _ _ es (ready .table) (ready .state));
       room = let b = ready .room in omega arith;
     }
 
--- What a caller of many calls keeps: the state to come is that of the events left.
+pub ready-again : {t s trace es out : List ℕ} {r : Taken} {s₁ w₁ o₁ : List ℕ} → Ready t s trace → length w₁ ≡ length trace → TookEvents t s trace es out r s₁ w₁ o₁ → Ready t s₁ w₁
+ready-again ready same p = ready-after _ ready same (p .state)
 
-pub state-left : (t s trace bytes : List ℕ) (from : ℕ) {out : List ℕ} {r : Taken} {s₁ w₁ o₁ : List ℕ} → TookEvents t s trace (offered t s (length trace) bytes from) out r s₁ w₁ o₁
-    → stateAfter t s (drop from (wordsOf bytes)) ≡ stateAfter t s₁ (drop (from + r .events) (wordsOf bytes))
-state-left t s trace bytes from {r = r} p =
-    rw (left-then t s trace bytes from (r .events) (p .within))
-    (state-append t s (take (r .events) (offered t s (length trace) bytes from)) (drop (from + r .events) (wordsOf bytes)) ∙ rw (p .state))
+-- What a caller of many calls keeps: the state is that of the words before the next call's.
 
-pub state-none : (t s bytes : List ℕ) (from : ℕ) → length (wordsOf bytes) ≤ from → stateAfter t s (drop from (wordsOf bytes)) ≡ s
-unfolding stateAfter
-state-none t s bytes from h = rw (drop-none from (wordsOf bytes) h)
+module _ (t s trace bytes : List ℕ) (from n : ℕ) (within : n ≤ length (offered t s (length trace) bytes from)) where
+  next-words : take (from + n) (wordsOf bytes) ≡ take from (wordsOf bytes) ++ take n (offered t s (length trace) bytes from)
+  unfolding offered
+  next-words =
+      split (eqb (refusedCall t s (length trace)) 0)
+      (λ h. rw h (take-add from n (wordsOf bytes)))
+      (λ h. let none : n ≡ 0 = (let w : n ≤ 0 = rw (offered, h) at within in omega arith) in rw (h, none, add-zero) (sym (append-nil _)))
+
+pub state-so-far : (t s₀ s trace bytes : List ℕ) (from : ℕ) {out : List ℕ} {r : Taken} {s₁ w₁ o₁ : List ℕ} → s ≡ stateAfter t s₀ (take from (wordsOf bytes))
+    → TookEvents t s trace (offered t s (length trace) bytes from) out r s₁ w₁ o₁ → s₁ ≡ stateAfter t s₀ (take (from + r .events) (wordsOf bytes))
+state-so-far t s₀ s trace bytes from {r = r} is p =
+    p .state
+    ∙ ap (λ (v : List ℕ). stateAfter t v (take (r .events) (offered t s (length trace) bytes from))) is
+    ∙ sym (state-append t s₀ (take from (wordsOf bytes)) (take (r .events) (offered t s (length trace) bytes from)))
+    ∙ ap (stateAfter t s₀) (sym (next-words t s trace bytes from (r .events) (p .within)))
 
 -- A fresh state of the sizes that an opening asks for is ready.
+
+pub fresh-ready : {t s trace : List ℕ} → accepted t ≡ true → s ≡ fresh t → bound t ≤ length trace → Ready t s trace
+fresh-ready {t} ok is room = record { table = ok; state = rw is (fresh-fits t ok); room = room }
+
 pub opens-ready : {t s₀ s trace : List ℕ} {o : Opening} {k : ℕ} → Opens t o → o .reason ≡ 0 → length s₀ ≡ o .state → Makes t s₀ k s → length trace ≡ o .trace → Ready t s trace
-unfolding freshAnswer freshState
-opens-ready {t} {s₀} {s} {trace} opens none long made room =
-    let ok : accepted t ≡ true = eq-eqb (check t .reason) 0 (sym (opens .reason) ∙ none) in
-    let right = eq-eqb (length s₀) (stateLength t) (long ∙ rw ok at (opens .state)) in
-    let is : s ≡ fresh t = rw (ok, right) at (made .state) in
-    let enough : length trace ≡ bound t = room ∙ rw ok at (opens .trace) in
-    record { table = ok; state = rw is (fresh-fits t ok); room = omega arith }
+opens-ready opens none long made room =
+    let ok = opened opens none in
+    fresh-ready ok (made-fresh ok (long ∙ opened-state opens none) made) (let b = opened-trace opens none in omega arith)

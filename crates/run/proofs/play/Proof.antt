@@ -1,9 +1,9 @@
--- `run::play` is safe: what an opening asks for fits, and the fresh state is ready. Assumes nothing.
+-- `run::play` is safe: what an opening asks for is lent. Assumes nothing.
 use mathlib.Core.Path.{sym}
 use native.Mathlib.Omega.{arith}
 use lib.Seq.{length-take-le}
-use Rattle.session.proofs.Whole.{opens-ready}
 use borrow.Author.Needs.{needs}
+use Rattle.run.proofs.Kept.{opens-lent}
 use Rattle.run.proofs.play.Statement.{statement}
 use Rattle.run.proofs.play.Tie as tie
 
@@ -34,15 +34,12 @@ array-borrow-prefix-traces c = search needs
 slice-aggregate-trace : tie.Need-slice-aggregate-trace
 slice-aggregate-trace c = sym (length-take-le _ _ (omega (arith, c .before .before .before .before .before .before .«open» .ensures .smallTrace, c .before .before .trace-words .ensures)))
 
-make-fresh-requires : tie.Need-make-fresh-requires
-make-fresh-requires c κs = search needs
-
-run-requires : tie.Need-run-requires
-run-requires c κs =
-    let o = c .before .before .before .before .before .before .before .before .before .before .before .«open» .ensures in (
-      c .before .before .before .before .before .before .before .before .before .before .before .before .before .before .before .pre,
-      opens-ready o (c .before .before .before .before .before .before .before .before .before .if1 .left) (length-take-le _ _ (omega (arith, o .smallState, c .before .before .before .before .before .before .before .before .state-words .ensures))) (c .before .before .before .make-fresh .ensures)
-          (length-take-le _ _ (omega (arith, o .smallTrace, c .before .before .before .before .before .before .before .trace-words .ensures))),
+run-fresh-requires : tie.Need-run-fresh-requires
+run-fresh-requires c κs =
+    let o = c .before .before .before .before .before .before .before .«open» .ensures in (
+      c .before .before .before .before .before .before .before .before .before .before .before .pre,
+      opens-lent o (c .before .before .before .before .before .if1 .left) (length-take-le _ _ (omega (arith, o .smallState, c .before .before .before .before .state-words .ensures)))
+          (length-take-le _ _ (omega (arith, o .smallTrace, c .before .before .before .trace-words .ensures))),
     )
 
 same-length : tie.Need-same-length
@@ -64,7 +61,6 @@ play-spec =
     slice-aggregate-s
     array-borrow-prefix-traces
     slice-aggregate-trace
-    make-fresh-requires
-    run-requires
+    run-fresh-requires
     same-length
     returns-2)

@@ -1,10 +1,20 @@
--- `run::run` is safe and ends: its turns fall. Assumes nothing.
+-- `run::run` meets its contract and ends: its turns fall, and what a run gives from the block at hand it gives from the first one.
+-- Assumes nothing.
 use mathlib.Core.Path.{_≡_, refl, sym, _∙_}
+use mathlib.Core.Bool.{Bool, false}
+use mathlib.Core.List.{List}
+use Prim.Native.Nat.{ℕ}
 use native.Mathlib.Omega.{arith}
-use lib.ListN.{length}
+use lib.ListN.{length, take}
 use borrow.Author.Needs.{needs}
+use borrow.Author.Tests.{not-false}
 use Rattle.io.specs.Counts.{Counts}
+use Rattle.text.specs.Words.{wordsOf}
 use Rattle.session.specs.Promises.{Ready}
+use Rattle.session.proofs.Whole.{ready-after}
+use Rattle.run.specs.Kept.{Ran}
+use Rattle.run.specs.Kept as kept
+use Rattle.run.proofs.Kept.{ran-on, ran-none}
 use Rattle.run.proofs.run.Statement.{statement}
 use Rattle.run.proofs.run.Tie as tie
 
@@ -16,6 +26,7 @@ Inv-loop t s₀ trace₀ fd path block₀ first out₀ n₀ turns₀ s trace blo
     × (262144 ≡ length out)
     × Counts n block
     × Ready t s trace
+    × ((whole : Bool) (s′ : List ℕ) → Ran t s (wordsOf (take n block)) whole s′ → Ran t s₀ (wordsOf (take first block₀)) whole s′)
 
 abbrev μ-loop : tie.MeasureT-loop
 μ-loop t s₀ trace₀ fd path block₀ first out₀ n₀ turns₀ s trace block out n turns = turns
@@ -24,13 +35,27 @@ lines-requires : tie.Need-lines-requires Inv-loop μ-loop
 lines-requires c κs = search needs
 
 loop-holds : tie.Need-loop-holds Inv-loop μ-loop
-loop-holds c = (refl, refl, refl, c .lines .ensures, c .before .before .before .before .before .before .pre .0, c .before .before .before .before .before .before .pre .1)
+loop-holds c =
+    let p = c .before .before .before .before .before .before .pre in
+    (refl, refl, refl, c .lines .ensures, p .0, p .1, λ whole s′ r. r)
 
 slice-aggregate-next-block : tie.Need-slice-aggregate-next-block Inv-loop μ-loop
 slice-aggregate-next-block c = c .before .before .before .before .before .before .loop .inv .3
 
 next-block-requires : tie.Need-next-block-requires Inv-loop μ-loop
 next-block-requires c κs = search needs
+
+same-length : tie.Need-same-length Inv-loop μ-loop
+same-length c = c .before .before .before .before .before .before .before .before .before .next-block .kept .1 .0 ∙ c .before .before .before .before .before .before .before .before .before .before .before .before .before .before .before .before .loop .inv .0
+
+same-length-2 : tie.Need-same-length-2 Inv-loop μ-loop
+same-length-2 c = c .before .before .before .before .before .before .before .before .before .next-block .kept .1 .1 .0 ∙ c .before .before .before .before .before .before .before .before .before .before .before .before .before .before .before .before .loop .inv .1
+
+same-length-3 : tie.Need-same-length-3 Inv-loop μ-loop
+same-length-3 c = c .before .before .before .before .before .before .before .before .before .next-block .kept .1 .1 .1 .1 .1 .0 ∙ c .before .before .before .before .before .before .before .before .before .before .before .before .before .before .before .before .loop .inv .2
+
+returns : tie.Need-returns Inv-loop μ-loop
+returns c = c .before .before .before .before .before .before .before .before .before .before .before .before .before .before .before .before .loop .inv .6 false _ (kept.stopped (c .before .before .before .before .before .before .before .before .before .next-block .ensures .1 .some))
 
 sub-turns : tie.Need-sub-turns Inv-loop μ-loop
 sub-turns c = omega arith
@@ -40,27 +65,17 @@ loop-less c = omega arith
 
 loop-again : tie.Need-loop-again Inv-loop μ-loop
 loop-again c =
-    let l = c .before .before .before .before .before .before .before .before .before .before .before .before .before .before .loop .inv in
-    let k = c .before .before .before .before .before .before .before .next-block .kept in (
+    let l = c .before .before .before .before .before .before .before .before .before .before .before .before .before .before .before .before .loop .inv in
+    let k = c .before .before .before .before .before .before .before .before .before .next-block .kept in
+    let p = c .before .before .before .before .before .before .before .before .before .next-block .ensures in (
       k .1 .0 ∙ l .0,
       k .1 .1 .0 ∙ l .1,
       k .1 .1 .1 .1 .1 .0 ∙ l .2,
       l .3 ∙ sym (k .1 .1 .1 .1 .1 .1 .1 .0),
-      c .before .before .before .before .before .before .before .next-block .ensures .0,
-      c .before .before .before .before .before .before .before .next-block .ensures .1,
+      p .0,
+      ready-after _ (l .5) (k .1 .1 .0) (p .1 .some .state),
+      λ whole s′ r. l .6 whole s′ (ran-on (p .1 .all (not-false _ (c .if2 .left))) r),
     )
-
-same-length : tie.Need-same-length Inv-loop μ-loop
-same-length c = c .before .before .loop .inv .0
-
-same-length-2 : tie.Need-same-length-2 Inv-loop μ-loop
-same-length-2 c = c .before .before .loop .inv .1
-
-same-length-3 : tie.Need-same-length-3 Inv-loop μ-loop
-same-length-3 c = c .before .before .loop .inv .2
-
-returns : tie.Need-returns Inv-loop μ-loop
-returns c = tt
 
 same-length-4 : tie.Need-same-length-4 Inv-loop μ-loop
 same-length-4 c = c .before .loop .inv .0
@@ -72,7 +87,7 @@ same-length-6 : tie.Need-same-length-6 Inv-loop μ-loop
 same-length-6 c = c .before .loop .inv .2
 
 returns-2 : tie.Need-returns-2 Inv-loop μ-loop
-returns-2 c = tt
+returns-2 c = c .before .loop .inv .6 _ _ (ran-none _ _ (c .before .loop .block) (c .before .loop .n))
 
 pub run-spec : {M : Type 1} → statement M
 run-spec =
@@ -84,13 +99,13 @@ run-spec =
     loop-holds
     slice-aggregate-next-block
     next-block-requires
-    sub-turns
-    loop-less
-    loop-again
     same-length
     same-length-2
     same-length-3
     returns
+    sub-turns
+    loop-less
+    loop-again
     same-length-4
     same-length-5
     same-length-6

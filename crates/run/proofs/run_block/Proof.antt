@@ -1,17 +1,17 @@
--- `run::run_block` meets its contract: every turn of its loop takes an event at least, and the state to come is that of the events
--- left. Assumes nothing.
-use Prim.Native.Nat.{_-_}
-use mathlib.Core.Path.{_≡_, refl, sym, _∙_}
+-- `run::run_block` meets its contract: every turn of its loop takes an event at least, and the state is that of the words before the
+-- next call's. Assumes nothing.
+use Prim.Native.Nat.{_+_, _-_}
+use mathlib.Core.Path.{_≡_, refl, sym, ap, _∙_}
 use mathlib.Core.Bool.{false≢true}
 use native.Mathlib.Omega.{arith}
-use lib.ListN.{length, drop}
-use lib.Seq.{length-take-le}
+use lib.ListN.{length, take}
+use lib.Seq.{take-all, length-take-le}
 use borrow.Author.Needs.{needs}
 use Rattle.text.specs.Words.{wordsOf}
 use Rattle.session.specs.Printed.{stateAfter}
 use Rattle.session.specs.Promises.{Ready}
 use Rattle.session.proofs.Along.{offered-within}
-use Rattle.session.proofs.Whole.{some-taken, ready-again, state-left, state-none}
+use Rattle.session.proofs.Whole.{some-taken, ready-again, state-so-far}
 use Rattle.run.proofs.run_block.Statement.{statement}
 use Rattle.run.proofs.run_block.Tie as tie
 
@@ -21,7 +21,7 @@ Inv-loop t s₀ trace₀ block out₀ total from₀ s trace out from =
     × (length trace ≡ length trace₀)
     × (length out ≡ length out₀)
     × Ready t s trace
-    × (stateAfter t s₀ (wordsOf block) ≡ stateAfter t s (drop from (wordsOf block)))
+    × (s ≡ stateAfter t s₀ (take from (wordsOf block)))
 
 abbrev μ-loop : tie.MeasureT-loop
 μ-loop t s₀ trace₀ block out₀ total from₀ s trace out from = total - from
@@ -30,6 +30,7 @@ word-count-requires : tie.Need-word-count-requires Inv-loop μ-loop
 word-count-requires c κs = search needs
 
 loop-holds : tie.Need-loop-holds Inv-loop μ-loop
+unfolding stateAfter
 loop-holds c = (refl, refl, refl, c .before .before .before .before .before .before .pre .0, refl)
 
 take-events-requires : tie.Need-take-events-requires Inv-loop μ-loop
@@ -54,7 +55,10 @@ same-length-3 : tie.Need-same-length-3 Inv-loop μ-loop
 same-length-3 c = c .before .before .before .before .before .before .before .before .before .take-events .kept .1 .1 .1 .1 .1 .0 ∙ c .before .before .before .before .before .before .before .before .before .before .before .before .before .before .loop .inv .2
 
 returns : tie.Need-returns Inv-loop μ-loop
-returns c = (ready-again (c .before .before .before .before .before .before .before .before .before .before .before .before .before .before .loop .inv .3) (c .before .before .before .before .before .before .before .before .before .take-events .kept .1 .1 .0) (c .before .before .before .before .before .before .before .before .before .take-events .ensures), λ ok. absurd (false≢true ok))
+returns c =
+    let l = c .before .before .before .before .before .before .before .before .before .before .before .before .before .before .loop in
+    let p = c .before .before .before .before .before .before .before .before .before .take-events .ensures in
+    record { all = λ ok. absurd (false≢true ok); some = record { count = l .from + c .before .before .before .before .before .before .before .before .before .take-events .result .events; state = state-so-far _ _ _ _ _ _ (l .inv .4) p } }
 
 add-from : tie.Need-add-from Inv-loop μ-loop
 add-from c =
@@ -78,7 +82,7 @@ loop-again c =
       k .1 .1 .0 ∙ l .inv .1,
       k .1 .1 .1 .1 .1 .0 ∙ l .inv .2,
       ready-again (l .inv .3) (k .1 .1 .0) p,
-      l .inv .4 ∙ state-left _ _ _ _ _ p,
+      state-so-far _ _ _ _ _ _ (l .inv .4) p,
     )
 
 same-length-4 : tie.Need-same-length-4 Inv-loop μ-loop
@@ -94,7 +98,8 @@ returns-2 : tie.Need-returns-2 Inv-loop μ-loop
 returns-2 c =
     let a = c .before .before .before .before .before .before .before .before .args in
     let l = c .before .loop in
-    (l .inv .3, λ ok. sym (l .inv .4 ∙ state-none (a .t .now) (l .s) (a .block .now) (l .from) (omega (arith, c .before .before .word-count .ensures))))
+    let whole = take-all (l .from) (wordsOf (a .block .now)) (omega (arith, c .before .before .word-count .ensures)) in
+    record { all = λ ok. l .inv .4 ∙ ap (stateAfter _ _) whole; some = record { count = l .from; state = l .inv .4 } }
 
 pub run-block-spec : {M : Type 1} → statement M
 run-block-spec =

@@ -1,0 +1,97 @@
+//! `compare long`: files of more than two of the program's blocks, the whole output byte for byte.
+//!
+//! The program reads its events block by block, and no contract says what its outermost calls do between two blocks. Here
+//! the state moves all the time, and a program that starts a block from another state than the last one left prints
+//! something else: that is seen of each file before the program is run on it.
+
+use second::cases::draft::Draft;
+use second::cases::prng::Prng;
+use second::cases::sequences::sequence;
+use second::cases::tables::{Plan, grow};
+use second::program::printed;
+use second::words::Table;
+
+use crate::bench::{MARKED, example};
+use crate::programs::{Program, bytes};
+
+/// The events of one of the program's blocks, which has 65,536 bytes.
+const BLOCK: usize = 16_384;
+/// So many events come back to the same few things.
+const PIECE: usize = 400;
+const REFUSED_PERCENT: usize = 6;
+const SEED: u64 = 20_261_115;
+
+/// A table, how many events to send it, and how many bytes stand past the last.
+struct Long {
+    name: &'static str,
+    draft: Draft,
+    events: usize,
+    past: usize,
+}
+
+pub fn long(folder: &str, command: &[&str]) -> Result<(), String> {
+    let program = Program::new(folder, command)?;
+    let mut rng = Prng::new(SEED);
+    let [truck, _] = example("truck").ok_or("examples/truck is missing")?;
+    let plan = Plan::rich(&mut rng);
+    let generated = grow(&mut rng, plan);
+    let files = [
+        Long { name: "marked table", draft: draft(&MARKED)?, events: 3 * BLOCK, past: 0 },
+        Long { name: "truck", draft: draft(&truck)?, events: 2 * BLOCK + 9_001, past: 3 },
+        Long { name: "generated table", draft: generated, events: 2 * BLOCK + 1, past: 2 },
+    ];
+    for Long { name, draft, events: count, past } in files {
+        let (table, events) = (draft.words(), sent(&mut rng, &draft, count));
+        let compared = moves(&table, &events)
+            .and_then(|()| shows(&table, &events))
+            .and_then(|()| program.compare(&bytes(&table, 0), &bytes(&events, past)));
+        compared.map_err(|what| format!("{name}: {what}"))?;
+        println!("{name}: {count} events: the same bytes");
+    }
+    Ok(())
+}
+
+fn draft(table: &[u32]) -> Result<Draft, String> {
+    Ok(Draft::of(&Table::of(table).ok_or("not a table")?))
+}
+
+fn sent(rng: &mut Prng, draft: &Draft, count: usize) -> Vec<u32> {
+    let mut events = vec![];
+    while events.len() < count {
+        let piece = PIECE.min(count - events.len());
+        events.extend(
+            sequence(rng, draft, piece, REFUSED_PERCENT).into_iter().map(|(event, _)| event),
+        );
+    }
+    events
+}
+
+/// Fails where fewer than half of the events change the state.
+fn moves(table: &[u32], events: &[u32]) -> Result<(), String> {
+    let mut state = vec![0; herringcart::state_words(table)];
+    let mut trace = vec![0; second::check(table).b];
+    second::fresh(table, &mut state);
+    let mut moving = 0;
+    for &event in events {
+        let before = state.clone();
+        second::step(table, &mut state, &mut trace, event);
+        moving += usize::from(state != before);
+    }
+    if 2 * moving < events.len() {
+        return Err(format!("only {moving} of {} events change the state", events.len()));
+    }
+    Ok(())
+}
+
+/// Fails where a block that starts from the fresh state prints what it prints in its place.
+fn shows(table: &[u32], events: &[u32]) -> Result<(), String> {
+    let lines = |events: &[u32]| printed(&bytes(table, 0), &bytes(events, 0));
+    let whole = lines(events);
+    for (place, block) in events.chunks(BLOCK).enumerate().skip(1) {
+        let before = lines(&events[..place * BLOCK]).len();
+        if whole[before..].starts_with(&lines(block)) {
+            return Err(format!("block {place} does not show the state it starts from"));
+        }
+    }
+    Ok(())
+}
