@@ -1,14 +1,13 @@
 -- Demand 1 holds of whatever the promises of the public entries allow. Assumes nothing.
-use mathlib.Core.Path.{_≡_, refl, sym, _∙_, ap}
-use mathlib.Core.Bool.{true, false}
+use mathlib.Core.Path.{_≡_, sym, _∙_, ap}
 use mathlib.Core.List.{List, [], _++_}
 use Prim.Native.Nat.{ℕ}
 use native.Mathlib.Omega.{arith}
 use lib.ListN.{length, drop}
-use lib.Dec.{ltb, eqb}
-use borrow.Author.Tests.{eqb-true, eqb-false, eq-eqb, ne-eqb}
+use lib.Dec.{ltb}
+use borrow.Author.Tests.{eq-eqb, ne-eqb}
 use Rattle.rulebook.specs.Reasons.{Verdict, bound, accepted, check}
-use Rattle.rulebook.specs.State.{stateLength, fits, fresh, freshAnswer, freshState}
+use Rattle.rulebook.specs.State.{stateLength, fits, freshAnswer, freshState}
 use Rattle.rulebook.specs.Step.{refusedState, firstFault, wellFormed, known, sentByOwner, finish, conclude, step}
 use Rattle.laws.specs.Acceptance.{Given}
 use Rattle.laws.proofs.Tests.{split}

@@ -1,5 +1,5 @@
 -- Demand 3 holds of whatever the promises of the public entries allow. Assumes nothing.
-use mathlib.Core.Path.{_≡_, refl, sym, _∙_, ap}
+use mathlib.Core.Path.{_≡_, refl, sym, _∙_}
 use mathlib.Core.Bool.{true, _||_, not}
 use mathlib.Core.List.{List}
 use Prim.Native.Nat.{ℕ, _≤_, _<_}
@@ -20,7 +20,7 @@ use Rattle.laws.proofs.Happen.{Taken}
 use Rattle.laws.proofs.Steps.{fresh-fits}
 use Rattle.stranger.specs.Logs.{Entry, Follows, Log, stateAfter}
 use Rattle.stranger.specs.Demand.{busOffTaken, becomesPending, ownersEvent}
-use Rattle.stranger.specs.Statements.{newly, Demand3}
+use Rattle.stranger.specs.Statements.{newly}
 use Rattle.stranger.proofs.Logs.{log-fits}
 use Rattle.stranger.proofs.NotEmpty.{kind-is, index-is, wakeup-known, bus-off-known}
 use Rattle.stranger.proofs.Exactly.{bus-off-exactly, wakeup-exactly}

@@ -1,20 +1,20 @@
 -- No idle program meets the promise of the event call: those of the marked run by one or two of its cases, the first list alone and the
 -- invented count wherever they occur. And a program that meets it exists. Assumes nothing.
 use mathlib.Core.Path.{_≡_, refl, sym, _∙_, ap}
-use mathlib.Core.Bool.{Bool, true, _&&_, and-false}
+use mathlib.Core.Bool.{and-false}
 use mathlib.Core.List.{List, [], _∷_, _++_}
 use Prim.Native.Nat.{ℕ, zero, suc, _+_, _≤_, _<_, _^_}
 use native.Mathlib.Omega.{arith}
 use lib.ListN.{length, drop, getD, length-append, length-drop, List·getD-append}
 use lib.Seq.{drop-cons, getD-append-seam}
-use lib.Dec.{ltb, eqb}
+use lib.Dec.{ltb}
 use borrow.Author.Tests.{ltb-true, ltb-false, eqb-true}
 use Rattle.rulebook.specs.Words.{word, listed}
 use Rattle.rulebook.specs.Step.{Result, step}
-use Rattle.rulebook.specs.Marked.{table, marked, after, same, gives, refuses, atFresh, afterRequest, afterTick, afterBusOff, afterThree, afterFive, markedRun}
+use Rattle.rulebook.specs.Marked.{table, marked, after, same, refuses, atFresh, afterRequest, afterTick, afterBusOff, afterThree, afterFive, markedRun}
 use Rattle.rulebook.proofs.Marked.{claim}
 use Rattle.laws.specs.Chosen.{runAll, beforeLists, WrittenBy, byNone, byFirst}
-use Rattle.laws.proofs.Tests.{split, clash, part-of, and-left, and-right}
+use Rattle.laws.proofs.Tests.{split, part-of}
 use Rattle.laws.proofs.Walks.{listed-length, listed-at}
 use Rattle.laws.proofs.Facts.{facts}
 use Rattle.laws.proofs.Order.{each-both}

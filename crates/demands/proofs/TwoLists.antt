@@ -1,12 +1,10 @@
 -- The table of two lists, computed on the definitions; and that its request runs two lists. Assumes nothing.
-use mathlib.Core.Path.{_≡_, refl, sym, _∙_}
-use mathlib.Core.Bool.{Bool, true, false}
+use mathlib.Core.Path.{_≡_, refl}
+use mathlib.Core.Bool.{true}
 use mathlib.Core.Logic.{inl}
 use mathlib.Core.List.{List, [], _∷_}
 use Prim.Native.Nat.{ℕ, zero, suc, _+_, _<_}
 use native.Mathlib.Omega.{arith}
-use lib.ListN.{length}
-use lib.Dec.{eqb}
 use borrow.Author.Tests.{ne-eqb}
 use Rattle.rulebook.specs.Words.{digit, first, all, any, sum, listed, each}
 use Rattle.rulebook.specs.Table.{part, stranger, deferred}
@@ -14,7 +12,7 @@ use Rattle.rulebook.specs.Expressions.{operator, expressionNests, expressionWit
 use Rattle.rulebook.specs.Reasons.{hasHeader, knownEdition, countsInside, exactLength, portFields, expressionFields, itemFields, ownFields}
 use Rattle.rulebook.specs.Reasons.{networkHas, held, mayShow, expressionNames, listOrNone, itemNames, names}
 use Rattle.rulebook.specs.Reasons.{itemNests, listNests, listWithin, nesting, strangersPort, ruleOwned, itemOwned, owners, itemCost, listCost}
-use Rattle.rulebook.specs.Reasons.{costWithin, bound, affordable, breaks, lowest, wholly, wordwise, check, accepted}
+use Rattle.rulebook.specs.Reasons.{costWithin, bound, affordable, breaks, lowest, wholly, wordwise, check}
 use Rattle.rulebook.specs.State.{thing, ownerOf, packPort, packRule, portFits, ruleFits, thingFits, fitsAt, fits}
 use Rattle.rulebook.specs.Lists.{Run, traceWord, setPort, effect, act, valueIn, undefinedIn, unready, resultIn, choice, choiceIn, setResult, runItem}
 use Rattle.rulebook.specs.Lists.{runItems, runList}

@@ -10,14 +10,12 @@ use native.Mathlib.Omega.{arith}
 use lib.Dec.{eqb}
 use borrow.Author.Tests.{eqb-true}
 use Rattle.rulebook.specs.Table.{networks, networkOwner, deferred, listOwner, itemKind, itemA, itemB, itemAsk, itemRule, platform, stranger}
-use Rattle.rulebook.specs.Reasons.{accepted}
 use Rattle.rulebook.specs.Lists.{Run, emit, traceWord, traceListStart, act, judge}
 use Rattle.rulebook.specs.Arbitration.{arbitrate}
 use Rattle.rulebook.specs.Events.{request, tick, arbitrateMarked, happen}
 use Rattle.laws.specs.Facts.{Facts}
 use Rattle.laws.specs.Sequence.{Each}
 use Rattle.laws.proofs.Tests.{split, clash, part-of}
-use Rattle.laws.proofs.Facts.{facts}
 use Rattle.laws.proofs.Fields.{digit-small, trace-kind, trace-a}
 use Rattle.laws.proofs.Items.{ask-there}
 use Rattle.laws.proofs.Order.{each-both}

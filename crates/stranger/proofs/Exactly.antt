@@ -1,16 +1,16 @@
 -- A bus-off that is taken, and nothing else, makes a network recover; a wakeup on none or expired, and nothing else, makes a source
 -- pending. Assumes nothing.
 use mathlib.Core.Path.{_≡_, refl, sym, _∙_, ap}
-use mathlib.Core.Bool.{Bool, true, false, cond, _&&_, _||_, not, and-false}
+use mathlib.Core.Bool.{true, false, _&&_, _||_, not, and-false}
 use mathlib.Core.List.{List}
 use Prim.Native.Nat.{ℕ, _<_}
 use native.Mathlib.Omega.{arith}
 use lib.Dec.{leb, eqb}
 use borrow.Author.Tests.{eqb-true, eqb-false, eq-eqb, ne-eqb, le-leb}
 use Rattle.rulebook.specs.Words.{word}
-use Rattle.rulebook.specs.Table.{networks, eTicks, sources, timeout}
+use Rattle.rulebook.specs.Table.{networks, sources, timeout}
 use Rattle.rulebook.specs.Reasons.{accepted}
-use Rattle.rulebook.specs.State.{sourceIndex, remainingOf, Network, askedNone, askedSilent, askedFull, stateNone, stateSilent, stateCheck, stateFull, stateRecover, statusOf, statusNone, statusPending, statusValidated, statusExpired, packSource}
+use Rattle.rulebook.specs.State.{sourceIndex, Network, askedNone, askedSilent, askedFull, stateNone, stateSilent, stateCheck, stateRecover, statusOf, statusNone, statusPending, statusValidated, statusExpired}
 use Rattle.rulebook.specs.Lists.{networkIn}
 use Rattle.rulebook.specs.Events.{eventKind, eventIndex, eventTick, eventWakeup, eventValid, eventBusOff, eventClear, statusIn, takes, offBus, countedNetwork, tickedNetwork}
 use Rattle.laws.proofs.Tests.{split, clash, and-right}

@@ -1,24 +1,22 @@
 -- No stranger brings about, alters or keeps away a moment of a network or source: a bus-off taken, a request of another mode, a source
 -- woken, validated or cleared, a turn of state or status. Assumes nothing.
 use mathlib.Core.Path.{_≡_, refl, sym, _∙_, ap}
-use mathlib.Core.Bool.{true, false, not, and-false}
+use mathlib.Core.Bool.{true, false, and-false}
 use mathlib.Core.List.{List, []}
 use Prim.Native.Nat.{ℕ, _<_}
-use lib.Dec.{eqb}
 use borrow.Author.Tests.{eqb-true, eq-eqb}
 use Rattle.rulebook.specs.Words.{word}
 use Rattle.rulebook.specs.Table.{networks, networkOwner, networkPort, sources, sourceOwner, sourcePort}
 use Rattle.rulebook.specs.Reasons.{accepted}
 use Rattle.rulebook.specs.State.{networkIndex, sourceIndex, statusOf}
 use Rattle.rulebook.specs.Lists.{networkIn}
-use Rattle.rulebook.specs.Events.{eventKind, eventIndex, eventWakeup, statusIn}
+use Rattle.rulebook.specs.Events.{eventIndex, statusIn}
 use Rattle.laws.specs.Sequence.{Each}
 use Rattle.laws.proofs.Tests.{split, clash, part-of}
 use Rattle.laws.proofs.Facts.{facts}
 use Rattle.laws.proofs.FitEvents.{may-show}
-use Rattle.laws.proofs.Happen.{owner-is, named-source}
 use Rattle.stranger.specs.Logs.{Entry, Follows, Log, strangersEntry, struckOut}
-use Rattle.stranger.specs.Demand.{busOffTaken, loaded, asksOther, anyWord, asksAnother, shows, becomesPending, ended, showsStatus, networkMoment, sourceMoment, moments}
+use Rattle.stranger.specs.Demand.{busOffTaken, asksOther, anyWord, asksAnother, becomesPending, ended, networkMoment, sourceMoment, moments}
 use Rattle.stranger.specs.View.{SameView, AsksOwn}
 use Rattle.stranger.proofs.Logs.{taken}
 use Rattle.stranger.proofs.View.{port-word, network-word, source-word}

@@ -7,10 +7,8 @@ use mathlib.Core.List.{List, [], _∷_, _++_}
 use Prim.Native.Nat.{ℕ, _+_}
 use native.Mathlib.Nat.{zero-add}
 use native.Mathlib.Omega.{arith}
-use lib.ListN.{length}
-use Rattle.rulebook.specs.Table.{stranger}
 use Rattle.rulebook.specs.Reasons.{accepted}
-use Rattle.rulebook.specs.Events.{eventOwner, happen}
+use Rattle.rulebook.specs.Events.{happen}
 use Rattle.laws.proofs.Tests.{split, clash}
 use Rattle.laws.proofs.Facts.{facts}
 use Rattle.stranger.specs.Logs.{Entry, Follows, Log, strangersEntry, struckOut}

@@ -14,7 +14,7 @@ use Rattle.laws.specs.Sequence.{Each}
 use Rattle.stranger.specs.Logs.{Entry, stateAfter, strangersEntry, struckOut}
 use Rattle.stranger.specs.View.{AsksOwn, Unseen, seen}
 use Rattle.stranger.specs.Demand.{ticks, tickCount, busOffTaken, loaded, lastAskedIn, leftAlone, Phase, becomesPending, ended, notEnded, Waiting}
-use Rattle.stranger.specs.Demand.{endStatus, showsStatus, Moment, networkMoment, sourceMoment, moments, modeToShow, statusToShow, PortShows}
+use Rattle.stranger.specs.Demand.{endStatus, showsStatus, networkMoment, sourceMoment, moments, modeToShow, statusToShow, PortShows}
 
 -- v is what it has newly become
 abbrev pub newly : ℕ → ℕ → ℕ → Bool
