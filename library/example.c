@@ -88,7 +88,8 @@ static void fresh(void)
 {
     static const uint32_t zero[STATE_WORDS];
     memset(state, 0xAA, sizeof state);
-    expect("fresh in three words", herringcart_make_fresh(table, TABLE_WORDS, state, STATE_WORDS - 1), HERRINGCART_WRONG_STATE_WORDS);
+    expect("fresh in three words", herringcart_make_fresh(table, TABLE_WORDS, state, STATE_WORDS - 1),
+           HERRINGCART_WRONG_STATE_WORDS);
     expect("a word after a refusal", state[0], 0xAAAAAAAA);
     expect("the state check", herringcart_check_state(table, TABLE_WORDS, state, STATE_WORDS), HERRINGCART_UNFIT_STATE);
     uint32_t answer = herringcart_make_fresh(table, TABLE_WORDS, state, STATE_WORDS);
