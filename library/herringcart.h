@@ -27,7 +27,7 @@
  * the local arrays have 1 KiB each.
  *
  * What a call costs: all but herringcart_state_words check the whole table each time, for nothing is kept. Measured
- * on an Arm Neoverse V1 an event takes 16 ns for each word of the table (docs/BENCHMARKS.md): 0.2 us with 12 words,
+ * on an Arm Neoverse V1 an event takes some 16 ns for each word of the table (docs/BENCHMARKS.md): 0.2 us with 12 words,
  * 49 us with 2,892. Tables made to be slow to check take up to 0.9 ms a call, and one is known, with 4,080 rule items
  * in one event, that takes 4.3 ms. Whoever has a deadline measures with the table that is to be deployed.
  */
@@ -89,10 +89,10 @@ enum herringcart_kind {
     HERRINGCART_TICK = 0,          /* owner, index and value 0 */
     HERRINGCART_MODE_REQUEST = 1,  /* of a mode port, with a value */
     HERRINGCART_EVENT_REQUEST = 2, /* of an event port */
-    HERRINGCART_WAKEUP = 3,        /* of a source, as the next three but bus-off */
-    HERRINGCART_WAKEUP_VALID = 4,
+    HERRINGCART_WAKEUP = 3,        /* of a source */
+    HERRINGCART_WAKEUP_VALID = 4,  /* of a source */
     HERRINGCART_BUS_OFF = 5,       /* of a network */
-    HERRINGCART_WAKEUP_CLEAR = 6
+    HERRINGCART_WAKEUP_CLEAR = 6   /* of a source */
 };
 
 /* The modes that a network is asked for, and what its port shows: these three, or that it recovers. */
