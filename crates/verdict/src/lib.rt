@@ -9,7 +9,7 @@ pub fn lay_verdict(t: &[u32], out: &mut [u8]) -> usize
     if out.len() < 33 {
         return 0;
     }
-    let said = tables::numbers(manager::check_table(t));
+    let said = tables::numbers(tables::check(t));
     let reason = said.0;
     let place = said.1 as u32;
     let bound = said.2;
