@@ -16,11 +16,11 @@ use Rattle.things.specs.Requests.{Requested}
 use Rattle.things.proofs.Requests.{request-goes}
 use Rattle.things.proofs.Changes.{change-goes}
 use Rattle.things.specs.Changes.{changed}
-use Rattle.refusals.specs.Answers.{answerOf, heard}
+use Rattle.refusals.specs.Answers.{answerOf, eventChecked}
 use Rattle.refusals.proofs.Answers.{handle-taken, handle-refused}
-use Rattle.refusals.specs.declared.Heard.{Heard}
-use Rattle.refusals.specs.declared.Heard.the-variants.{Taken, Malformed, NoSuchThing, NotItsOwner}
-use Rattle.refusals.proofs.Heard.{the-type}
+use Rattle.refusals.specs.declared.EventCheck.{EventCheck}
+use Rattle.refusals.specs.declared.EventCheck.the-variants.{Taken, Malformed, NoSuchThing, NotItsOwner}
+use Rattle.refusals.proofs.EventCheck.{the-type}
 use Rattle.events.specs.declared.Answer.{Answer}
 use Rattle.events.specs.declared.Answer.the-variants.{Done}
 use Rattle.events.specs.Answers.{numberOf, countOf, Told}
@@ -59,7 +59,7 @@ module _ (t : List ℕ) (e k : ℕ) (s : List ℕ) (is : k ≡ eventKind e) wher
 
 -- The answers.
 
-module _ (t s trace : List ℕ) (e : ℕ) (h : Heard) (is : h ≡ heard t e) where
+module _ (t s trace : List ℕ) (e : ℕ) (h : EventCheck) (is : h ≡ eventChecked t e) where
   pub told-refused : (r : Answer) → eqb (answerOf h) 0 ≡ false → numberOf r ≡ answerOf h → countOf r ≡ 0 → Told (handle t s e) trace r s trace
   told-refused r z a c = rw (handle-refused t e s h is z) (record { answer = a; count = c; state = refl; words = refl })
 
@@ -71,11 +71,11 @@ module _ (t s trace : List ℕ) (e : ℕ) (h : Heard) (is : h ≡ heard t e) whe
 abbrev others : List ℕ
 others = 1 ∷ 2 ∷ 3 ∷ []
 
-pub not-taken : (h : Heard) → OneOf others (tagOf the-type h) → eqb (answerOf h) 0 ≡ false
+pub not-taken : (h : EventCheck) → OneOf others (tagOf the-type h) → eqb (answerOf h) 0 ≡ false
 not-taken Taken other = absurd (miss others 0 tt other)
 not-taken Malformed other = refl
 not-taken NoSuchThing other = refl
 not-taken NotItsOwner other = refl
 
-pub is-taken : (h : Heard) → h ≡ Taken → eqb (answerOf h) 0 ≡ true
+pub is-taken : (h : EventCheck) → h ≡ Taken → eqb (answerOf h) 0 ≡ true
 is-taken h e = rw e

@@ -10,9 +10,9 @@ ghost use Rattle.refusals.specs.Answers.{answerOf};
 ghost use Rattle.events.specs.Answers.{numberOf, countOf, Told};
 use arbitration::arbitrate_marked;
 use arbitration::arbitrate_one;
-use refusals::Heard;
+use refusals::EventCheck;
 use refusals::event;
-use refusals::hear;
+use refusals::check_event;
 use things::change;
 use things::ports::request_port;
 use things::tick_things;
@@ -107,14 +107,14 @@ pub fn count(answer: Answer) -> usize
 }
 
 // The answer of an event that is not taken.
-fn refused(heard: Heard) -> Answer
-    ensures { λ r. ⌜ (numberOf r ≡ answerOf heard) × (countOf r ≡ 0) ⌝ }
+fn refused(check: EventCheck) -> Answer
+    ensures { λ r. ⌜ (numberOf r ≡ answerOf check) × (countOf r ≡ 0) ⌝ }
 {
-    match heard {
-        Heard::Taken => Answer::Done(Written { count: 0 }),
-        Heard::Malformed => Answer::Malformed,
-        Heard::NoSuchThing => Answer::NoSuchThing,
-        Heard::NotItsOwner => Answer::NotItsOwner,
+    match check {
+        EventCheck::Taken => Answer::Done(Written { count: 0 }),
+        EventCheck::Malformed => Answer::Malformed,
+        EventCheck::NoSuchThing => Answer::NoSuchThing,
+        EventCheck::NotItsOwner => Answer::NotItsOwner,
     }
 }
 
@@ -123,9 +123,9 @@ pub fn handle(t: &[u32], h: Layout, e: u32, s: &mut [u32], trace: &mut [u32]) ->
     requires { ⌜ Laid (now t) h × (h .rules ≤ 256) × Safe (happenOf (now t) e (now s)) (now trace) ⌝ }
     ensures { λ r. ⌜ Told (handleOf (now (t .entry)) (now (s .entry)) e) (now (trace .entry)) r (now (s .exit)) (now (trace .exit)) ⌝ }
 {
-    let heard = hear(t, h, e);
-    let Heard::Taken = heard else {
-        return refused(heard);
+    let check = check_event(t, h, e);
+    let EventCheck::Taken = check else {
+        return refused(check);
     };
     let count = happen(t, h, e, s, trace);
     Answer::Done(Written { count })

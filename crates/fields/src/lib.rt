@@ -42,10 +42,10 @@ fn waits_fields(t: &[u32], h: Layout, n: u32) -> bool
     ensures { λ r. ⌜ r ≡ ownFields (now (t .entry)) (atWaits n) ⌝ }
 {
     let w = sections::waits_word(t, h, n);
-    let short_wait = table::short_wait(w);
-    let long_wait = table::long_wait(w);
+    let l1 = table::l1(w);
+    let l2 = table::l2(w);
     let e_ticks = table::e_ticks(w);
-    (1 <= short_wait) & (1 <= long_wait) & (1 <= e_ticks)
+    (1 <= l1) & (1 <= l2) & (1 <= e_ticks)
 }
 
 fn source_fields(t: &[u32], h: Layout, k: u32) -> bool

@@ -6,7 +6,7 @@ use Prim.Native.Nat.{ℕ}
 use lib.Dec.{eqb}
 use borrow.Author.Tests.{eqb-true, eqb-false}
 use Rattle.rulebook.specs.Words.{word}
-use Rattle.rulebook.specs.Table.{reload, noList, itemKind, itemA, itemB, kindClear, kindStart, kindStop, kindAsk, kindList, kindRule}
+use Rattle.rulebook.specs.Table.{reload, noList, itemKind, itemA, itemB, itemClear, itemStart, itemStop, itemAsk, itemList, itemRule}
 use Rattle.rulebook.specs.Expressions.{deepest}
 use Rattle.rulebook.specs.State.{markedOf, timerStopped, timerStarted, undefinedResult}
 use Rattle.rulebook.specs.Lists.{Run, emit, traceWord, setPort, networkIn, asking, setNetwork, effect, act, unready, choiceIn, judge, runChoice, runRule, runItem, runList}
@@ -14,19 +14,19 @@ use Rattle.rulebook.specs.Arbitration.{runIf}
 use Rattle.laws.proofs.Tests.{split}
 
 module _ (below : ℕ → Run → Run) (t : List ℕ) (o : ℕ) where
-  pub item-list : (i : ℕ) (x : Run) → eqb (itemKind t i) kindList ≡ true → runItem below t o i x ≡ below (itemA t i) x
+  pub item-list : (i : ℕ) (x : Run) → eqb (itemKind t i) itemList ≡ true → runItem below t o i x ≡ below (itemA t i) x
   unfolding runItem
   item-list i x h = rw (h, runItem)
 
-  pub item-rule : (i : ℕ) (x : Run) → eqb (itemKind t i) kindList ≡ false → eqb (itemKind t i) kindRule ≡ true → runItem below t o i x ≡ runRule below t o (itemA t i) x
+  pub item-rule : (i : ℕ) (x : Run) → eqb (itemKind t i) itemList ≡ false → eqb (itemKind t i) itemRule ≡ true → runItem below t o i x ≡ runRule below t o (itemA t i) x
   unfolding runItem
   item-rule i x h k = rw (h, k, runItem)
 
-  pub item-act : (i : ℕ) (x : Run) → eqb (itemKind t i) kindList ≡ false → eqb (itemKind t i) kindRule ≡ false → runItem below t o i x ≡ act t o i x
+  pub item-act : (i : ℕ) (x : Run) → eqb (itemKind t i) itemList ≡ false → eqb (itemKind t i) itemRule ≡ false → runItem below t o i x ≡ act t o i x
   unfolding runItem
   item-act i x h k = rw (h, k, runItem)
 
-  pub rule-unready : (r : ℕ) (x : Run) → unready t (x .state) r ≡ true → runRule below t o r x ≡ emit (traceWord kindRule o r undefinedResult) x
+  pub rule-unready : (r : ℕ) (x : Run) → unready t (x .state) r ≡ true → runRule below t o r x ≡ emit (traceWord itemRule o r undefinedResult) x
   unfolding runRule
   rule-unready r x h = rw (h, runRule)
 
@@ -35,12 +35,12 @@ module _ (below : ℕ → Run → Run) (t : List ℕ) (o : ℕ) where
   rule-ready r x h = rw (h, runRule)
 
   -- every way an item can go
-  pub item-cases {ℓ} : {A : Type ℓ} (i : ℕ) → (itemKind t i ≡ kindList → eqb (itemKind t i) kindList ≡ true → A)
-      → (itemKind t i ≡ kindRule → eqb (itemKind t i) kindList ≡ false → eqb (itemKind t i) kindRule ≡ true → A)
-      → (eqb (itemKind t i) kindList ≡ false → eqb (itemKind t i) kindRule ≡ false → A) → A
+  pub item-cases {ℓ} : {A : Type ℓ} (i : ℕ) → (itemKind t i ≡ itemList → eqb (itemKind t i) itemList ≡ true → A)
+      → (itemKind t i ≡ itemRule → eqb (itemKind t i) itemList ≡ false → eqb (itemKind t i) itemRule ≡ true → A)
+      → (eqb (itemKind t i) itemList ≡ false → eqb (itemKind t i) itemRule ≡ false → A) → A
   item-cases i f g h =
-      split (eqb (itemKind t i) kindList) (λ e. f (eqb-true _ _ e) e)
-      (λ e. split (eqb (itemKind t i) kindRule) (λ d. g (eqb-true _ _ d) e d) (λ d. h e d))
+      split (eqb (itemKind t i) itemList) (λ e. f (eqb-true _ _ e) e)
+      (λ e. split (eqb (itemKind t i) itemRule) (λ d. g (eqb-true _ _ d) e d) (λ d. h e d))
 
 pub choice-none : (below : ℕ → Run → Run) (l : ℕ) (x : Run) → eqb l noList ≡ true → runChoice below l x ≡ x
 unfolding runChoice
@@ -60,16 +60,16 @@ if-not t c l x h = rw (h, runIf)
 
 -- what an item of kind 0 to 4 does, kind by kind
 pub effect-cases : (P : List ℕ → Type 0) (t : List ℕ) (i : ℕ) (s : List ℕ)
-    → (itemKind t i ≡ kindClear → P (setPort (itemA t i) (markedOf (word s (itemA t i))) 0 0 s))
-    → (itemKind t i ≡ kindStart → P (setPort (itemA t i) 1 timerStarted (reload t (itemA t i)) s))
-    → (itemKind t i ≡ kindStop → P (setPort (itemA t i) 1 timerStopped 0 s))
-    → (itemKind t i ≡ kindAsk → P (setNetwork t (itemA t i) (asking (itemB t i) (networkIn t (itemA t i) s)) s))
-    → ((itemKind t i ≡ kindAsk → ⊥) → P s)
+    → (itemKind t i ≡ itemClear → P (setPort (itemA t i) (markedOf (word s (itemA t i))) 0 0 s))
+    → (itemKind t i ≡ itemStart → P (setPort (itemA t i) 1 timerStarted (reload t (itemA t i)) s))
+    → (itemKind t i ≡ itemStop → P (setPort (itemA t i) 1 timerStopped 0 s))
+    → (itemKind t i ≡ itemAsk → P (setNetwork t (itemA t i) (asking (itemB t i) (networkIn t (itemA t i) s)) s))
+    → ((itemKind t i ≡ itemAsk → ⊥) → P s)
     → P (effect t i s)
 unfolding effect
 effect-cases P t i s f₁ f₂ f₃ f₄ f₅ =
-    split (eqb (itemKind t i) kindClear) (λ a. rw a (f₁ (eqb-true _ _ a)))
-    (λ a. split (eqb (itemKind t i) kindStart) (λ b. rw (a, b) (f₂ (eqb-true _ _ b)))
-    (λ b. split (eqb (itemKind t i) kindStop) (λ c. rw (a, b, c) (f₃ (eqb-true _ _ c)))
-    (λ c. split (eqb (itemKind t i) kindAsk) (λ d. rw (a, b, c, d) (f₄ (eqb-true _ _ d)))
+    split (eqb (itemKind t i) itemClear) (λ a. rw a (f₁ (eqb-true _ _ a)))
+    (λ a. split (eqb (itemKind t i) itemStart) (λ b. rw (a, b) (f₂ (eqb-true _ _ b)))
+    (λ b. split (eqb (itemKind t i) itemStop) (λ c. rw (a, b, c) (f₃ (eqb-true _ _ c)))
+    (λ c. split (eqb (itemKind t i) itemAsk) (λ d. rw (a, b, c, d) (f₄ (eqb-true _ _ d)))
     (λ d. rw (a, b, c, d) (f₅ (eqb-false _ _ d))))))

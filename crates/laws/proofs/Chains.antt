@@ -9,7 +9,7 @@ use lib.ListN.{length}
 use lib.Dec.{ltb, eqb}
 use borrow.Author.Tests.{eqb-true, eq-eqb, lt-ltb, leb-true}
 use Rattle.rulebook.specs.Words.{all}
-use Rattle.rulebook.specs.Table.{tableLength, atExpression, atList, left, right, expressions, rules, ruleExpression, lists, items, trueList, falseList, noList, firstItem, itemCount, itemKind, itemA, kindList, kindRule}
+use Rattle.rulebook.specs.Table.{tableLength, atExpression, atList, left, right, expressions, rules, ruleExpression, lists, items, trueList, falseList, noList, firstItem, itemCount, itemKind, itemA, itemList, itemRule}
 use Rattle.rulebook.specs.Expressions.{operator, isNot, expressionNests, expressionWithin}
 use Rattle.rulebook.specs.Reasons.{names, nesting, itemNames, listOrNone, ruleNests, itemNests, listNests, listWithin}
 use Rattle.laws.specs.Acceptance.{Everywhere}
@@ -69,15 +69,15 @@ all-fails p i (suc n) h =
     (λ a. (i, omega arith, omega arith, a))
 
 module _ (t : List ℕ) (below : ℕ → Bool) where
-  nests-is-list : (i : ℕ) → eqb (itemKind t i) kindList ≡ true → itemNests t below i ≡ below (itemA t i)
+  nests-is-list : (i : ℕ) → eqb (itemKind t i) itemList ≡ true → itemNests t below i ≡ below (itemA t i)
   unfolding itemNests
   nests-is-list i h = rw (h, itemNests)
 
-  nests-is-rule : (i : ℕ) → eqb (itemKind t i) kindList ≡ false → eqb (itemKind t i) kindRule ≡ true → itemNests t below i ≡ ruleNests t below (itemA t i)
+  nests-is-rule : (i : ℕ) → eqb (itemKind t i) itemList ≡ false → eqb (itemKind t i) itemRule ≡ true → itemNests t below i ≡ ruleNests t below (itemA t i)
   unfolding itemNests
   nests-is-rule i h k = rw (h, k, itemNests)
 
-  nests-is-act : (i : ℕ) → eqb (itemKind t i) kindList ≡ false → eqb (itemKind t i) kindRule ≡ false → itemNests t below i ≡ true
+  nests-is-act : (i : ℕ) → eqb (itemKind t i) itemList ≡ false → eqb (itemKind t i) itemRule ≡ false → itemNests t below i ≡ true
   unfolding itemNests
   nests-is-act i h k = rw (h, k, itemNests)
 
@@ -96,9 +96,9 @@ module _ (t : List ℕ) (below : ℕ → Bool) where
 
   item-fails : (l i : ℕ) → firstItem t l ≤ i → i < firstItem t l + itemCount t l → itemNests t below i ≡ false → (x : ℕ) × NamesList t l x × (below x ≡ false)
   item-fails l i a b h =
-      split (eqb (itemKind t i) kindList)
+      split (eqb (itemKind t i) itemList)
       (λ e. (itemA t i, record { item = i; from = a; below = b; how = inl (eqb-true _ _ e, refl) }, sym (nests-is-list i e) ∙ h))
-      (λ e. split (eqb (itemKind t i) kindRule)
+      (λ e. split (eqb (itemKind t i) itemRule)
       (λ g. let w = rule-fails (itemA t i) (sym (nests-is-rule i e g) ∙ h) in (w .0, record { item = i; from = a; below = b; how = inr (eqb-true _ _ g, w .1) }, w .2))
       (λ g. clash (nests-is-act i e g) h))
 

@@ -10,7 +10,7 @@ use Rattle.rulebook.specs.Words.{sum, each}
 use Rattle.rulebook.specs.Table.{lists, noList, listOwner, firstItem, itemCount, itemA}
 use Rattle.rulebook.specs.Expressions.{deepest}
 use Rattle.rulebook.specs.Reasons.{ruleNests, itemNests, listWithin, ruleCost, itemCost, costWithin, bound}
-use Rattle.rulebook.specs.Lists.{Run, emit, traceWord, kindListStart, act, unready, choiceIn, judge, runRule, runItem, runItems, runList}
+use Rattle.rulebook.specs.Lists.{Run, emit, traceWord, traceListStart, act, unready, choiceIn, judge, runRule, runItem, runItems, runList}
 use Rattle.rulebook.specs.Arbitration.{unmarkPorts, chosen, order, runIf, runChosen, decide, arbitrate}
 use Rattle.laws.specs.Facts.{Facts}
 use Rattle.laws.proofs.Tests.{split, clash}
@@ -60,9 +60,9 @@ pub list-paid : (t : List ℕ) (d l : ℕ) (x : Run) → listWithin d t l ≡ tr
 unfolding runList runItems listWithin
 list-paid t zero l x h = clash h refl
 list-paid t (suc d) l x h =
-    let begun : written (emit (traceWord kindListStart (listOwner t l) l 0) x) ≡ written x + 1 = one-more _ x in
+    let begun : written (emit (traceWord traceListStart (listOwner t l) l 0) x) ≡ written x + 1 = one-more _ x in
     let c : costWithin (suc d) t l ≡ 1 + sum (firstItem t l) (itemCount t l) (itemCost t (costWithin d t)) = cost-there t d l (within-there t d l h) in
-    let p : written (runList (suc d) t l x) ≤ written (emit (traceWord kindListStart (listOwner t l) l 0) x) + sum (firstItem t l) (itemCount t l) (itemCost t (costWithin d t)) =
+    let p : written (runList (suc d) t l x) ≤ written (emit (traceWord traceListStart (listOwner t l) l 0) x) + sum (firstItem t l) (itemCount t l) (itemCost t (costWithin d t)) =
     items-paid t (listWithin d t) (costWithin d t) (runList d t) (list-paid t d) (listOwner t l) (firstItem t l) (itemCount t l) _ (λ i a b. within-item t d l i h a b) in
     omega arith
 

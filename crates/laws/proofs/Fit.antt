@@ -10,7 +10,7 @@ use lib.Seq.{getD-set-same, getD-set-other}
 use lib.Dec.{leb, eqb}
 use borrow.Author.Tests.{leb-true, le-leb, eqb-true, eqb-false, eq-eqb, ne-eqb}
 use Rattle.rulebook.specs.Words.{word, field, implies, between, all}
-use Rattle.rulebook.specs.Table.{portKind, kindMode, kindEvent, kindTimer, deferred, reload, shortWait, longWait, eTicks, timeout}
+use Rattle.rulebook.specs.Table.{portKind, portMode, portEvent, portTimer, deferred, reload, l1, l2, eTicks, timeout}
 use Rattle.rulebook.specs.State.{stateLength, thing, definedOf, markedOf, valueOf, remainingOf, timerStarted, timerExpired, resultOf, Network, networkOf, askedFull, stateCheck, stateRecover, statusOf, statusPending, packPort, packRule, packNetwork, packSource, portFits, ruleFits, networkFits, sourceFits, thingFits, fitsAt, fits}
 use Rattle.laws.proofs.Tests.{split, clash, part-of, and-left, and-right, and-both, implies-elim, implies-intro, or-intro, or-elim, and-one-false}
 use Rattle.laws.proofs.Walks.{all-at, all-from}
@@ -30,19 +30,19 @@ pub record PortOk (t : List ℕ) (p d m v r : ℕ) : Type 0 where
   pub value₈ : v < 256
   pub remaining₁₆ : r < 65536
   pub immediate : deferred t p ≡ 0 → m ≡ 0
-  pub undefined : d ≡ 0 → (portKind t p ≡ kindMode) × (v ≡ 0) × (m ≡ 0)
-  pub event : portKind t p ≡ kindEvent → v ≤ 1
-  pub timer : portKind t p ≡ kindTimer → v ≤ timerExpired
-  pub started : portKind t p ≡ kindTimer → v ≡ timerStarted → (1 ≤ r) × (r ≤ reload t p)
-  pub rest : (portKind t p ≡ kindTimer → v ≡ timerStarted → ⊥) → r ≡ 0
+  pub undefined : d ≡ 0 → (portKind t p ≡ portMode) × (v ≡ 0) × (m ≡ 0)
+  pub event : portKind t p ≡ portEvent → v ≤ 1
+  pub timer : portKind t p ≡ portTimer → v ≤ timerExpired
+  pub started : portKind t p ≡ portTimer → v ≡ timerStarted → (1 ≤ r) × (r ≤ reload t p)
+  pub rest : (portKind t p ≡ portTimer → v ≡ timerStarted → ⊥) → r ≡ 0
 
 abbrev running : List ℕ → ℕ → ℕ → Bool
-running t p w = eqb (portKind t p) kindTimer && eqb (valueOf w) timerStarted
+running t p w = eqb (portKind t p) portTimer && eqb (valueOf w) timerStarted
 
 pub port-ok : (t : List ℕ) (p w : ℕ) → portFits t p w ≡ true → PortOk t p (definedOf w) (markedOf w) (valueOf w) (remainingOf w)
 unfolding portFits
 port-ok t p w h =
-    let und : implies (eqb (definedOf w) 0) (eqb (portKind t p) kindMode && eqb (valueOf w) 0 && eqb (markedOf w) 0) ≡ true = part-of _ (λ e. rw (portFits, e, and-false) at h) in
+    let und : implies (eqb (definedOf w) 0) (eqb (portKind t p) portMode && eqb (valueOf w) 0 && eqb (markedOf w) 0) ≡ true = part-of _ (λ e. rw (portFits, e, and-false) at h) in
     let run : implies (running t p w) (between 1 (reload t p) (remainingOf w)) ≡ true = part-of _ (λ e. rw (portFits, e, and-false) at h) in
     let still : (running t p w || eqb (remainingOf w) 0) ≡ true = part-of _ (λ e. rw (portFits, e, and-false) at h) in
     record {
@@ -51,10 +51,10 @@ port-ok t p w h =
       value₈ = digit-small _ 256 w (omega arith);
       remaining₁₆ = digit-small _ 65536 w (omega arith);
       immediate = λ a. eqb-true _ _ (implies-elim (eqb (deferred t p) 0) (eqb (markedOf w) 0) (part-of _ (λ e. rw (portFits, e, and-false) at h)) (eq-eqb _ _ a));
-      undefined = λ a. let z = implies-elim _ (eqb (portKind t p) kindMode && eqb (valueOf w) 0 && eqb (markedOf w) 0) und (eq-eqb _ _ a) in
-          (eqb-true _ _ (part-of _ (λ e. rw e at z)), eqb-true _ _ (part-of _ (λ e. rw (e, and-false) at z)), eqb-true _ _ (and-right (eqb (portKind t p) kindMode && eqb (valueOf w) 0) _ z));
-      event = λ a. leb-true _ _ (implies-elim (eqb (portKind t p) kindEvent) (leb (valueOf w) 1) (part-of _ (λ e. rw (portFits, e, and-false) at h)) (eq-eqb _ _ a));
-      timer = λ a. leb-true _ _ (implies-elim (eqb (portKind t p) kindTimer) (leb (valueOf w) timerExpired) (part-of _ (λ e. rw (portFits, e, and-false) at h)) (eq-eqb _ _ a));
+      undefined = λ a. let z = implies-elim _ (eqb (portKind t p) portMode && eqb (valueOf w) 0 && eqb (markedOf w) 0) und (eq-eqb _ _ a) in
+          (eqb-true _ _ (part-of _ (λ e. rw e at z)), eqb-true _ _ (part-of _ (λ e. rw (e, and-false) at z)), eqb-true _ _ (and-right (eqb (portKind t p) portMode && eqb (valueOf w) 0) _ z));
+      event = λ a. leb-true _ _ (implies-elim (eqb (portKind t p) portEvent) (leb (valueOf w) 1) (part-of _ (λ e. rw (portFits, e, and-false) at h)) (eq-eqb _ _ a));
+      timer = λ a. leb-true _ _ (implies-elim (eqb (portKind t p) portTimer) (leb (valueOf w) timerExpired) (part-of _ (λ e. rw (portFits, e, and-false) at h)) (eq-eqb _ _ a));
       started = λ a b. between-parts _ _ _ (implies-elim _ (between 1 (reload t p) (remainingOf w)) run (and-both _ _ (eq-eqb _ _ a) (eq-eqb _ _ b)));
       rest = λ f. eqb-true _ _ (or-elim (running t p w) (eqb (remainingOf w) 0) still (and-one-false _ _ (λ a b. f (eqb-true _ _ a) (eqb-true _ _ b))));
     }
@@ -68,7 +68,7 @@ port-fits t p w z f =
     (implies-intro _ _ (λ h. let u = f .undefined (eqb-true _ _ h) in and-both _ _ (and-both _ _ (eq-eqb _ _ (u .0)) (eq-eqb _ _ (u .1))) (eq-eqb _ _ (u .2)))))
     (implies-intro _ _ (λ h. le-leb _ _ (f .event (eqb-true _ _ h)))))
     (implies-intro _ _ (λ h. le-leb _ _ (f .timer (eqb-true _ _ h)))))
-    (implies-intro _ _ (λ h. between-both _ _ _ (f .started (eqb-true _ _ (and-left _ (eqb (valueOf w) timerStarted) h)) (eqb-true _ _ (and-right (eqb (portKind t p) kindTimer) _ h))))))
+    (implies-intro _ _ (λ h. between-both _ _ _ (f .started (eqb-true _ _ (and-left _ (eqb (valueOf w) timerStarted) h)) (eqb-true _ _ (and-right (eqb (portKind t p) portTimer) _ h))))))
     (or-intro _ _ (λ h. eq-eqb _ _ (f .rest (λ x y. clash (and-both _ _ (eq-eqb _ _ x) (eq-eqb _ _ y)) h))))
 
 pub port-packed : (t : List ℕ) (p d m v r : ℕ) → PortOk t p d m v r → portFits t p (packPort d m v r) ≡ true
@@ -90,7 +90,7 @@ pub record NetworkOk (t : List ℕ) (n : ℕ) (c : Network) : Type 0 where
   pub modes : c .asked ≤ askedFull
   pub states : c .state ≤ stateRecover
   pub check : c .state ≡ stateCheck → (1 ≤ c .remaining) × (c .remaining ≤ eTicks t n)
-  pub recover : c .state ≡ stateRecover → (1 ≤ c .remaining) × (c .remaining ≤ max (shortWait t n) (longWait t n))
+  pub recover : c .state ≡ stateRecover → (1 ≤ c .remaining) × (c .remaining ≤ max (l1 t n) (l2 t n))
   pub rest : (c .state ≡ stateCheck → ⊥) → (c .state ≡ stateRecover → ⊥) → (c .remaining ≡ 0) × (c .counter ≡ 0)
   pub counted : c .state ≡ stateRecover → 1 ≤ c .counter
 
@@ -115,7 +115,7 @@ network-ok t n w h =
       modes = leb-true _ _ (part-of _ (λ e. rw (networkFits, e, and-false) at h));
       states = leb-true _ _ (part-of _ (λ e. rw (networkFits, e, and-false) at h));
       check = λ a. between-parts _ _ _ (implies-elim (eqb (networkOf w .state) stateCheck) (between 1 (eTicks t n) (networkOf w .remaining)) (part-of _ (λ e. rw (networkFits, e, and-false) at h)) (eq-eqb _ _ a));
-      recover = λ a. between-parts _ _ _ (implies-elim (eqb (networkOf w .state) stateRecover) (between 1 (max (shortWait t n) (longWait t n)) (networkOf w .remaining)) (part-of _ (λ e. rw (networkFits, e, and-false) at h)) (eq-eqb _ _ a));
+      recover = λ a. between-parts _ _ _ (implies-elim (eqb (networkOf w .state) stateRecover) (between 1 (max (l1 t n) (l2 t n)) (networkOf w .remaining)) (part-of _ (λ e. rw (networkFits, e, and-false) at h)) (eq-eqb _ _ a));
       rest = λ a b. (eqb-true _ _ (neither (networkOf w .state) _ left a b), eqb-true _ _ (neither (networkOf w .state) _ calm a b));
       counted = λ a. leb-true _ _ (implies-elim (eqb (networkOf w .state) stateRecover) (leb 1 (networkOf w .counter)) (part-of _ (λ e. rw (networkFits, e, and-false) at h)) (eq-eqb _ _ a));
     }

@@ -7,7 +7,7 @@ use native.Mathlib.Omega.{arith}
 use lib.Dec.{leb, eqb}
 use borrow.Author.Tests.{ltb-true, leb-false, eqb-true, eqb-false}
 use Rattle.rulebook.specs.Words.{word}
-use Rattle.rulebook.specs.Table.{ports, networks, sources, portKind, kindMode, kindEvent, kindTimer, deferred, hasInitial, networkPort, sourcePort, threshold, shortWait, longWait, eTicks, timeout}
+use Rattle.rulebook.specs.Table.{ports, networks, sources, portKind, portMode, portEvent, portTimer, deferred, hasInitial, networkPort, sourcePort, threshold, l1, l2, eTicks, timeout}
 use Rattle.rulebook.specs.Reasons.{mayShow}
 use Rattle.rulebook.specs.State.{sourceIndex, valueOf, timerStarted, timerExpired, Network, askedNone, askedSilent, askedFull, stateNone, stateSilent, stateCheck, stateFull, stateRecover, statusNone, statusPending, statusValidated, statusExpired}
 use Rattle.rulebook.specs.Lists.{Run, start, setPort, networkIn}
@@ -25,7 +25,7 @@ use Rattle.laws.proofs.Happen.{Taken, happen-cases, mode-index, mode-ki
 
 pub record MayShow (t : List ℕ) (p : ℕ) : Type 0 where
   pub there : p < ports t
-  pub mode : portKind t p ≡ kindMode
+  pub mode : portKind t p ≡ portMode
   pub late : deferred t p ≡ 1
   pub bare : hasInitial t p ≡ 0
 
@@ -43,7 +43,7 @@ show-fits : (t s : List ℕ) (p v : ℕ) → mayShow t p ≡ true → v < 256 �
 unfolding setPort
 show-fits t s p v m v₈ h =
     let w = may-show t p m in
-    port-put t s h p 1 1 v 0 (w .there) (plain-ok t p 1 v (λ e. let k : portKind t p ≡ kindMode = w .mode in omega arith) (omega arith) (λ e. let d : deferred t p ≡ 1 = w .late in absurd (omega arith)) v₈ (λ e. let k : portKind t p ≡ kindMode = w .mode in absurd (omega arith)))
+    port-put t s h p 1 1 v 0 (w .there) (plain-ok t p 1 v (λ e. let k : portKind t p ≡ portMode = w .mode in omega arith) (omega arith) (λ e. let d : deferred t p ≡ 1 = w .late in absurd (omega arith)) v₈ (λ e. let k : portKind t p ≡ portMode = w .mode in absurd (omega arith)))
 
 module _ (t : List ℕ) (f : Facts t) where
   -- Sources.
@@ -115,17 +115,17 @@ module _ (t : List ℕ) (f : Facts t) where
       let cap : eTicks t n < 65536 = digit-small _ 65536 _ (omega arith) in
       record { counter₈ = b; remaining₁₆ = omega arith; modes = o .modes; states = omega arith; check = λ e. (x, y); recover = λ e. absurd (omega arith); rest = λ a d. absurd (a refl); counted = λ e. absurd (omega arith) }
 
-  recovering-ok : (n k r : ℕ) (c : Network) → NetworkOk t n c → k < 256 → 1 ≤ k → 1 ≤ r → r ≤ max (shortWait t n) (longWait t n) → NetworkOk t n (moved stateRecover k r c)
+  recovering-ok : (n k r : ℕ) (c : Network) → NetworkOk t n c → k < 256 → 1 ≤ k → 1 ≤ r → r ≤ max (l1 t n) (l2 t n) → NetworkOk t n (moved stateRecover k r c)
   recovering-ok n k r c o b z x y =
-      let short : shortWait t n < 256 = digit-small _ 256 _ (omega arith) in
-      let long : longWait t n < 256 = digit-small _ 256 _ (omega arith) in
+      let short : l1 t n < 256 = digit-small _ 256 _ (omega arith) in
+      let long : l2 t n < 256 = digit-small _ 256 _ (omega arith) in
       record { counter₈ = b; remaining₁₆ = omega arith; modes = o .modes; states = omega arith; check = λ e. absurd (omega arith); recover = λ e. (x, y); rest = λ a d. absurd (d refl); counted = λ e. z }
 
   pub off-bus-ok : (n k : ℕ) (c : Network) → n < networks t → NetworkOk t n c → k < 256 → 1 ≤ k → NetworkOk t n (offBus t n k c)
   unfolding offBus wait
   off-bus-ok n k c b o x y =
       let w = f .waits n b in let s₁ = w .short in let l₁ = w .long in
-      split (leb k (threshold t n)) (λ e. rw e (recovering-ok n k (shortWait t n) c o x y (omega arith) (omega arith))) (λ e. rw e (recovering-ok n k (longWait t n) c o x y (omega arith) (omega arith)))
+      split (leb k (threshold t n)) (λ e. rw e (recovering-ok n k (l1 t n) c o x y (omega arith) (omega arith))) (λ e. rw e (recovering-ok n k (l2 t n) c o x y (omega arith) (omega arith)))
 
   bus-off-fits : (n : ℕ) (s : List ℕ) → n < networks t → Fits t s → Fits t (busOff t n s)
   unfolding busOff
@@ -165,9 +165,9 @@ module _ (t : List ℕ) (f : Facts t) where
   unfolding tickTimer setPort
   tick-timer-fits p s b h =
       let o = port-in t s h p b in
-      split (eqb (portKind t p) kindTimer && eqb (valueOf (word s p)) timerStarted)
+      split (eqb (portKind t p) portTimer && eqb (valueOf (word s p)) timerStarted)
       (λ e. let k = eqb-true _ _ (and-left _ (eqb (valueOf (word s p)) timerStarted) e) in
-      let v = eqb-true _ _ (and-right (eqb (portKind t p) kindTimer) _ e) in
+      let v = eqb-true _ _ (and-right (eqb (portKind t p) portTimer) _ e) in
       let r = o .started k v in let d₁ = timer-deferred t p (f .port p b) k in
       split (leb (remainingIn s p) 1)
       (λ d. rw (e, d) (port-put t s h p 1 1 timerExpired 0 b (timer-ok t p 1 timerExpired 0 k d₁ (omega arith) (omega arith) (omega arith) (λ z. absurd (omega arith)) (λ z. refl))))
@@ -183,12 +183,12 @@ module _ (t : List ℕ) (f : Facts t) where
       (each-keeps (Fits t) (tickNetwork t) 0 (networks t) s (λ n x a b. tick-network-fits n x (omega arith)) h))
 
   -- the port of a request, written
-  pub requested-fits : (p m v : ℕ) (s : List ℕ) → p < ports t → (portKind t p ≡ kindTimer → ⊥) → v < 256 → (portKind t p ≡ kindEvent → v ≤ 1) → m < 2 → (deferred t p ≡ 0 → m ≡ 0) → Fits t s → Fits t (setPort p m v 0 s)
+  pub requested-fits : (p m v : ℕ) (s : List ℕ) → p < ports t → (portKind t p ≡ portTimer → ⊥) → v < 256 → (portKind t p ≡ portEvent → v ≤ 1) → m < 2 → (deferred t p ≡ 0 → m ≡ 0) → Fits t s → Fits t (setPort p m v 0 s)
   unfolding setPort
   requested-fits p m v s b nt v₈ ev m₂ imm h = port-put t s h p 1 m v 0 b (plain-ok t p m v nt m₂ imm v₈ ev)
 
   -- a request, deferred or immediate
-  pub request-cases : (P : Run → Type 0) (p v : ℕ) (s : List ℕ) → p < ports t → (portKind t p ≡ kindTimer → ⊥) → v < 256 → (portKind t p ≡ kindEvent → v ≤ 1) → Fits t s
+  pub request-cases : (P : Run → Type 0) (p v : ℕ) (s : List ℕ) → p < ports t → (portKind t p ≡ portTimer → ⊥) → v < 256 → (portKind t p ≡ portEvent → v ≤ 1) → Fits t s
       → (Fits t (setPort p 1 v 0 s) → P (start (setPort p 1 v 0 s))) → (Fits t (setPort p 0 v 0 s) → P (arbitrate t (only p) (setPort p 0 v 0 s))) → P (request t p v s)
   unfolding request
   request-cases P p v s b nt v₈ ev h late now =
@@ -196,7 +196,7 @@ module _ (t : List ℕ) (f : Facts t) where
       (λ e. let d : deferred t p ≡ 1 = eqb-true _ _ e in rw e (late (requested-fits p 1 v s b nt v₈ ev (omega arith) (λ z. absurd (omega arith)) h)))
       (λ e. rw e (now (requested-fits p 0 v s b nt v₈ ev (omega arith) (λ z. refl) h)))
 
-  request-fits : (p v : ℕ) (s : List ℕ) → p < ports t → (portKind t p ≡ kindTimer → ⊥) → v < 256 → (portKind t p ≡ kindEvent → v ≤ 1) → Fits t s → Fits t (request t p v s .state)
+  request-fits : (p v : ℕ) (s : List ℕ) → p < ports t → (portKind t p ≡ portTimer → ⊥) → v < 256 → (portKind t p ≡ portEvent → v ≤ 1) → Fits t s → Fits t (request t p v s .state)
   request-fits p v s b nt v₈ ev h = request-cases (λ x. Fits t (x .state)) p v s b nt v₈ ev h (λ fit. fit) (λ fit. arbitrate-fits t f (only p) _ fit)
 
   pub happen-fits : (e : ℕ) (s : List ℕ) → Taken t e → Fits t s → Fits t (happen t e s .state)

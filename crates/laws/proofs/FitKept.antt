@@ -8,7 +8,7 @@ use lib.ListN.{set}
 use lib.Dec.{leb, eqb}
 use borrow.Author.Tests.{leb-true, eqb-true, eq-eqb}
 use Rattle.rulebook.specs.Words.{word}
-use Rattle.rulebook.specs.Table.{ports, networks, sources, rules, portKind, kindEvent, kindTimer, deferred, reload}
+use Rattle.rulebook.specs.Table.{ports, networks, sources, rules, portKind, portEvent, portTimer, deferred, reload}
 use Rattle.rulebook.specs.Reasons.{portFields}
 use Rattle.rulebook.specs.State.{ruleIndex, networkIndex, sourceIndex, definedOf, markedOf, valueOf, remainingOf, timerStopped, timerStarted, timerExpired, Network, statusOf, packPort, packSource, thingFits, fits}
 use Rattle.rulebook.specs.Lists.{setPort, networkIn, asking, setNetwork, setResult}
@@ -56,16 +56,16 @@ module _ (t s : List ℕ) (h : Fits t s) where
 
 -- Port words of each kind.
 
-pub timer-deferred : (t : List ℕ) (p : ℕ) → portFields t p ≡ true → portKind t p ≡ kindTimer → deferred t p ≡ 1
+pub timer-deferred : (t : List ℕ) (p : ℕ) → portFields t p ≡ true → portKind t p ≡ portTimer → deferred t p ≡ 1
 unfolding portFields
-timer-deferred t p h k = eqb-true _ _ (implies-elim (eqb (portKind t p) kindTimer) (eqb (deferred t p) 1) (part-of _ (λ e. rw (portFields, e, and-false) at h)) (eq-eqb _ _ k))
+timer-deferred t p h k = eqb-true _ _ (implies-elim (eqb (portKind t p) portTimer) (eqb (deferred t p) 1) (part-of _ (λ e. rw (portFields, e, and-false) at h)) (eq-eqb _ _ k))
 
-pub timer-reload : (t : List ℕ) (p : ℕ) → portFields t p ≡ true → portKind t p ≡ kindTimer → 1 ≤ reload t p
+pub timer-reload : (t : List ℕ) (p : ℕ) → portFields t p ≡ true → portKind t p ≡ portTimer → 1 ≤ reload t p
 unfolding portFields
-timer-reload t p h k = leb-true _ _ (implies-elim (eqb (portKind t p) kindTimer) (leb 1 (reload t p)) (part-of _ (λ e. rw (portFields, e, and-false) at h)) (eq-eqb _ _ k))
+timer-reload t p h k = leb-true _ _ (implies-elim (eqb (portKind t p) portTimer) (leb 1 (reload t p)) (part-of _ (λ e. rw (portFields, e, and-false) at h)) (eq-eqb _ _ k))
 
 -- a defined mode or event port
-pub plain-ok : (t : List ℕ) (p m v : ℕ) → (portKind t p ≡ kindTimer → ⊥) → m < 2 → (deferred t p ≡ 0 → m ≡ 0) → v < 256 → (portKind t p ≡ kindEvent → v ≤ 1) → PortOk t p 1 m v 0
+pub plain-ok : (t : List ℕ) (p m v : ℕ) → (portKind t p ≡ portTimer → ⊥) → m < 2 → (deferred t p ≡ 0 → m ≡ 0) → v < 256 → (portKind t p ≡ portEvent → v ≤ 1) → PortOk t p 1 m v 0
 plain-ok t p m v no-timer small imm v₈ ev =
     record {
       defined₂ = omega arith;
@@ -80,7 +80,7 @@ plain-ok t p m v no-timer small imm v₈ ev =
       rest = λ e. refl;
     }
 
-pub timer-ok : (t : List ℕ) (p m v r : ℕ) → portKind t p ≡ kindTimer → deferred t p ≡ 1 → m < 2 → v ≤ timerExpired → r ≤ reload t p → (v ≡ timerStarted → 1 ≤ r) → ((v ≡ timerStarted → ⊥) → r ≡ 0) → PortOk t p 1 m v r
+pub timer-ok : (t : List ℕ) (p m v r : ℕ) → portKind t p ≡ portTimer → deferred t p ≡ 1 → m < 2 → v ≤ timerExpired → r ≤ reload t p → (v ≡ timerStarted → 1 ≤ r) → ((v ≡ timerStarted → ⊥) → r ≡ 0) → PortOk t p 1 m v r
 timer-ok t p m v r k d small v₂ r₁ on off =
     let cap : reload t p < 65536 = digit-small _ 65536 _ (omega arith) in
     record {

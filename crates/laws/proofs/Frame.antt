@@ -6,9 +6,9 @@ use mathlib.Core.List.{List, [], _∷_, _++_, append-nil, append-assoc}
 use Prim.Native.Nat.{ℕ, zero, suc}
 use lib.Dec.{eqb}
 use Rattle.rulebook.specs.Words.{each}
-use Rattle.rulebook.specs.Table.{noList, listOwner, firstItem, itemCount, itemKind, itemA, kindRule}
+use Rattle.rulebook.specs.Table.{noList, listOwner, firstItem, itemCount, itemKind, itemA, itemRule}
 use Rattle.rulebook.specs.State.{undefinedResult}
-use Rattle.rulebook.specs.Lists.{Run, start, become, emit, tooDeep, traceWord, kindListStart, effect, act, unready, resultIn, choiceIn, setResult, judge, runChoice, runRule, runItem, runItems, runList}
+use Rattle.rulebook.specs.Lists.{Run, start, become, emit, tooDeep, traceWord, traceListStart, effect, act, unready, resultIn, choiceIn, setResult, judge, runChoice, runRule, runItem, runItems, runList}
 use Rattle.rulebook.specs.Arbitration.{runIf, runChosen}
 use Rattle.laws.proofs.Tests.{split}
 use Rattle.laws.proofs.Cases.{item-list, item-rule, item-act, item-cases, rule-unready, rule-ready, choice-none, choice-some, if-chosen, if-not}
@@ -78,7 +78,7 @@ module _ (t : List ℕ) (below : ℕ → Run → Run) (h : (l : ℕ) → Framed 
 
   judge-framed : (r : ℕ) → Framed (judge t o r)
   unfolding judge
-  judge-framed r = framed-put (λ s. setResult t r (resultIn t s r) s) (λ s. traceWord kindRule o r (resultIn t s r))
+  judge-framed r = framed-put (λ s. setResult t r (resultIn t s r) s) (λ s. traceWord itemRule o r (resultIn t s r))
 
   pub choice-framed : (l : ℕ) → Framed (runChoice below l)
   choice-framed l =
@@ -89,7 +89,7 @@ module _ (t : List ℕ) (below : ℕ → Run → Run) (h : (l : ℕ) → Framed 
   rule-framed r =
       framed-by (runRule below t o r)
       (λ x. split (unready t (x .state) r)
-      (λ e. (emit (traceWord kindRule o r undefinedResult), framed-put (λ s. s) (λ s. traceWord kindRule o r undefinedResult), rule-unready below t o r x e, rule-unready below t o r _ e))
+      (λ e. (emit (traceWord itemRule o r undefinedResult), framed-put (λ s. s) (λ s. traceWord itemRule o r undefinedResult), rule-unready below t o r x e, rule-unready below t o r _ e))
       (λ e. (λ y. runChoice below (choiceIn t (x .state) r) (judge t o r y), framed-then (judge t o r) (runChoice below (choiceIn t (x .state) r)) (judge-framed r) (choice-framed _), rule-ready below t o r x e, rule-ready below t o r _ e)))
 
   pub item-framed : (i : ℕ) → Framed (runItem below t o i)
@@ -104,8 +104,8 @@ pub list-framed : (t : List ℕ) (d l : ℕ) → Framed (runList d t l)
 unfolding runList runItems
 list-framed t zero l = framed-deep
 list-framed t (suc d) l =
-    framed-then (emit (traceWord kindListStart (listOwner t l) l 0)) (each (firstItem t l) (itemCount t l) (runItem (runList d t) t (listOwner t l)))
-    (framed-put (λ s. s) (λ s. traceWord kindListStart (listOwner t l) l 0))
+    framed-then (emit (traceWord traceListStart (listOwner t l) l 0)) (each (firstItem t l) (itemCount t l) (runItem (runList d t) t (listOwner t l)))
+    (framed-put (λ s. s) (λ s. traceWord traceListStart (listOwner t l) l 0))
     (framed-each _ (firstItem t l) (itemCount t l) (item-framed t (runList d t) (list-framed t d) (listOwner t l)))
 
 pub if-framed : (t : List ℕ) (c : ℕ → Bool) (l : ℕ) → Framed (runIf t c l)

@@ -7,31 +7,31 @@ use Prim.Native.Nat.{ℕ, _≤_, _<_}
 use native.Mathlib.Omega.{arith}
 use lib.Dec.{eqb}
 use borrow.Author.Tests.{ltb-true, leb-true, eqb-true, eqb-false, eq-eqb, ne-eqb, not-true}
-use Rattle.rulebook.specs.Table.{ports, networks, sources, portKind, kindMode, kindEvent}
+use Rattle.rulebook.specs.Table.{ports, networks, sources, portKind, portMode, portEvent}
 use Rattle.rulebook.specs.Reasons.{held}
 use Rattle.rulebook.specs.State.{aPort, aNetwork, aSource, ownerOf}
 use Rattle.rulebook.specs.Lists.{Run, start}
-use Rattle.rulebook.specs.Events.{eventKind, eventOwner, eventIndex, eventValue, tickKind, modeKind, requestKind, wakeupKind, validKind, busOffKind, highestKind, request, wake, validate, clear, busOff, tick, happen}
+use Rattle.rulebook.specs.Events.{eventKind, eventOwner, eventIndex, eventValue, eventTick, eventMode, eventRequest, eventWakeup, eventValid, eventBusOff, highestKind, request, wake, validate, clear, busOff, tick, happen}
 use Rattle.rulebook.specs.Step.{wellFormed, named, present, suited, known, sentByOwner, refusedEvent}
 use Rattle.laws.proofs.Tests.{split, part-of, and-left, and-right, implies-elim, or-elim}
 
 pub happen-cases : (P : Run → Type 0) (t : List ℕ) (e : ℕ) (s : List ℕ)
-    → (eventKind e ≡ tickKind → P (tick t s))
-    → (eventKind e ≡ modeKind → P (request t (eventIndex e) (eventValue e) s))
-    → (eventKind e ≡ requestKind → P (request t (eventIndex e) 1 s))
-    → (eventKind e ≡ wakeupKind → P (start (wake t (eventIndex e) s)))
-    → (eventKind e ≡ validKind → P (start (validate t (eventIndex e) s)))
-    → (eventKind e ≡ busOffKind → P (start (busOff t (eventIndex e) s)))
-    → ((eventKind e ≤ busOffKind → ⊥) → P (start (clear t (eventIndex e) s)))
+    → (eventKind e ≡ eventTick → P (tick t s))
+    → (eventKind e ≡ eventMode → P (request t (eventIndex e) (eventValue e) s))
+    → (eventKind e ≡ eventRequest → P (request t (eventIndex e) 1 s))
+    → (eventKind e ≡ eventWakeup → P (start (wake t (eventIndex e) s)))
+    → (eventKind e ≡ eventValid → P (start (validate t (eventIndex e) s)))
+    → (eventKind e ≡ eventBusOff → P (start (busOff t (eventIndex e) s)))
+    → ((eventKind e ≤ eventBusOff → ⊥) → P (start (clear t (eventIndex e) s)))
     → P (happen t e s)
 unfolding happen
 happen-cases P t e s f₀ f₁ f₂ f₃ f₄ f₅ f₆ =
-    split (eqb (eventKind e) tickKind) (λ a. rw a (f₀ (eqb-true _ _ a)))
-    (λ a. split (eqb (eventKind e) modeKind) (λ b. rw (a, b) (f₁ (eqb-true _ _ b)))
-    (λ b. split (eqb (eventKind e) requestKind) (λ c. rw (a, b, c) (f₂ (eqb-true _ _ c)))
-    (λ c. split (eqb (eventKind e) wakeupKind) (λ d. rw (a, b, c, d) (f₃ (eqb-true _ _ d)))
-    (λ d. split (eqb (eventKind e) validKind) (λ g. rw (a, b, c, d, g) (f₄ (eqb-true _ _ g)))
-    (λ g. split (eqb (eventKind e) busOffKind) (λ h. rw (a, b, c, d, g, h) (f₅ (eqb-true _ _ h)))
+    split (eqb (eventKind e) eventTick) (λ a. rw a (f₀ (eqb-true _ _ a)))
+    (λ a. split (eqb (eventKind e) eventMode) (λ b. rw (a, b) (f₁ (eqb-true _ _ b)))
+    (λ b. split (eqb (eventKind e) eventRequest) (λ c. rw (a, b, c) (f₂ (eqb-true _ _ c)))
+    (λ c. split (eqb (eventKind e) eventWakeup) (λ d. rw (a, b, c, d) (f₃ (eqb-true _ _ d)))
+    (λ d. split (eqb (eventKind e) eventValid) (λ g. rw (a, b, c, d, g) (f₄ (eqb-true _ _ g)))
+    (λ g. split (eqb (eventKind e) eventBusOff) (λ h. rw (a, b, c, d, g, h) (f₅ (eqb-true _ _ h)))
     (λ h. rw (a, b, c, d, g, h) (f₆ (λ le.
     let n₀ = eqb-false _ _ a in let n₁ = eqb-false _ _ b in let n₂ = eqb-false _ _ c in
     let n₃ = eqb-false _ _ d in let n₄ = eqb-false _ _ g in let n₅ = eqb-false _ _ h in
@@ -62,60 +62,60 @@ module _ (t : List ℕ) (e : ℕ) (w : Taken t e) where
   unfolding wellFormed
   kind-small = leb-true _ _ (part-of _ (λ x. rw (wellFormed, x) at (w .wellFormed)))
 
-  named-there : (eventKind e ≡ tickKind → ⊥) → (present t (named e) && suited t e) ≡ true
+  named-there : (eventKind e ≡ eventTick → ⊥) → (present t (named e) && suited t e) ≡ true
   unfolding known
-  named-there n = or-elim (eqb (eventKind e) tickKind) _ (w .known) (ne-eqb _ _ n)
+  named-there n = or-elim (eqb (eventKind e) eventTick) _ (w .known) (ne-eqb _ _ n)
 
-  pub owner-is : (eventKind e ≡ tickKind → ⊥) → eventOwner e ≡ ownerOf t (named e)
+  pub owner-is : (eventKind e ≡ eventTick → ⊥) → eventOwner e ≡ ownerOf t (named e)
   unfolding sentByOwner
-  owner-is n = eqb-true _ _ (or-elim (eqb (eventKind e) tickKind) _ (w .owner) (ne-eqb _ _ n))
+  owner-is n = eqb-true _ _ (or-elim (eqb (eventKind e) eventTick) _ (w .owner) (ne-eqb _ _ n))
 
-  named-port : eventKind e ≡ modeKind → named e ≡ aPort (eventIndex e)
+  named-port : eventKind e ≡ eventMode → named e ≡ aPort (eventIndex e)
   unfolding named
   named-port k = rw k
 
-  named-event : eventKind e ≡ requestKind → named e ≡ aPort (eventIndex e)
+  named-event : eventKind e ≡ eventRequest → named e ≡ aPort (eventIndex e)
   unfolding named
   named-event k = rw k
 
-  named-network : eventKind e ≡ busOffKind → named e ≡ aNetwork (eventIndex e)
+  named-network : eventKind e ≡ eventBusOff → named e ≡ aNetwork (eventIndex e)
   unfolding named
   named-network k = rw k
 
-  pub named-source : (eventKind e ≡ modeKind → ⊥) → (eventKind e ≡ requestKind → ⊥) → (eventKind e ≡ busOffKind → ⊥) → named e ≡ aSource (eventIndex e)
+  pub named-source : (eventKind e ≡ eventMode → ⊥) → (eventKind e ≡ eventRequest → ⊥) → (eventKind e ≡ eventBusOff → ⊥) → named e ≡ aSource (eventIndex e)
   unfolding named
   named-source a b c = rw (ne-eqb _ _ a, ne-eqb _ _ b, ne-eqb _ _ c)
 
-  there : (eventKind e ≡ tickKind → ⊥) → present t (named e) ≡ true
+  there : (eventKind e ≡ eventTick → ⊥) → present t (named e) ≡ true
   there n = and-left _ (suited t e) (named-there n)
 
-  fit-for : (eventKind e ≡ tickKind → ⊥) → suited t e ≡ true
+  fit-for : (eventKind e ≡ eventTick → ⊥) → suited t e ≡ true
   fit-for n = and-right (present t (named e)) _ (named-there n)
 
-  pub mode-index : eventKind e ≡ modeKind → eventIndex e < ports t
+  pub mode-index : eventKind e ≡ eventMode → eventIndex e < ports t
   unfolding present
   mode-index k = ltb-true _ _ (rw (named-port k) at (there (λ z. omega arith)))
 
-  pub mode-kind : eventKind e ≡ modeKind → portKind t (eventIndex e) ≡ kindMode
+  pub mode-kind : eventKind e ≡ eventMode → portKind t (eventIndex e) ≡ portMode
   unfolding suited
-  mode-kind k = eqb-true _ _ (implies-elim (eqb (eventKind e) modeKind) _ (part-of _ (λ x. rw (suited, x) at (fit-for (λ z. omega arith)))) (eq-eqb _ _ k))
+  mode-kind k = eqb-true _ _ (implies-elim (eqb (eventKind e) eventMode) _ (part-of _ (λ x. rw (suited, x) at (fit-for (λ z. omega arith)))) (eq-eqb _ _ k))
 
-  pub mode-unheld : eventKind e ≡ modeKind → held t (eventIndex e) (networks t) (sources t) ≡ false
+  pub mode-unheld : eventKind e ≡ eventMode → held t (eventIndex e) (networks t) (sources t) ≡ false
   unfolding suited
-  mode-unheld k = not-true _ (implies-elim (eqb (eventKind e) modeKind) (not (held t (eventIndex e) (networks t) (sources t))) (part-of _ (λ x. rw (suited, x, and-false) at (fit-for (λ z. omega arith)))) (eq-eqb _ _ k))
+  mode-unheld k = not-true _ (implies-elim (eqb (eventKind e) eventMode) (not (held t (eventIndex e) (networks t) (sources t))) (part-of _ (λ x. rw (suited, x, and-false) at (fit-for (λ z. omega arith)))) (eq-eqb _ _ k))
 
-  pub request-index : eventKind e ≡ requestKind → eventIndex e < ports t
+  pub request-index : eventKind e ≡ eventRequest → eventIndex e < ports t
   unfolding present
   request-index k = ltb-true _ _ (rw (named-event k) at (there (λ z. omega arith)))
 
-  pub request-kind : eventKind e ≡ requestKind → portKind t (eventIndex e) ≡ kindEvent
+  pub request-kind : eventKind e ≡ eventRequest → portKind t (eventIndex e) ≡ portEvent
   unfolding suited
-  request-kind k = eqb-true _ _ (implies-elim (eqb (eventKind e) requestKind) (eqb (portKind t (eventIndex e)) kindEvent) (part-of _ (λ x. rw (suited, x, and-false) at (fit-for (λ z. omega arith)))) (eq-eqb _ _ k))
+  request-kind k = eqb-true _ _ (implies-elim (eqb (eventKind e) eventRequest) (eqb (portKind t (eventIndex e)) portEvent) (part-of _ (λ x. rw (suited, x, and-false) at (fit-for (λ z. omega arith)))) (eq-eqb _ _ k))
 
-  pub bus-off-index : eventKind e ≡ busOffKind → eventIndex e < networks t
+  pub bus-off-index : eventKind e ≡ eventBusOff → eventIndex e < networks t
   unfolding present
   bus-off-index k = ltb-true _ _ (rw (named-network k) at (there (λ z. omega arith)))
 
-  pub source-index : (eventKind e ≡ tickKind → ⊥) → (eventKind e ≡ modeKind → ⊥) → (eventKind e ≡ requestKind → ⊥) → (eventKind e ≡ busOffKind → ⊥) → eventIndex e < sources t
+  pub source-index : (eventKind e ≡ eventTick → ⊥) → (eventKind e ≡ eventMode → ⊥) → (eventKind e ≡ eventRequest → ⊥) → (eventKind e ≡ eventBusOff → ⊥) → eventIndex e < sources t
   unfolding present
   source-index a b c d = ltb-true _ _ (rw (named-source b c d) at (there a))

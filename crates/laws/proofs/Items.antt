@@ -7,7 +7,7 @@ use native.Mathlib.Omega.{arith}
 use lib.Dec.{leb, ltb, eqb}
 use borrow.Author.Tests.{ltb-true, leb-true, eqb-true, eq-eqb}
 use Rattle.rulebook.specs.Words.{implies, between}
-use Rattle.rulebook.specs.Table.{ports, networks, rules, lists, portKind, kindEvent, kindTimer, trueList, falseList, noList, triggered, itemKind, itemA, itemB, kindClear, kindStart, kindStop, kindAsk, kindList, kindRule}
+use Rattle.rulebook.specs.Table.{ports, networks, rules, lists, portKind, portEvent, portTimer, trueList, falseList, noList, triggered, itemKind, itemA, itemB, itemClear, itemStart, itemStop, itemAsk, itemList, itemRule}
 use Rattle.rulebook.specs.Expressions.{deepest, holds}
 use Rattle.rulebook.specs.Reasons.{itemFields, itemNames, portOfKind, listOrNone}
 use Rattle.rulebook.specs.Lists.{valueIn, resultIn, listFor, choice}
@@ -15,35 +15,35 @@ use Rattle.laws.specs.Facts.{RuleFacts}
 use Rattle.laws.proofs.Tests.{split, clash, part-of, and-left, and-right}
 
 module _ (t : List ℕ) (i : ℕ) (h : itemNames t i ≡ true) where
-  pub clear-there : itemKind t i ≡ kindClear → portOfKind t kindEvent (itemA t i) ≡ true
+  pub clear-there : itemKind t i ≡ itemClear → portOfKind t portEvent (itemA t i) ≡ true
   unfolding itemNames
-  clear-there k = rw k at (part-of (implies (eqb (itemKind t i) kindClear) (portOfKind t kindEvent (itemA t i))) (λ e. rw (itemNames, e) at h))
+  clear-there k = rw k at (part-of (implies (eqb (itemKind t i) itemClear) (portOfKind t portEvent (itemA t i))) (λ e. rw (itemNames, e) at h))
 
-  timer-there : implies (between kindStart kindStop (itemKind t i)) (portOfKind t kindTimer (itemA t i)) ≡ true
+  timer-there : implies (between itemStart itemStop (itemKind t i)) (portOfKind t portTimer (itemA t i)) ≡ true
   unfolding itemNames
   timer-there = part-of _ (λ e. rw (itemNames, e, and-false) at h)
 
-  pub start-there : itemKind t i ≡ kindStart → portOfKind t kindTimer (itemA t i) ≡ true
+  pub start-there : itemKind t i ≡ itemStart → portOfKind t portTimer (itemA t i) ≡ true
   start-there k = rw k at timer-there
 
-  pub stop-there : itemKind t i ≡ kindStop → portOfKind t kindTimer (itemA t i) ≡ true
+  pub stop-there : itemKind t i ≡ itemStop → portOfKind t portTimer (itemA t i) ≡ true
   stop-there k = rw k at timer-there
 
-  pub ask-there : itemKind t i ≡ kindAsk → itemA t i < networks t
+  pub ask-there : itemKind t i ≡ itemAsk → itemA t i < networks t
   unfolding itemNames
-  ask-there k = ltb-true _ _ (rw k at (part-of (implies (eqb (itemKind t i) kindAsk) (ltb (itemA t i) (networks t))) (λ e. rw (itemNames, e, and-false) at h)))
+  ask-there k = ltb-true _ _ (rw k at (part-of (implies (eqb (itemKind t i) itemAsk) (ltb (itemA t i) (networks t))) (λ e. rw (itemNames, e, and-false) at h)))
 
-  pub list-there : itemKind t i ≡ kindList → itemA t i < lists t
+  pub list-there : itemKind t i ≡ itemList → itemA t i < lists t
   unfolding itemNames
-  list-there k = ltb-true _ _ (rw k at (part-of (implies (eqb (itemKind t i) kindList) (ltb (itemA t i) (lists t))) (λ e. rw (itemNames, e, and-false) at h)))
+  list-there k = ltb-true _ _ (rw k at (part-of (implies (eqb (itemKind t i) itemList) (ltb (itemA t i) (lists t))) (λ e. rw (itemNames, e, and-false) at h)))
 
-  pub rule-there : itemKind t i ≡ kindRule → itemA t i < rules t
+  pub rule-there : itemKind t i ≡ itemRule → itemA t i < rules t
   unfolding itemNames
-  rule-there k = ltb-true _ _ (rw k at (part-of (implies (eqb (itemKind t i) kindRule) (ltb (itemA t i) (rules t))) (λ e. rw (itemNames, e, and-false) at h)))
+  rule-there k = ltb-true _ _ (rw k at (part-of (implies (eqb (itemKind t i) itemRule) (ltb (itemA t i) (rules t))) (λ e. rw (itemNames, e, and-false) at h)))
 
-pub mode-small : (t : List ℕ) (i : ℕ) → itemFields t i ≡ true → itemKind t i ≡ kindAsk → itemB t i ≤ 2
+pub mode-small : (t : List ℕ) (i : ℕ) → itemFields t i ≡ true → itemKind t i ≡ itemAsk → itemB t i ≤ 2
 unfolding itemFields
-mode-small t i h k = leb-true _ _ (rw k at (part-of (implies (eqb (itemKind t i) kindAsk) (leb (itemB t i) 2)) (λ e. rw (itemFields, e, and-false) at h)))
+mode-small t i h k = leb-true _ _ (rw k at (part-of (implies (eqb (itemKind t i) itemAsk) (leb (itemB t i) 2)) (λ e. rw (itemFields, e, and-false) at h)))
 
 pub port-there : (t : List ℕ) (kind p : ℕ) → portOfKind t kind p ≡ true → p < ports t
 unfolding portOfKind

@@ -7,7 +7,7 @@ use native.Mathlib.Omega.{arith}
 use lib.Dec.{eqb, ltb}
 use borrow.Author.Tests.{ltb-true, lt-ltb}
 use Rattle.rulebook.specs.Words.{all, sum}
-use Rattle.rulebook.specs.Table.{lists, trueList, falseList, noList, firstItem, itemCount, itemKind, itemA, kindList, kindRule}
+use Rattle.rulebook.specs.Table.{lists, trueList, falseList, noList, firstItem, itemCount, itemKind, itemA, itemList, itemRule}
 use Rattle.rulebook.specs.Reasons.{ruleNests, itemNests, listNests, listWithin, ruleCost, itemCost, listCost, costWithin}
 use Rattle.rulebook.specs.Lists.{choice}
 use Rattle.laws.proofs.Tests.{clash, and-left, and-right}
@@ -15,11 +15,11 @@ use Rattle.laws.proofs.Walks.{all-at}
 use Rattle.laws.proofs.Items.{choice-cases}
 
 module _ (t : List ℕ) (fits : ℕ → Bool) where
-  pub nests-list : (i : ℕ) → eqb (itemKind t i) kindList ≡ true → itemNests t fits i ≡ true → fits (itemA t i) ≡ true
+  pub nests-list : (i : ℕ) → eqb (itemKind t i) itemList ≡ true → itemNests t fits i ≡ true → fits (itemA t i) ≡ true
   unfolding itemNests
   nests-list i h n = rw (h, itemNests) at n
 
-  pub nests-rule : (i : ℕ) → eqb (itemKind t i) kindList ≡ false → eqb (itemKind t i) kindRule ≡ true → itemNests t fits i ≡ true → ruleNests t fits (itemA t i) ≡ true
+  pub nests-rule : (i : ℕ) → eqb (itemKind t i) itemList ≡ false → eqb (itemKind t i) itemRule ≡ true → itemNests t fits i ≡ true → ruleNests t fits (itemA t i) ≡ true
   unfolding itemNests
   nests-rule i h k n = rw (h, k, itemNests) at n
 
@@ -40,15 +40,15 @@ unfolding listWithin listNests
 within-item t d l i h a b = all-at (itemNests t (listWithin d t)) (firstItem t l) (itemCount t l) i (and-right (ltb l (lists t)) _ h) a b
 
 module _ (t : List ℕ) (cost : ℕ → ℕ) where
-  pub cost-list : (i : ℕ) → eqb (itemKind t i) kindList ≡ true → itemCost t cost i ≡ cost (itemA t i)
+  pub cost-list : (i : ℕ) → eqb (itemKind t i) itemList ≡ true → itemCost t cost i ≡ cost (itemA t i)
   unfolding itemCost
   cost-list i h = rw (h, itemCost)
 
-  pub cost-rule : (i : ℕ) → eqb (itemKind t i) kindList ≡ false → eqb (itemKind t i) kindRule ≡ true → itemCost t cost i ≡ ruleCost t cost (itemA t i)
+  pub cost-rule : (i : ℕ) → eqb (itemKind t i) itemList ≡ false → eqb (itemKind t i) itemRule ≡ true → itemCost t cost i ≡ ruleCost t cost (itemA t i)
   unfolding itemCost
   cost-rule i h k = rw (h, k, itemCost)
 
-  pub cost-act : (i : ℕ) → eqb (itemKind t i) kindList ≡ false → eqb (itemKind t i) kindRule ≡ false → itemCost t cost i ≡ 1
+  pub cost-act : (i : ℕ) → eqb (itemKind t i) itemList ≡ false → eqb (itemKind t i) itemRule ≡ false → itemCost t cost i ≡ 1
   unfolding itemCost
   cost-act i h k = rw (h, k, itemCost)
 

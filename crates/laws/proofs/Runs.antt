@@ -8,9 +8,9 @@ use native.Mathlib.Omega.{arith}
 use lib.ListN.{set}
 use lib.Dec.{eqb}
 use Rattle.rulebook.specs.Words.{word}
-use Rattle.rulebook.specs.Table.{ports, networks, rules, lists, items, portKind, kindEvent, kindTimer, reload, noList, listOwner, firstItem, itemCount, itemKind, itemA, itemB, kindList, kindRule}
+use Rattle.rulebook.specs.Table.{ports, networks, rules, lists, items, portKind, portEvent, portTimer, reload, noList, listOwner, firstItem, itemCount, itemKind, itemA, itemB, itemList, itemRule}
 use Rattle.rulebook.specs.State.{markedOf, timerStopped, timerStarted, undefinedResult}
-use Rattle.rulebook.specs.Lists.{Run, start, emit, tooDeep, traceWord, kindListStart, setPort, networkIn, asking, setNetwork, effect, act, unready, choiceIn, choice, setResult, judge, runChoice, runRule, runItem, runItems, runList}
+use Rattle.rulebook.specs.Lists.{Run, start, emit, tooDeep, traceWord, traceListStart, setPort, networkIn, asking, setNetwork, effect, act, unready, choiceIn, choice, setResult, judge, runChoice, runRule, runItem, runItems, runList}
 use Rattle.rulebook.specs.Arbitration.{unmarked, unmarkPort, unmarkPorts, evaluated, storeResult, storeResults, chosen, order, runIf, runChosen, decide, arbitrate}
 use Rattle.laws.specs.Facts.{Facts}
 use Rattle.laws.proofs.Tests.{split}
@@ -33,10 +33,10 @@ item-there t f l i w =
     omega arith
 
 pub record KeptByActs (t : List ℕ) (Q : Run → Type 0) : Type 0 where
-  pub begin : (l : ℕ) (x : Run) → l < lists t → Q x → Q (emit (traceWord kindListStart (listOwner t l) l 0) x)
-  pub act : (l i : ℕ) (x : Run) → Within t l i → eqb (itemKind t i) kindList ≡ false → eqb (itemKind t i) kindRule ≡ false → Q x → Q (act t (listOwner t l) i x)
-  pub undefined : (l i : ℕ) (x : Run) → Within t l i → itemKind t i ≡ kindRule → Q x → Q (emit (traceWord kindRule (listOwner t l) (itemA t i) undefinedResult) x)
-  pub judge : (l i : ℕ) (x : Run) → Within t l i → itemKind t i ≡ kindRule → unready t (x .state) (itemA t i) ≡ false → Q x → Q (judge t (listOwner t l) (itemA t i) x)
+  pub begin : (l : ℕ) (x : Run) → l < lists t → Q x → Q (emit (traceWord traceListStart (listOwner t l) l 0) x)
+  pub act : (l i : ℕ) (x : Run) → Within t l i → eqb (itemKind t i) itemList ≡ false → eqb (itemKind t i) itemRule ≡ false → Q x → Q (act t (listOwner t l) i x)
+  pub undefined : (l i : ℕ) (x : Run) → Within t l i → itemKind t i ≡ itemRule → Q x → Q (emit (traceWord itemRule (listOwner t l) (itemA t i) undefinedResult) x)
+  pub judge : (l i : ℕ) (x : Run) → Within t l i → itemKind t i ≡ itemRule → unready t (x .state) (itemA t i) ≡ false → Q x → Q (judge t (listOwner t l) (itemA t i) x)
   pub deep : (x : Run) → Q x → Q (tooDeep x)
 
 module _ (t : List ℕ) (f : Facts t) (Q : Run → Type 0) (k : KeptByActs t Q) where
@@ -49,7 +49,7 @@ module _ (t : List ℕ) (f : Facts t) (Q : Run → Type 0) (k : KeptByActs t Q) 
       split (eqb (choice t r previous result) noList) (λ e. rw (choice-none below _ x e) q)
       (λ e. rw (choice-some below _ x e) (b _ x (choice-there t r previous result (f .rule r h) e) q))
 
-  rule-keeps : (below : ℕ → Run → Run) → Keeps below → (l i : ℕ) (x : Run) → Within t l i → itemKind t i ≡ kindRule → Q x → Q (runRule below t (listOwner t l) (itemA t i) x)
+  rule-keeps : (below : ℕ → Run → Run) → Keeps below → (l i : ℕ) (x : Run) → Within t l i → itemKind t i ≡ itemRule → Q x → Q (runRule below t (listOwner t l) (itemA t i) x)
   unfolding choiceIn
   rule-keeps below b l i x w e q =
       split (unready t (x .state) (itemA t i))
@@ -85,9 +85,9 @@ module _ (t : List ℕ) (f : Facts t) (Q : Run → Type 0) (k : KeptByActs t Q) 
 -- Statements of the state: what each kind of write keeps, an arbitration keeps.
 
 pub record KeptByWrites (t : List ℕ) (P : List ℕ → Type 0) : Type 0 where
-  pub clear : (p : ℕ) (s : List ℕ) → p < ports t → portKind t p ≡ kindEvent → P s → P (setPort p (markedOf (word s p)) 0 0 s)
-  pub begin : (p : ℕ) (s : List ℕ) → p < ports t → portKind t p ≡ kindTimer → P s → P (setPort p 1 timerStarted (reload t p) s)
-  pub stop : (p : ℕ) (s : List ℕ) → p < ports t → portKind t p ≡ kindTimer → P s → P (setPort p 1 timerStopped 0 s)
+  pub clear : (p : ℕ) (s : List ℕ) → p < ports t → portKind t p ≡ portEvent → P s → P (setPort p (markedOf (word s p)) 0 0 s)
+  pub begin : (p : ℕ) (s : List ℕ) → p < ports t → portKind t p ≡ portTimer → P s → P (setPort p 1 timerStarted (reload t p) s)
+  pub stop : (p : ℕ) (s : List ℕ) → p < ports t → portKind t p ≡ portTimer → P s → P (setPort p 1 timerStopped 0 s)
   pub ask : (n mode : ℕ) (s : List ℕ) → n < networks t → mode ≤ 2 → P s → P (setNetwork t n (asking mode (networkIn t n s)) s)
   pub store : (r result : ℕ) (s : List ℕ) → r < rules t → result ≤ 1 → P s → P (setResult t r result s)
   pub unmark : (p : ℕ) (s : List ℕ) → p < ports t → P s → P (set s p (unmarked (word s p)))
@@ -97,9 +97,9 @@ module _ (t : List ℕ) (f : Facts t) (P : List ℕ → Type 0) (k : KeptByWrite
   effect-keeps i s h q =
       let named = f .item i h .1 in
       effect-cases P t i s
-      (λ e. let there = clear-there t i named e in k .clear (itemA t i) s (port-there t kindEvent (itemA t i) there) (kind-is t kindEvent (itemA t i) there) q)
-      (λ e. let there = start-there t i named e in k .begin (itemA t i) s (port-there t kindTimer (itemA t i) there) (kind-is t kindTimer (itemA t i) there) q)
-      (λ e. let there = stop-there t i named e in k .stop (itemA t i) s (port-there t kindTimer (itemA t i) there) (kind-is t kindTimer (itemA t i) there) q)
+      (λ e. let there = clear-there t i named e in k .clear (itemA t i) s (port-there t portEvent (itemA t i) there) (kind-is t portEvent (itemA t i) there) q)
+      (λ e. let there = start-there t i named e in k .begin (itemA t i) s (port-there t portTimer (itemA t i) there) (kind-is t portTimer (itemA t i) there) q)
+      (λ e. let there = stop-there t i named e in k .stop (itemA t i) s (port-there t portTimer (itemA t i) there) (kind-is t portTimer (itemA t i) there) q)
       (λ e. k .ask (itemA t i) (itemB t i) s (ask-there t i named e) (mode-small t i (f .item i h .0) e) q)
       (λ e. q)
 

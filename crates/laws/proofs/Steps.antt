@@ -9,7 +9,7 @@ use lib.ListN.{length}
 use lib.Dec.{ltb, eqb}
 use borrow.Author.Tests.{ltb-true, ltb-false, eqb-true, eqb-false, eq-eqb, lt-ltb}
 use Rattle.rulebook.specs.Words.{digit}
-use Rattle.rulebook.specs.Table.{ports, networks, sources, rules, portKind, kindMode, kindTimer, deferred, hasInitial, initial, firstResult}
+use Rattle.rulebook.specs.Table.{ports, networks, sources, rules, portKind, portMode, portTimer, deferred, hasInitial, initial, firstResult}
 use Rattle.rulebook.specs.Reasons.{portFields, bound, accepted}
 use Rattle.rulebook.specs.State.{stateLength, Thing, aPort, aRule, aNetwork, aSource, thing, portFits, networkFits, sourceFits, thingFits, fits, freshPort, freshThing, freshAt, fresh}
 use Rattle.rulebook.specs.Events.{request, tick, arbitrateMarked, happen}
@@ -143,9 +143,9 @@ thing-present t i h =
     split (ltb i (ports t + rules t + networks t)) (λ c. let z : i < ports t + rules t + networks t = ltb-true _ _ c in rw (a, b, c) (lt-ltb (i - (ports t + rules t)) (networks t) (omega arith)))
     (λ c. let z : ports t + rules t + networks t ≤ i = ltb-false _ _ c in rw (a, b, c) (lt-ltb (i - (ports t + rules t + networks t)) (sources t) (omega arith)))))
 
-initial-mode : (t : List ℕ) (p : ℕ) → portFields t p ≡ true → hasInitial t p ≡ 1 → portKind t p ≡ kindMode
+initial-mode : (t : List ℕ) (p : ℕ) → portFields t p ≡ true → hasInitial t p ≡ 1 → portKind t p ≡ portMode
 unfolding portFields
-initial-mode t p h k = eqb-true _ _ (implies-elim (eqb (hasInitial t p) 1) (eqb (portKind t p) kindMode) (part-of _ (λ e. rw (portFields, e, and-false) at h)) (eq-eqb _ _ k))
+initial-mode t p h k = eqb-true _ _ (implies-elim (eqb (hasInitial t p) 1) (eqb (portKind t p) portMode) (part-of _ (λ e. rw (portFields, e, and-false) at h)) (eq-eqb _ _ k))
 
 fresh-port-fits : (t : List ℕ) (p : ℕ) → portFields t p ≡ true → portFits t p (freshPort t p) ≡ true
 unfolding freshPort
@@ -153,10 +153,10 @@ fresh-port-fits t p h =
     split (eqb (hasInitial t p) 1)
     (λ a. let k = initial-mode t p h (eqb-true _ _ a) in
     rw a (port-packed t p 1 0 (initial t p) 0 (plain-ok t p 0 (initial t p) (λ z. omega arith) (omega arith) (λ z. refl) (digit-small _ 256 _ (omega arith)) (λ z. absurd (omega arith)))))
-    (λ a. split (eqb (portKind t p) kindMode)
+    (λ a. split (eqb (portKind t p) portMode)
     (λ b. let k = eqb-true _ _ b in
     rw (a, b) (port-packed t p 0 0 0 0 (record { defined₂ = omega arith; marked₂ = omega arith; value₈ = omega arith; remaining₁₆ = omega arith; immediate = λ z. refl; undefined = λ z. (k, refl, refl); event = λ z. omega arith; timer = λ z. omega arith; started = λ z y. absurd (omega arith); rest = λ z. refl })))
-    (λ b. split (eqb (portKind t p) kindTimer)
+    (λ b. split (eqb (portKind t p) portTimer)
     (λ c. let k = eqb-true _ _ c in rw (a, b) (port-packed t p 1 0 0 0 (timer-ok t p 0 0 0 k (timer-deferred t p h k) (omega arith) (omega arith) (omega arith) (λ z. absurd (omega arith)) (λ z. refl))))
     (λ c. rw (a, b) (port-packed t p 1 0 0 0 (plain-ok t p 0 0 (eqb-false _ _ c) (omega arith) (λ z. refl) (omega arith) (λ z. omega arith))))))
 

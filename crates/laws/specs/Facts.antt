@@ -6,7 +6,7 @@ use mathlib.Core.List.{List}
 use Prim.Native.Nat.{ℕ, _+_, _≤_, _<_}
 use lib.ListN.{length}
 use Rattle.rulebook.specs.Table.{ports, networks, sources, expressions, rules, lists, items, tableLength}
-use Rattle.rulebook.specs.Table.{portOwner, networkOwner, networkPort, shortWait, longWait, eTicks, sourceOwner, sourcePort}
+use Rattle.rulebook.specs.Table.{portOwner, networkOwner, networkPort, l1, l2, eTicks, sourceOwner, sourcePort}
 use Rattle.rulebook.specs.Table.{firstResult, ruleExpression, trueList, falseList, listOwner, firstItem, itemCount}
 use Rattle.rulebook.specs.Expressions.{deepest, expressionWithin}
 use Rattle.rulebook.specs.Reasons.{portFields, itemFields, held, mayShow, expressionNames, listOrNone, itemNames, listWithin, ruleOwned, itemOwned, bound}
@@ -22,8 +22,8 @@ pub record Counts (t : List ℕ) : Type 0 where
   pub items : items t ≤ 2047
 
 pub record Waits (t : List ℕ) (n : ℕ) : Type 0 where
-  pub short : 1 ≤ shortWait t n
-  pub long : 1 ≤ longWait t n
+  pub short : 1 ≤ l1 t n
+  pub long : 1 ≤ l2 t n
   pub eticks : 1 ≤ eTicks t n
 
 -- the port that network n, or source n, has: it may be shown on, no earlier one has it, it has the same owner

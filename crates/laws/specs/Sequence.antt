@@ -5,7 +5,7 @@ use mathlib.Core.Logic.{_⊎_}
 use mathlib.Core.List.{List, [], _∷_}
 use Prim.Native.Nat.{ℕ, zero, suc, _+_, _≤_, _<_}
 use lib.Dec.{eqb}
-use Rattle.rulebook.specs.Table.{left, right, priority, trueList, falseList, noList, firstItem, itemCount, itemKind, itemA, kindList, kindRule}
+use Rattle.rulebook.specs.Table.{left, right, priority, trueList, falseList, noList, firstItem, itemCount, itemKind, itemA, itemList, itemRule}
 use Rattle.rulebook.specs.Expressions.{operator, isNot}
 
 -- "larger priority first, then lower number": list a runs before list b
@@ -45,4 +45,4 @@ pub record NamesList (t : List ℕ) (l x : ℕ) : Type 0 where
   pub item : ℕ
   pub from : firstItem t l ≤ item
   pub below : item < firstItem t l + itemCount t l
-  pub how : ((itemKind t item ≡ kindList) × (x ≡ itemA t item)) ⊎ ((itemKind t item ≡ kindRule) × RuleNames t (itemA t item) x)
+  pub how : ((itemKind t item ≡ itemList) × (x ≡ itemA t item)) ⊎ ((itemKind t item ≡ itemRule) × RuleNames t (itemA t item) x)

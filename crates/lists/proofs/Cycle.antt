@@ -9,7 +9,7 @@ use borrow.Author.Tests.{eq-eqb, ne-eqb}
 use borrow.Rule.Slice.PartMut.{midOf, putMid}
 use Rattle.rulebook.specs.Words.{field}
 use Rattle.rulebook.specs.Table.{listWord}
-use Rattle.rulebook.specs.Lists.{Run, start, emit, traceWord, kindListStart, unready, choiceIn, judge, runChoice, runRule, runItem, runList}
+use Rattle.rulebook.specs.Lists.{Run, start, emit, traceWord, traceListStart, unready, choiceIn, judge, runChoice, runRule, runItem, runList}
 use Rattle.walks.proofs.Walks.{each-turn, each-end}
 use Rattle.laws.proofs.Cases.{rule-unready, rule-ready, choice-none, choice-some}
 use Rattle.laws.proofs.Frame.{Framed, framed-none, choice-framed, item-framed, list-framed}
@@ -34,10 +34,10 @@ module _ (whole : Run) (f : Run → Run) (framed : Framed f) (before s T : List 
 
 -- a list whose first word v is written
 pub list-begun : (t : List ℕ) (d l w o first count v : ℕ) (s T T' : List ℕ) → w ≡ listWord t l → o ≡ field 0 4 w → first ≡ field 13 11 w → count ≡ field 24 8 w
-    → v ≡ traceWord kindListStart o l 0 → T' ≡ set T 0 v → Safe (runList d t l (start s)) T
+    → v ≡ traceWord traceListStart o l 0 → T' ≡ set T 0 v → Safe (runList d t l (start s)) T
     → Along (runList d t l (start s)) (itemsFrom t (d - 1) o first (first + count)) T s T' 1
 list-begun t d l w o first count v s T T' hw ho hf hc hv hT safe =
-    let x = emit (traceWord kindListStart o l 0) (start s) in
+    let x = emit (traceWord traceListStart o l 0) (start s) in
     let run = list-runs t d l w o first count (start s) hw ho hf hc (level-left t d l s T safe) in
     let framed = items-framed t (d - 1) o first (first + count) in
     along-ran _ _ framed x run T s T' 1 safe (one-ran x s T T' v (rw hv) (begin-safe _ _ framed x run T safe) refl hT)

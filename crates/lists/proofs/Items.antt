@@ -8,7 +8,7 @@ use borrow.Author.Tests.{eq-eqb, ne-eqb}
 use Rattle.rulebook.specs.Words.{word, field}
 use Rattle.rulebook.specs.Table.{portWord, itemWord, itemKind, itemA, listWord}
 use Rattle.rulebook.specs.State.{networkIndex, packNetwork}
-use Rattle.rulebook.specs.Lists.{Run, start, emit, traceWord, kindListStart, setPort, networkIn, asking, setNetwork, resultIn, previousIn, choice, choiceIn, setResult, effect, act, judge, runRule, runItem, runItems, runList}
+use Rattle.rulebook.specs.Lists.{Run, start, emit, traceWord, traceListStart, setPort, networkIn, asking, setNetwork, resultIn, previousIn, choice, choiceIn, setResult, effect, act, judge, runRule, runItem, runItems, runList}
 use Rattle.walks.proofs.Walks.{whole}
 use Rattle.laws.proofs.Tests.{clash}
 use Rattle.laws.proofs.Cases.{item-list, item-rule, item-act}
@@ -129,7 +129,7 @@ list-step t d n l x h = rw h
 
 -- list l has the word w, and with it its owner o, its first item and their count
 pub list-runs : (t : List ℕ) (d l w o first count : ℕ) (x : Run) → w ≡ listWord t l → o ≡ field 0 4 w → first ≡ field 13 11 w → count ≡ field 24 8 w → 1 ≤ d
-    → runList d t l x ≡ itemsFrom t (d - 1) o first (first + count) (emit (traceWord kindListStart o l 0) x)
+    → runList d t l x ≡ itemsFrom t (d - 1) o first (first + count) (emit (traceWord traceListStart o l 0) x)
 unfolding runItems
 list-runs t d l w o first count x hw ho hf hc more =
     list-step t d (d - 1) l x (omega arith) ∙ rw (whole, ho, hf, hc, hw)

@@ -11,7 +11,7 @@ use borrow.Author.Tests.{lt-ltb, le-ltb, ltb-true, ltb-false, eq-eqb, ne-eqb, eq
 use native.Mathlib.Nat.{add-zero, add-suc}
 use native.Mathlib.Numerals.{add-one}
 use Rattle.rulebook.specs.Words.{field, all, word}
-use Rattle.rulebook.specs.Table.{lists, itemWord, listWord, itemKind, itemA, kindList, kindRule, noList, trueList, falseList, firstItem, itemCount}
+use Rattle.rulebook.specs.Table.{lists, itemWord, listWord, itemKind, itemA, itemList, itemRule, noList, trueList, falseList, firstItem, itemCount}
 use Rattle.rulebook.specs.Reasons.{ruleNests, itemNests, listNests, listWithin}
 use Rattle.words.specs.declared.sections.Layout.{Layout}
 use Rattle.words.specs.Sections.{Laid}
@@ -66,9 +66,9 @@ module _ (t : List ℕ) (p q : ℕ → Bool) (more : (n : ℕ) → p n ≡ true 
   item-more : (i : ℕ) → itemNests t p i ≡ true → itemNests t q i ≡ true
   unfolding itemNests
   item-more i h =
-      split (eqb (itemKind t i) kindList) (λ e. rw (e, itemNests) (more (itemA t i) (rw (e, itemNests) at h)))
+      split (eqb (itemKind t i) itemList) (λ e. rw (e, itemNests) (more (itemA t i) (rw (e, itemNests) at h)))
       (λ e.
-      split (eqb (itemKind t i) kindRule) (λ f. rw (e, f, itemNests) (rule-more (itemA t i) (rw (e, f, itemNests) at h)))
+      split (eqb (itemKind t i) itemRule) (λ f. rw (e, f, itemNests) (rule-more (itemA t i) (rw (e, f, itemNests) at h)))
       (λ f. rw (e, f, itemNests)))
 
   items-more : (i n : ℕ) → all i n (itemNests t p) ≡ true → all i n (itemNests t q) ≡ true

@@ -8,21 +8,21 @@ use lib.Dec.{eqb}
 use Rattle.rulebook.specs.Events.{happen}
 use Rattle.rulebook.specs.Step.{wellFormed, known, sentByOwner, refusedEvent, refusal, finish, handle}
 use Rattle.walks.proofs.Walks.{split}
-use Rattle.refusals.specs.Answers.{answerOf, heard}
-use Rattle.refusals.specs.declared.Heard.{Heard}
+use Rattle.refusals.specs.Answers.{answerOf, eventChecked}
+use Rattle.refusals.specs.declared.EventCheck.{EventCheck}
 
 module _ (t : List ℕ) (e : ℕ) where
-  pub heard-answer : answerOf (heard t e) ≡ refusedEvent t e
-  unfolding heard refusedEvent
-  heard-answer =
+  pub checked-answer : answerOf (eventChecked t e) ≡ refusedEvent t e
+  unfolding eventChecked refusedEvent
+  checked-answer =
       split (wellFormed e)
       (λ a. split (known t e) (λ b. split (sentByOwner t e) (λ c. rw (a, b, c)) (λ c. rw (a, b, c))) (λ b. rw (a, b)))
       (λ a. rw a)
 
-  -- the answer r is heard
-  module _ (s : List ℕ) (r : Heard) (h : r ≡ heard t e) where
+  -- the answer r is that of the check
+  module _ (s : List ℕ) (r : EventCheck) (h : r ≡ eventChecked t e) where
     number : refusedEvent t e ≡ answerOf r
-    number = sym heard-answer ∙ ap answerOf (sym h)
+    number = sym checked-answer ∙ ap answerOf (sym h)
 
     pub handle-taken : eqb (answerOf r) 0 ≡ true → handle t s e ≡ finish s (happen t e s)
     unfolding handle

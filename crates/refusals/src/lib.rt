@@ -4,7 +4,7 @@ ghost use Rattle.rulebook.specs.State.{ownerOf};
 ghost use Rattle.rulebook.specs.Step.{wellFormed, named as namedOf, present as presentOf, suited as suitedOf};
 ghost use Rattle.rulebook.specs.Step.{known as knownOf, sentByOwner};
 ghost use Rattle.words.specs.Sections.{Laid};
-ghost use Rattle.refusals.specs.Answers.{passes, heard};
+ghost use Rattle.refusals.specs.Answers.{passes, eventChecked};
 ghost use Rattle.refusals.specs.Things.{thingOf};
 use names::held;
 use words::sections;
@@ -127,7 +127,7 @@ fn sent_by_owner(t: &[u32], h: Layout, e: u32) -> Check
 }
 
 // What the checks of an event come to: it is taken, or refused, with a case for each answer.
-pub enum Heard {
+pub enum EventCheck {
     Taken,
     Malformed,
     NoSuchThing,
@@ -135,21 +135,21 @@ pub enum Heard {
 }
 
 // The first check that fails ends the call with its answer.
-pub fn hear(t: &[u32], h: Layout, e: u32) -> Heard
+pub fn check_event(t: &[u32], h: Layout, e: u32) -> EventCheck
     requires { ⌜ Laid (now t) h ⌝ }
-    ensures { λ r. ⌜ r ≡ heard (now (t .entry)) e ⌝ }
+    ensures { λ r. ⌜ r ≡ eventChecked (now (t .entry)) e ⌝ }
 {
     let form = well_formed(e);
     let Check::Passed = form else {
-        return Heard::Malformed;
+        return EventCheck::Malformed;
     };
     let thing = known(t, h, e);
     let Check::Passed = thing else {
-        return Heard::NoSuchThing;
+        return EventCheck::NoSuchThing;
     };
     let sender = sent_by_owner(t, h, e);
     let Check::Passed = sender else {
-        return Heard::NotItsOwner;
+        return EventCheck::NotItsOwner;
     };
-    Heard::Taken
+    EventCheck::Taken
 }

@@ -5,7 +5,7 @@ use mathlib.Core.Bool.{Bool, true, false}
 use mathlib.Core.List.{List}
 use native.Mathlib.Omega.{arith}
 use borrow.Author.Tests.{lt-leb, ne-eqb, eqb-true}
-use Rattle.rulebook.specs.Table.{threshold, longWait, networkOwner, itemKind, itemA, kindAsk, platform}
+use Rattle.rulebook.specs.Table.{threshold, l2, networkOwner, itemKind, itemA, itemAsk, platform}
 use Rattle.rulebook.specs.Reasons.{itemOwned}
 use Rattle.rulebook.specs.State.{stateRecover, statusPending}
 use Rattle.rulebook.specs.Lists.{networkIn}
@@ -24,13 +24,13 @@ mark-stays q p s h = rw h
 
 -- the counter is compared after 1 is added: at the threshold, one bus-off more loads the long wait
 pub wait-at-threshold : (t : List ℕ) (n : ℕ) (s : List ℕ) → takes (networkIn t n s) ≡ true → networkIn t n s .counter ≡ threshold t n → threshold t n < 255
-    → busOff t n s ≡ moveNetwork t n (moved stateRecover (threshold t n + 1) (longWait t n) (networkIn t n s)) s
+    → busOff t n s ≡ moveNetwork t n (moved stateRecover (threshold t n + 1) (l2 t n) (networkIn t n s)) s
 unfolding busOff offBus wait
 wait-at-threshold t n s h e b =
     let m : min 255 (threshold t n + 1) ≡ threshold t n + 1 = omega arith in
     rw h (simp (e, m, lt-leb (threshold t n + 1) (threshold t n) (omega arith)))
 
 -- an operator's list asks no stranger's network
-pub asks-own : (t : List ℕ) (o i : ℕ) → itemOwned t o i ≡ true → (o ≡ platform → ⊥) → itemKind t i ≡ kindAsk → networkOwner t (itemA t i) ≡ o
+pub asks-own : (t : List ℕ) (o i : ℕ) → itemOwned t o i ≡ true → (o ≡ platform → ⊥) → itemKind t i ≡ itemAsk → networkOwner t (itemA t i) ≡ o
 unfolding itemOwned
 asks-own t o i h ne k = eqb-true (networkOwner t (itemA t i)) o (rw (k, ne-eqb o platform ne) at h)

@@ -5,8 +5,8 @@ use mathlib.Core.List.{List}
 use lib.ListN.{set}
 use lib.Dec.{leb, ltb, eqb}
 use Rattle.rulebook.specs.Words.{word, field, each}
-use Rattle.rulebook.specs.Table.{ports, networks, sources, portKind, kindTimer, deferred}
-use Rattle.rulebook.specs.Table.{networkPort, threshold, shortWait, longWait, eTicks, sourcePort, timeout}
+use Rattle.rulebook.specs.Table.{ports, networks, sources, portKind, portTimer, deferred}
+use Rattle.rulebook.specs.Table.{networkPort, threshold, l1, l2, eTicks, sourcePort, timeout}
 use Rattle.rulebook.specs.State.{sourceIndex, markedOf, valueOf, remainingOf, timerStarted, timerExpired}
 use Rattle.rulebook.specs.State.{Network, askedNone, askedSilent, askedFull, stateNone, stateSilent, stateCheck, stateFull, stateRecover}
 use Rattle.rulebook.specs.State.{statusOf, statusNone, statusPending, statusValidated, statusExpired, packSource}
@@ -27,26 +27,26 @@ eventIndex e = field 8 8 e
 abbrev pub eventValue : ℕ → ℕ
 eventValue e = field 16 8 e
 
-abbrev pub tickKind : ℕ
-tickKind = 0
+abbrev pub eventTick : ℕ
+eventTick = 0
 
-abbrev pub modeKind : ℕ
-modeKind = 1
+abbrev pub eventMode : ℕ
+eventMode = 1
 
-abbrev pub requestKind : ℕ
-requestKind = 2
+abbrev pub eventRequest : ℕ
+eventRequest = 2
 
-abbrev pub wakeupKind : ℕ
-wakeupKind = 3
+abbrev pub eventWakeup : ℕ
+eventWakeup = 3
 
-abbrev pub validKind : ℕ
-validKind = 4
+abbrev pub eventValid : ℕ
+eventValid = 4
 
-abbrev pub busOffKind : ℕ
-busOffKind = 5
+abbrev pub eventBusOff : ℕ
+eventBusOff = 5
 
-abbrev pub clearKind : ℕ
-clearKind = 6
+abbrev pub eventClear : ℕ
+eventClear = 6
 
 abbrev pub highestKind : ℕ
 highestKind = 6
@@ -105,7 +105,7 @@ unfoldable pub takes : Network → Bool
 takes c = eqb (c .state) stateCheck || eqb (c .state) stateFull
 
 unfoldable pub wait : List ℕ → ℕ → ℕ → ℕ
-wait t n counter = cond (leb counter (threshold t n)) (shortWait t n) (longWait t n)
+wait t n counter = cond (leb counter (threshold t n)) (l1 t n) (l2 t n)
 
 unfoldable pub offBus : List ℕ → ℕ → ℕ → Network → Network
 offBus t n counter c = moved stateRecover counter (wait t n counter) c
@@ -150,7 +150,7 @@ tickSource t k s =
 
 unfoldable pub tickTimer : List ℕ → ℕ → List ℕ → List ℕ
 tickTimer t p s =
-    cond (eqb (portKind t p) kindTimer && eqb (valueOf (word s p)) timerStarted)
+    cond (eqb (portKind t p) portTimer && eqb (valueOf (word s p)) timerStarted)
     (cond (leb (remainingIn s p) 1) (setPort p 1 timerExpired 0 s)
     (setPort p (markedOf (word s p)) timerStarted (remainingIn s p - 1) s))
     s
@@ -170,10 +170,10 @@ tick t s = arbitrateMarked t (tickThings t s)
 -- The dispatch on kinds, in one place.
 unfoldable pub happen : List ℕ → ℕ → List ℕ → Run
 happen t e s =
-    cond (eqb (eventKind e) tickKind) (tick t s)
-    (cond (eqb (eventKind e) modeKind) (request t (eventIndex e) (eventValue e) s)
-    (cond (eqb (eventKind e) requestKind) (request t (eventIndex e) 1 s)
-    (cond (eqb (eventKind e) wakeupKind) (start (wake t (eventIndex e) s))
-    (cond (eqb (eventKind e) validKind) (start (validate t (eventIndex e) s))
-    (cond (eqb (eventKind e) busOffKind) (start (busOff t (eventIndex e) s))
+    cond (eqb (eventKind e) eventTick) (tick t s)
+    (cond (eqb (eventKind e) eventMode) (request t (eventIndex e) (eventValue e) s)
+    (cond (eqb (eventKind e) eventRequest) (request t (eventIndex e) 1 s)
+    (cond (eqb (eventKind e) eventWakeup) (start (wake t (eventIndex e) s))
+    (cond (eqb (eventKind e) eventValid) (start (validate t (eventIndex e) s))
+    (cond (eqb (eventKind e) eventBusOff) (start (busOff t (eventIndex e) s))
     (start (clear t (eventIndex e) s)))))))

@@ -7,7 +7,7 @@ use lib.Dec.{eqb}
 use Rattle.rulebook.specs.Words.{word, laid, each}
 use Rattle.rulebook.specs.Table.{reload, ruleExpression, trueList, falseList, noList}
 use Rattle.rulebook.specs.Table.{listOwner, triggered, firstItem, itemCount, itemKind, itemA, itemB}
-use Rattle.rulebook.specs.Table.{kindClear, kindStart, kindStop, kindAsk, kindList, kindRule}
+use Rattle.rulebook.specs.Table.{itemClear, itemStart, itemStop, itemAsk, itemList, itemRule}
 use Rattle.rulebook.specs.Expressions.{deepest, mentions, holds}
 use Rattle.rulebook.specs.State.{ruleIndex, networkIndex, definedOf, markedOf, valueOf, timerStopped, timerStarted}
 use Rattle.rulebook.specs.State.{resultOf, undefinedResult, Network, networkOf, packPort, packRule, packNetwork}
@@ -35,8 +35,8 @@ tooDeep x = record { state = x .state; words = x .words; deep = true }
 unfoldable pub traceWord : ℕ → ℕ → ℕ → ℕ → ℕ
 traceWord kind owner a b = laid 0 4 kind + laid 4 4 owner + laid 8 8 a + laid 16 16 b
 
-abbrev pub kindListStart : ℕ
-kindListStart = 15
+abbrev pub traceListStart : ℕ
+traceListStart = 15
 
 -- a port written anew, which defines it
 unfoldable pub setPort : ℕ → ℕ → ℕ → ℕ → List ℕ → List ℕ
@@ -55,10 +55,10 @@ asking mode c = record { asked = mode; state = c .state; counter = c .counter; r
 -- only sets asked; clear sets the event to 0 and marks nothing." An outside call changes nothing.
 unfoldable pub effect : List ℕ → ℕ → List ℕ → List ℕ
 effect t i s =
-    cond (eqb (itemKind t i) kindClear) (setPort (itemA t i) (markedOf (word s (itemA t i))) 0 0 s)
-    (cond (eqb (itemKind t i) kindStart) (setPort (itemA t i) 1 timerStarted (reload t (itemA t i)) s)
-    (cond (eqb (itemKind t i) kindStop) (setPort (itemA t i) 1 timerStopped 0 s)
-    (cond (eqb (itemKind t i) kindAsk) (setNetwork t (itemA t i) (asking (itemB t i) (networkIn t (itemA t i) s)) s)
+    cond (eqb (itemKind t i) itemClear) (setPort (itemA t i) (markedOf (word s (itemA t i))) 0 0 s)
+    (cond (eqb (itemKind t i) itemStart) (setPort (itemA t i) 1 timerStarted (reload t (itemA t i)) s)
+    (cond (eqb (itemKind t i) itemStop) (setPort (itemA t i) 1 timerStopped 0 s)
+    (cond (eqb (itemKind t i) itemAsk) (setNetwork t (itemA t i) (asking (itemB t i) (networkIn t (itemA t i) s)) s)
     s)))
 
 unfoldable pub act : List ℕ → ℕ → ℕ → Run → Run
@@ -100,7 +100,7 @@ setResult t r result s = set s (ruleIndex t r) (packRule result)
 -- "A rule item evaluates with current values, stores, and runs its list on the same test"; its word 6 stands before its list's
 unfoldable pub judge : List ℕ → ℕ → ℕ → Run → Run
 judge t o r x =
-    become (setResult t r (resultIn t (x .state) r) (x .state)) (emit (traceWord kindRule o r (resultIn t (x .state) r)) x)
+    become (setResult t r (resultIn t (x .state) r) (x .state)) (emit (traceWord itemRule o r (resultIn t (x .state) r)) x)
 
 unfoldable pub runChoice : (ℕ → Run → Run) → ℕ → Run → Run
 runChoice below l x = elim (eqb l noList) [ true ↦ x | false ↦ below l x ]
@@ -109,22 +109,22 @@ runChoice below l x = elim (eqb l noList) [ true ↦ x | false ↦ below l x ]
 unfoldable pub runRule : (ℕ → Run → Run) → List ℕ → ℕ → ℕ → Run → Run
 runRule below t o r x =
     elim (unready t (x .state) r) [
-      | true ↦ emit (traceWord kindRule o r undefinedResult) x
+      | true ↦ emit (traceWord itemRule o r undefinedResult) x
       | false ↦ runChoice below (choiceIn t (x .state) r) (judge t o r x)
     ]
 
 -- "A named list always runs"; "Item 5 adds no word"
 unfoldable pub runItem : (ℕ → Run → Run) → List ℕ → ℕ → ℕ → Run → Run
 runItem below t o i x =
-    elim (eqb (itemKind t i) kindList) [
+    elim (eqb (itemKind t i) itemList) [
       | true ↦ below (itemA t i) x
-      | false ↦ elim (eqb (itemKind t i) kindRule) [ true ↦ runRule below t o (itemA t i) x | false ↦ act t o i x ]
+      | false ↦ elim (eqb (itemKind t i) itemRule) [ true ↦ runRule below t o (itemA t i) x | false ↦ act t o i x ]
     ]
 
 -- "Items take effect in order", after the word for the list's start
 unfoldable pub runItems : (ℕ → Run → Run) → List ℕ → ℕ → Run → Run
 runItems below t l x =
-    each (firstItem t l) (itemCount t l) (runItem below t (listOwner t l)) (emit (traceWord kindListStart (listOwner t l) l 0) x)
+    each (firstItem t l) (itemCount t l) (runItem below t (listOwner t l)) (emit (traceWord traceListStart (listOwner t l) l 0) x)
 
 -- list l with d levels left
 unfoldable pub runList : ℕ → List ℕ → ℕ → Run → Run

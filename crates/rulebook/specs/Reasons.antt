@@ -8,13 +8,13 @@ use lib.Dec.{leb, ltb, eqb}
 use Rattle.rulebook.specs.Words.{field, implies, between, first, all, any, sum}
 use Rattle.rulebook.specs.Table.{edition, ports, networks, sources, expressions, rules, lists, items, tableLength}
 use Rattle.rulebook.specs.Table.{Part, inHeader, atPort, atNetwork, atWaits, atSource, atExpression, atRule, atList, atItem, part}
-use Rattle.rulebook.specs.Table.{portKind, kindMode, kindEvent, kindTimer, deferred, hasInitial, portOwner, initial, reload}
-use Rattle.rulebook.specs.Table.{networkWord, networkOwner, networkPort, shortWait, longWait, eTicks}
+use Rattle.rulebook.specs.Table.{portKind, portMode, portEvent, portTimer, deferred, hasInitial, portOwner, initial, reload}
+use Rattle.rulebook.specs.Table.{networkWord, networkOwner, networkPort, l1, l2, eTicks}
 use Rattle.rulebook.specs.Table.{sourceWord, sourceOwner, sourcePort}
 use Rattle.rulebook.specs.Table.{expressionWord, expressionKind, conditionPort, conditionValue, left, right}
 use Rattle.rulebook.specs.Table.{ruleOwner, firstResult, ruleExpression, trueList, falseList, noList}
 use Rattle.rulebook.specs.Table.{listOwner, firstItem, itemCount, itemKind, itemA, itemB}
-use Rattle.rulebook.specs.Table.{kindCall, kindClear, kindStart, kindStop, kindAsk, kindList, kindRule, platform, stranger}
+use Rattle.rulebook.specs.Table.{itemCall, itemClear, itemStart, itemStop, itemAsk, itemList, itemRule, platform, stranger}
 use Rattle.rulebook.specs.Expressions.{deepest, operator, isNot, expressionWithin, mentions}
 
 -- Rule 1: there are three words at least.
@@ -46,12 +46,12 @@ exactLength t = eqb (length t) (tableLength t)
 -- deferred."
 unfoldable pub portFields : List ℕ → ℕ → Bool
 portFields t p =
-    leb (portKind t p) kindTimer
-    && implies (eqb (hasInitial t p) 1) (eqb (portKind t p) kindMode)
+    leb (portKind t p) portTimer
+    && implies (eqb (hasInitial t p) 1) (eqb (portKind t p) portMode)
     && implies (eqb (hasInitial t p) 0) (eqb (initial t p) 0)
-    && implies (eqb (portKind t p) kindTimer) (leb 1 (reload t p))
-    && implies (not (eqb (portKind t p) kindTimer)) (eqb (reload t p) 0)
-    && implies (eqb (portKind t p) kindTimer) (eqb (deferred t p) 1)
+    && implies (eqb (portKind t p) portTimer) (leb 1 (reload t p))
+    && implies (not (eqb (portKind t p) portTimer)) (eqb (reload t p) 0)
+    && implies (eqb (portKind t p) portTimer) (eqb (deferred t p) 1)
 
 unfoldable pub expressionFields : List ℕ → ℕ → Bool
 expressionFields t e =
@@ -62,17 +62,17 @@ expressionFields t e =
 
 unfoldable pub itemFields : List ℕ → ℕ → Bool
 itemFields t i =
-    leb (itemKind t i) kindRule
-    && implies (eqb (itemKind t i) kindCall) (eqb (itemA t i) 0)
-    && implies (between kindClear kindStop (itemKind t i)) (eqb (itemB t i) 0)
-    && implies (eqb (itemKind t i) kindAsk) (leb (itemB t i) 2)
-    && implies (between kindList kindRule (itemKind t i)) (eqb (itemB t i) 0)
+    leb (itemKind t i) itemRule
+    && implies (eqb (itemKind t i) itemCall) (eqb (itemA t i) 0)
+    && implies (between itemClear itemStop (itemKind t i)) (eqb (itemB t i) 0)
+    && implies (eqb (itemKind t i) itemAsk) (leb (itemB t i) 2)
+    && implies (between itemList itemRule (itemKind t i)) (eqb (itemB t i) 0)
 
 unfoldable pub ownFields : List ℕ → Part → Bool
 ownFields t inHeader = true
 ownFields t (atPort p) = portFields t p
 ownFields t (atNetwork n) = eqb (field 20 12 (networkWord t n)) 0
-ownFields t (atWaits n) = leb 1 (shortWait t n) && leb 1 (longWait t n) && leb 1 (eTicks t n)
+ownFields t (atWaits n) = leb 1 (l1 t n) && leb 1 (l2 t n) && leb 1 (eTicks t n)
 ownFields t (atSource k) = eqb (field 28 4 (sourceWord t k)) 0
 ownFields t (atExpression e) = expressionFields t e
 ownFields t (atRule r) = leb (firstResult t r) 2
@@ -95,7 +95,7 @@ held t p n k = any 0 n (networkHas t p) || any 0 k (sourceHas t p)
 unfoldable pub mayShow : List ℕ → ℕ → Bool
 mayShow t p =
     ltb p (ports t)
-    && eqb (portKind t p) kindMode
+    && eqb (portKind t p) portMode
     && eqb (deferred t p) 1
     && eqb (hasInitial t p) 0
 
@@ -108,8 +108,8 @@ expressionNames t e =
     implies (operator t e) (ltb (left t e) (expressions t))
     && implies (operator t e && not (isNot t e)) (ltb (right t e) (expressions t))
     && implies (not (operator t e)) (ltb (conditionPort t e) (ports t))
-    && implies (leb (expressionKind t e) 1) (not (eqb (portKind t (conditionPort t e)) kindEvent))
-    && implies (between 2 3 (expressionKind t e)) (eqb (portKind t (conditionPort t e)) kindEvent)
+    && implies (leb (expressionKind t e) 1) (not (eqb (portKind t (conditionPort t e)) portEvent))
+    && implies (between 2 3 (expressionKind t e)) (eqb (portKind t (conditionPort t e)) portEvent)
 
 unfoldable pub listOrNone : List ℕ → ℕ → Bool
 listOrNone t l = eqb l noList || ltb l (lists t)
@@ -117,11 +117,11 @@ listOrNone t l = eqb l noList || ltb l (lists t)
 -- "item 1 an event port, 2 and 3 a timer"
 unfoldable pub itemNames : List ℕ → ℕ → Bool
 itemNames t i =
-    implies (eqb (itemKind t i) kindClear) (portOfKind t kindEvent (itemA t i))
-    && implies (between kindStart kindStop (itemKind t i)) (portOfKind t kindTimer (itemA t i))
-    && implies (eqb (itemKind t i) kindAsk) (ltb (itemA t i) (networks t))
-    && implies (eqb (itemKind t i) kindList) (ltb (itemA t i) (lists t))
-    && implies (eqb (itemKind t i) kindRule) (ltb (itemA t i) (rules t))
+    implies (eqb (itemKind t i) itemClear) (portOfKind t portEvent (itemA t i))
+    && implies (between itemStart itemStop (itemKind t i)) (portOfKind t portTimer (itemA t i))
+    && implies (eqb (itemKind t i) itemAsk) (ltb (itemA t i) (networks t))
+    && implies (eqb (itemKind t i) itemList) (ltb (itemA t i) (lists t))
+    && implies (eqb (itemKind t i) itemRule) (ltb (itemA t i) (rules t))
 
 unfoldable pub names : List ℕ → Part → Bool
 names t inHeader = true
@@ -144,9 +144,9 @@ ruleNests t below r =
 
 unfoldable pub itemNests : List ℕ → (ℕ → Bool) → ℕ → Bool
 itemNests t below i =
-    elim (eqb (itemKind t i) kindList) [
+    elim (eqb (itemKind t i) itemList) [
       | true ↦ below (itemA t i)
-      | false ↦ elim (eqb (itemKind t i) kindRule) [ true ↦ ruleNests t below (itemA t i) | false ↦ true ]
+      | false ↦ elim (eqb (itemKind t i) itemRule) [ true ↦ ruleNests t below (itemA t i) | false ↦ true ]
     ]
 
 unfoldable pub listNests : List ℕ → (ℕ → Bool) → ℕ → Bool
@@ -184,10 +184,10 @@ ruleOwned t r =
 -- item i may stand in a list of owner o
 unfoldable pub itemOwned : List ℕ → ℕ → ℕ → Bool
 itemOwned t o i =
-    implies (eqb (itemKind t i) kindList) (eqb (listOwner t (itemA t i)) o)
-    && implies (eqb (itemKind t i) kindRule) (eqb (ruleOwner t (itemA t i)) o)
-    && (eqb o platform || implies (between kindClear kindStop (itemKind t i)) (eqb (portOwner t (itemA t i)) o))
-    && (eqb o platform || implies (eqb (itemKind t i) kindAsk) (eqb (networkOwner t (itemA t i)) o))
+    implies (eqb (itemKind t i) itemList) (eqb (listOwner t (itemA t i)) o)
+    && implies (eqb (itemKind t i) itemRule) (eqb (ruleOwner t (itemA t i)) o)
+    && (eqb o platform || implies (between itemClear itemStop (itemKind t i)) (eqb (portOwner t (itemA t i)) o))
+    && (eqb o platform || implies (eqb (itemKind t i) itemAsk) (eqb (networkOwner t (itemA t i)) o))
 
 unfoldable pub owners : List ℕ → Part → Bool
 owners t inHeader = true
@@ -209,9 +209,9 @@ ruleCost t below r =
 
 unfoldable pub itemCost : List ℕ → (ℕ → ℕ) → ℕ → ℕ
 itemCost t below i =
-    elim (eqb (itemKind t i) kindList) [
+    elim (eqb (itemKind t i) itemList) [
       | true ↦ below (itemA t i)
-      | false ↦ elim (eqb (itemKind t i) kindRule) [ true ↦ ruleCost t below (itemA t i) | false ↦ 1 ]
+      | false ↦ elim (eqb (itemKind t i) itemRule) [ true ↦ ruleCost t below (itemA t i) | false ↦ 1 ]
     ]
 
 unfoldable pub listCost : List ℕ → (ℕ → ℕ) → ℕ → ℕ

@@ -6,8 +6,8 @@ use lib.ListN.{length}
 use lib.Dec.{leb, ltb, eqb}
 use Rattle.rulebook.specs.Words.{word, field, laid, implies, between, all, listed}
 use Rattle.rulebook.specs.Table.{ports, networks, sources, rules}
-use Rattle.rulebook.specs.Table.{portKind, kindMode, kindEvent, kindTimer, deferred, hasInitial, portOwner, initial, reload}
-use Rattle.rulebook.specs.Table.{networkOwner, shortWait, longWait, eTicks, sourceOwner, timeout, ruleOwner, firstResult}
+use Rattle.rulebook.specs.Table.{portKind, portMode, portEvent, portTimer, deferred, hasInitial, portOwner, initial, reload}
+use Rattle.rulebook.specs.Table.{networkOwner, l1, l2, eTicks, sourceOwner, timeout, ruleOwner, firstResult}
 use Rattle.rulebook.specs.Reasons.{accepted}
 
 -- P + R + N + S words. A port's word stands at the port's number, the others at these.
@@ -147,11 +147,11 @@ unfoldable pub portFits : List ℕ → ℕ → ℕ → Bool
 portFits t p w =
     eqb (field 10 6 w) 0
     && implies (eqb (deferred t p) 0) (eqb (markedOf w) 0)
-    && implies (eqb (definedOf w) 0) (eqb (portKind t p) kindMode && eqb (valueOf w) 0 && eqb (markedOf w) 0)
-    && implies (eqb (portKind t p) kindEvent) (leb (valueOf w) 1)
-    && implies (eqb (portKind t p) kindTimer) (leb (valueOf w) timerExpired)
-    && implies (eqb (portKind t p) kindTimer && eqb (valueOf w) timerStarted) (between 1 (reload t p) (remainingOf w))
-    && (eqb (portKind t p) kindTimer && eqb (valueOf w) timerStarted || eqb (remainingOf w) 0)
+    && implies (eqb (definedOf w) 0) (eqb (portKind t p) portMode && eqb (valueOf w) 0 && eqb (markedOf w) 0)
+    && implies (eqb (portKind t p) portEvent) (leb (valueOf w) 1)
+    && implies (eqb (portKind t p) portTimer) (leb (valueOf w) timerExpired)
+    && implies (eqb (portKind t p) portTimer && eqb (valueOf w) timerStarted) (between 1 (reload t p) (remainingOf w))
+    && (eqb (portKind t p) portTimer && eqb (valueOf w) timerStarted || eqb (remainingOf w) 0)
 
 unfoldable pub ruleFits : ℕ → Bool
 ruleFits w = eqb (field 2 30 w) 0 && leb (resultOf w) undefinedResult
@@ -164,7 +164,7 @@ networkFits t n w =
     && leb (networkOf w .asked) askedFull
     && leb (networkOf w .state) stateRecover
     && implies (eqb (networkOf w .state) stateCheck) (between 1 (eTicks t n) (networkOf w .remaining))
-    && implies (eqb (networkOf w .state) stateRecover) (between 1 (max (shortWait t n) (longWait t n)) (networkOf w .remaining))
+    && implies (eqb (networkOf w .state) stateRecover) (between 1 (max (l1 t n) (l2 t n)) (networkOf w .remaining))
     && (eqb (networkOf w .state) stateCheck || eqb (networkOf w .state) stateRecover || eqb (networkOf w .remaining) 0)
     && (eqb (networkOf w .state) stateCheck || eqb (networkOf w .state) stateRecover || eqb (networkOf w .counter) 0)
     && implies (eqb (networkOf w .state) stateRecover) (leb 1 (networkOf w .counter))
@@ -193,7 +193,7 @@ fits t s = eqb (length s) (stateLength t) && all 0 (stateLength t) (fitsAt t s)
 unfoldable pub freshPort : List ℕ → ℕ → ℕ
 freshPort t p =
     cond (eqb (hasInitial t p) 1) (packPort 1 0 (initial t p) 0)
-    (cond (eqb (portKind t p) kindMode) (packPort 0 0 0 0)
+    (cond (eqb (portKind t p) portMode) (packPort 0 0 0 0)
     (packPort 1 0 0 0))
 
 unfoldable pub freshThing : List ℕ → Thing → ℕ

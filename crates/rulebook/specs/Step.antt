@@ -4,11 +4,11 @@ use mathlib.Core.Bool.{Bool, cond, _&&_, _||_, not}
 use mathlib.Core.List.{List, []}
 use lib.Dec.{leb, ltb, eqb}
 use Rattle.rulebook.specs.Words.{field, implies}
-use Rattle.rulebook.specs.Table.{ports, networks, sources, rules, portKind, kindMode, kindEvent}
+use Rattle.rulebook.specs.Table.{ports, networks, sources, rules, portKind, portMode, portEvent}
 use Rattle.rulebook.specs.Reasons.{accepted, bound, held}
 use Rattle.rulebook.specs.State.{Thing, aPort, aRule, aNetwork, aSource, ownerOf, fits}
 use Rattle.rulebook.specs.Lists.{Run}
-use Rattle.rulebook.specs.Events.{eventKind, eventOwner, eventIndex, eventValue, tickKind, modeKind, requestKind, busOffKind, highestKind, happen}
+use Rattle.rulebook.specs.Events.{eventKind, eventOwner, eventIndex, eventValue, eventTick, eventMode, eventRequest, eventBusOff, highestKind, happen}
 
 -- Answers 1 to 3 read table, state and room: the table check gives a reason; the state doesn't fit; trace shorter than B words.
 
@@ -25,14 +25,14 @@ unfoldable pub wellFormed : ℕ → Bool
 wellFormed e =
     leb (eventKind e) highestKind
     && eqb (field 24 8 e) 0
-    && implies (eqb (eventKind e) tickKind) (eqb (eventOwner e) 0 && eqb (eventIndex e) 0)
-    && implies (not (eqb (eventKind e) modeKind)) (eqb (eventValue e) 0)
+    && implies (eqb (eventKind e) eventTick) (eqb (eventOwner e) 0 && eqb (eventIndex e) 0)
+    && implies (not (eqb (eventKind e) eventMode)) (eqb (eventValue e) 0)
 
 -- the thing that an event other than a tick names
 unfoldable pub named : ℕ → Thing
 named e =
-    cond (eqb (eventKind e) modeKind || eqb (eventKind e) requestKind) (aPort (eventIndex e))
-    (cond (eqb (eventKind e) busOffKind) (aNetwork (eventIndex e))
+    cond (eqb (eventKind e) eventMode || eqb (eventKind e) eventRequest) (aPort (eventIndex e))
+    (cond (eqb (eventKind e) eventBusOff) (aNetwork (eventIndex e))
     (aSource (eventIndex e)))
 
 unfoldable pub present : List ℕ → Thing → Bool
@@ -44,15 +44,15 @@ present t (aSource k) = ltb k (sources t)
 -- kind 1 wants a mode port that no network or source has, kind 2 an event port
 unfoldable pub suited : List ℕ → ℕ → Bool
 suited t e =
-    implies (eqb (eventKind e) modeKind) (eqb (portKind t (eventIndex e)) kindMode)
-    && implies (eqb (eventKind e) modeKind) (not (held t (eventIndex e) (networks t) (sources t)))
-    && implies (eqb (eventKind e) requestKind) (eqb (portKind t (eventIndex e)) kindEvent)
+    implies (eqb (eventKind e) eventMode) (eqb (portKind t (eventIndex e)) portMode)
+    && implies (eqb (eventKind e) eventMode) (not (held t (eventIndex e) (networks t) (sources t)))
+    && implies (eqb (eventKind e) eventRequest) (eqb (portKind t (eventIndex e)) portEvent)
 
 unfoldable pub known : List ℕ → ℕ → Bool
-known t e = eqb (eventKind e) tickKind || present t (named e) && suited t e
+known t e = eqb (eventKind e) eventTick || present t (named e) && suited t e
 
 unfoldable pub sentByOwner : List ℕ → ℕ → Bool
-sentByOwner t e = eqb (eventKind e) tickKind || eqb (eventOwner e) (ownerOf t (named e))
+sentByOwner t e = eqb (eventKind e) eventTick || eqb (eventOwner e) (ownerOf t (named e))
 
 unfoldable pub refusedEvent : List ℕ → ℕ → ℕ
 refusedEvent t e = cond (not (wellFormed e)) 4 (cond (not (known t e)) 5 (cond (not (sentByOwner t e)) 6 0))

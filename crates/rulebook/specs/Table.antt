@@ -84,14 +84,14 @@ portWord t p = word t (portsFrom + p)
 abbrev pub portKind : List ℕ → ℕ → ℕ
 portKind t p = field 0 2 (portWord t p)
 
-abbrev pub kindMode : ℕ
-kindMode = 0
+abbrev pub portMode : ℕ
+portMode = 0
 
-abbrev pub kindEvent : ℕ
-kindEvent = 1
+abbrev pub portEvent : ℕ
+portEvent = 1
 
-abbrev pub kindTimer : ℕ
-kindTimer = 2
+abbrev pub portTimer : ℕ
+portTimer = 2
 
 abbrev pub deferred : List ℕ → ℕ → ℕ
 deferred t p = field 2 1 (portWord t p)
@@ -125,11 +125,11 @@ networkPort t n = field 4 8 (networkWord t n)
 abbrev pub threshold : List ℕ → ℕ → ℕ
 threshold t n = field 12 8 (networkWord t n)
 
-abbrev pub shortWait : List ℕ → ℕ → ℕ
-shortWait t n = field 0 8 (waitsWord t n)
+abbrev pub l1 : List ℕ → ℕ → ℕ
+l1 t n = field 0 8 (waitsWord t n)
 
-abbrev pub longWait : List ℕ → ℕ → ℕ
-longWait t n = field 8 8 (waitsWord t n)
+abbrev pub l2 : List ℕ → ℕ → ℕ
+l2 t n = field 8 8 (waitsWord t n)
 
 abbrev pub eTicks : List ℕ → ℕ → ℕ
 eTicks t n = field 16 16 (waitsWord t n)
@@ -229,26 +229,26 @@ itemA t i = field 4 12 (itemWord t i)
 abbrev pub itemB : List ℕ → ℕ → ℕ
 itemB t i = field 16 16 (itemWord t i)
 
-abbrev pub kindCall : ℕ
-kindCall = 0
+abbrev pub itemCall : ℕ
+itemCall = 0
 
-abbrev pub kindClear : ℕ
-kindClear = 1
+abbrev pub itemClear : ℕ
+itemClear = 1
 
-abbrev pub kindStart : ℕ
-kindStart = 2
+abbrev pub itemStart : ℕ
+itemStart = 2
 
-abbrev pub kindStop : ℕ
-kindStop = 3
+abbrev pub itemStop : ℕ
+itemStop = 3
 
-abbrev pub kindAsk : ℕ
-kindAsk = 4
+abbrev pub itemAsk : ℕ
+itemAsk = 4
 
-abbrev pub kindList : ℕ
-kindList = 5
+abbrev pub itemList : ℕ
+itemList = 5
 
-abbrev pub kindRule : ℕ
-kindRule = 6
+abbrev pub itemRule : ℕ
+itemRule = 6
 
 -- Owner 0 is the platform. A stranger to o is an operator other than o and other than the platform.
 

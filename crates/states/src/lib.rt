@@ -96,7 +96,7 @@ fn network_fits(t: &[u32], h: Layout, n: u32, w: u32) -> bool
     ensures { λ r. ⌜ r ≡ networkFits (now (t .entry)) n w ⌝ }
 {
     let waits = sections::waits_word(t, h, n);
-    let longest = larger(table::short_wait(waits), table::long_wait(waits));
+    let longest = larger(table::l1(waits), table::l2(waits));
     let e_ticks = table::e_ticks(waits);
     let zero = state::state_network_zero(w);
     let asked = state::asked(w);

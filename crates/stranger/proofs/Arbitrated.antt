@@ -11,7 +11,7 @@ use lib.Seq.{getD-set-same, getD-set-other}
 use lib.Dec.{eqb}
 use borrow.Author.Tests.{eqb-true, eqb-false}
 use Rattle.rulebook.specs.Words.{word}
-use Rattle.rulebook.specs.Table.{ports, networks, sources, rules, portKind, kindMode}
+use Rattle.rulebook.specs.Table.{ports, networks, sources, rules, portKind, portMode}
 use Rattle.rulebook.specs.State.{ruleIndex, networkIndex, sourceIndex, definedOf, valueOf, remainingOf, Network, networkOf}
 use Rattle.rulebook.specs.Lists.{setPort, networkIn, asking, setNetwork, setResult}
 use Rattle.rulebook.specs.Arbitration.{unmarked, arbitrate}
@@ -25,7 +25,7 @@ use Rattle.laws.proofs.FitEvents.{MayShow}
 
 -- a statement that each write keeps where the state fits
 pub record KeptFitting (t : List ℕ) (P : List ℕ → Type 0) : Type 0 where
-  pub port : (p m v r : ℕ) (s : List ℕ) → p < ports t → (portKind t p ≡ kindMode → ⊥) → Fits t s → P s → P (setPort p m v r s)
+  pub port : (p m v r : ℕ) (s : List ℕ) → p < ports t → (portKind t p ≡ portMode → ⊥) → Fits t s → P s → P (setPort p m v r s)
   pub ask : (n mode : ℕ) (s : List ℕ) → n < networks t → mode ≤ 2 → Fits t s → P s → P (setNetwork t n (asking mode (networkIn t n s)) s)
   pub store : (r result : ℕ) (s : List ℕ) → r < rules t → Fits t s → P s → P (setResult t r result s)
   pub unmark : (p : ℕ) (s : List ℕ) → p < ports t → Fits t s → P s → P (set s p (unmarked (word s p)))

@@ -10,7 +10,7 @@ use lib.Seq.{getD-set-other}
 use lib.Dec.{eqb}
 use borrow.Author.Tests.{eqb-true, eqb-false, eq-eqb, not-false}
 use Rattle.rulebook.specs.Words.{field}
-use Rattle.rulebook.specs.Table.{ports, networks, rules, items, kindEvent, kindTimer, listOwner, itemKind, itemA, itemB, kindAsk}
+use Rattle.rulebook.specs.Table.{ports, networks, rules, items, portEvent, portTimer, listOwner, itemKind, itemA, itemB, itemAsk}
 use Rattle.rulebook.specs.State.{ruleIndex, networkIndex, askedFull, Network, networkOf}
 use Rattle.rulebook.specs.Lists.{Run, traceWord, setPort, networkIn, setNetwork, effect, act, setResult, judge}
 use Rattle.rulebook.specs.Arbitration.{unmarkPort, unmarkPorts, storeResult, storeResults, evaluated, arbitrate}
@@ -36,12 +36,12 @@ any-more p (x ∷ xs) w h =
     (rw (o .0, r .0), r .1)
 
 -- the word of a request for n that does not ask for another mode asks for full
-asks-full : (n o b : ℕ) → n < 256 → b ≤ 2 → asksOther n (traceWord kindAsk o n b) ≡ false → b ≡ askedFull
+asks-full : (n o b : ℕ) → n < 256 → b ≤ 2 → asksOther n (traceWord itemAsk o n b) ≡ false → b ≡ askedFull
 unfolding asksOther
 asks-full n o b n₈ b₂ h =
-    let is : field 16 16 (traceWord kindAsk o n b) ≡ b = trace-b kindAsk o n b ∙ mod-eq-of-lt (omega arith) in
-    let for : field 8 8 (traceWord kindAsk o n b) ≡ n = trace-a kindAsk o n b ∙ mod-eq-of-lt n₈ in
-    let what : field 0 4 (traceWord kindAsk o n b) ≡ kindAsk = trace-kind kindAsk o n b in
+    let is : field 16 16 (traceWord itemAsk o n b) ≡ b = trace-b itemAsk o n b ∙ mod-eq-of-lt (omega arith) in
+    let for : field 8 8 (traceWord itemAsk o n b) ≡ n = trace-a itemAsk o n b ∙ mod-eq-of-lt n₈ in
+    let what : field 0 4 (traceWord itemAsk o n b) ≡ itemAsk = trace-kind itemAsk o n b in
     eqb-true b askedFull (not-false (eqb b askedFull) (rw (what, for, is, eq-eqb n n refl) at h))
 
 module _ (t : List ℕ) (f : Facts t) (n : ℕ) (b : n < networks t) where
@@ -57,9 +57,9 @@ module _ (t : List ℕ) (f : Facts t) (n : ℕ) (b : n < networks t) where
   effect-asked o i s h fit full none =
       let named = f .item i h .1 in
       effect-cases (λ x. networkIn t n x .asked ≡ askedFull) t i s
-      (λ e. let there = port-there t kindEvent (itemA t i) (clear-there t i named e) in ap (λ (c : Network). c .asked) (other-word s (itemA t i) _ (λ z. omega arith)) ∙ full)
-      (λ e. let there = port-there t kindTimer (itemA t i) (start-there t i named e) in ap (λ (c : Network). c .asked) (other-word s (itemA t i) _ (λ z. omega arith)) ∙ full)
-      (λ e. let there = port-there t kindTimer (itemA t i) (stop-there t i named e) in ap (λ (c : Network). c .asked) (other-word s (itemA t i) _ (λ z. omega arith)) ∙ full)
+      (λ e. let there = port-there t portEvent (itemA t i) (clear-there t i named e) in ap (λ (c : Network). c .asked) (other-word s (itemA t i) _ (λ z. omega arith)) ∙ full)
+      (λ e. let there = port-there t portTimer (itemA t i) (start-there t i named e) in ap (λ (c : Network). c .asked) (other-word s (itemA t i) _ (λ z. omega arith)) ∙ full)
+      (λ e. let there = port-there t portTimer (itemA t i) (stop-there t i named e) in ap (λ (c : Network). c .asked) (other-word s (itemA t i) _ (λ z. omega arith)) ∙ full)
       (λ e. let there = ask-there t i named e in let small = mode-small t i (f .item i h .0) e in
       split (eqb n (itemA t i))
       (λ z. let same : n ≡ itemA t i = eqb-true _ _ z in let few = f .counts .networks in

@@ -10,7 +10,7 @@ use lib.Seq.{getD-set-same, getD-set-other}
 use lib.Dec.{leb, eqb}
 use borrow.Author.Tests.{eqb-true, eqb-false}
 use Rattle.rulebook.specs.Words.{word}
-use Rattle.rulebook.specs.Table.{ports, networks, sources, portKind, kindEvent, kindTimer, networkPort, sourcePort}
+use Rattle.rulebook.specs.Table.{ports, networks, sources, portKind, portEvent, portTimer, networkPort, sourcePort}
 use Rattle.rulebook.specs.State.{networkIndex, sourceIndex, valueOf, askedNone, askedSilent, askedFull, stateNone, stateSilent, stateCheck, stateRecover, statusNone, statusPending, statusExpired, timerStarted, Network, networkOf, packNetwork}
 use Rattle.rulebook.specs.Lists.{setPort, networkIn, setNetwork}
 use Rattle.rulebook.specs.Events.{eventIndex, eventValue, only, request, statusIn, setSource, moveSource, wake, validate, clear, shown, moveNetwork, takes, offBus, busOff, countedNetwork, tickedNetwork, tickNetwork, remainingIn, tickSource, tickTimer, tickThings, arbitrateMarked, tick, happen}
@@ -86,7 +86,7 @@ module _ (t : List ℕ) (f : Facts t) (n : ℕ) (b : n < networks t) where
   asks-timer : (a p : ℕ) (s : List ℕ) → p < ports t → Asks a s → Asks a (tickTimer t p s)
   unfolding tickTimer
   asks-timer a p s c h =
-      split (eqb (portKind t p) kindTimer && eqb (valueOf (word s p)) timerStarted)
+      split (eqb (portKind t p) portTimer && eqb (valueOf (word s p)) timerStarted)
       (λ e. split (leb (remainingIn s p) 1) (λ d. rw (e, d) (asks-port a p _ _ _ s c h)) (λ d. rw (e, d) (asks-port a p _ _ _ s c h)))
       (λ e. rw e h)
 
@@ -102,7 +102,7 @@ module _ (t : List ℕ) (f : Facts t) (n : ℕ) (b : n < networks t) where
   pub asked-after : (e : ℕ) (s : List ℕ) → Taken t e → Fits t s → Asks askedFull s → anyWord (asksOther n) (happen t e s .words) ≡ false → Asks askedFull (happen t e s .state)
   unfolding tick arbitrateMarked wake validate clear busOff
   asked-after e s w fit h =
-      let request-asks : (q v : ℕ) → q < ports t → (portKind t q ≡ kindTimer → ⊥) → v < 256 → (portKind t q ≡ kindEvent → v ≤ 1) → anyWord (asksOther n) (request t q v s .words) ≡ false → Asks askedFull (request t q v s .state) =
+      let request-asks : (q v : ℕ) → q < ports t → (portKind t q ≡ portTimer → ⊥) → v < 256 → (portKind t q ≡ portEvent → v ≤ 1) → anyWord (asksOther n) (request t q v s .words) ≡ false → Asks askedFull (request t q v s .state) =
       λ q v c nt v₈ ev. request-cases t f (λ x. anyWord (asksOther n) (x .words) ≡ false → Asks askedFull (x .state)) q v s c nt v₈ ev fit
       (λ fit₁ none. asks-port askedFull q _ _ _ s c h) (λ fit₁ none. asked-stays t f n b (only q) _ fit₁ (asks-port askedFull q _ _ _ s c h) none) in
       happen-cases (λ x. anyWord (asksOther n) (x .words) ≡ false → Asks askedFull (x .state)) t e s

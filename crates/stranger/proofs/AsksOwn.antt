@@ -9,9 +9,9 @@ use native.Mathlib.Nat.{mod-eq-of-lt}
 use native.Mathlib.Omega.{arith}
 use lib.Dec.{eqb}
 use borrow.Author.Tests.{eqb-true}
-use Rattle.rulebook.specs.Table.{networks, networkOwner, deferred, listOwner, itemKind, itemA, itemB, kindAsk, kindRule, platform, stranger}
+use Rattle.rulebook.specs.Table.{networks, networkOwner, deferred, listOwner, itemKind, itemA, itemB, itemAsk, itemRule, platform, stranger}
 use Rattle.rulebook.specs.Reasons.{accepted}
-use Rattle.rulebook.specs.Lists.{Run, emit, traceWord, kindListStart, act, judge}
+use Rattle.rulebook.specs.Lists.{Run, emit, traceWord, traceListStart, act, judge}
 use Rattle.rulebook.specs.Arbitration.{arbitrate}
 use Rattle.rulebook.specs.Events.{request, tick, arbitrateMarked, happen}
 use Rattle.rulebook.specs.Step.{Result, step}
@@ -39,12 +39,12 @@ module _ (t : List ℕ) (f : Facts t) where
   emit-asks w x h a = each-both (AsksOwn t) (x .words) (w ∷ []) a (h, tt)
 
   -- a word of another kind
-  other-kind : (kind o a b : ℕ) → (kind % 16 ≡ kindAsk → ⊥) → AsksOwn t (traceWord kind o a b)
+  other-kind : (kind o a b : ℕ) → (kind % 16 ≡ itemAsk → ⊥) → AsksOwn t (traceWord kind o a b)
   other-kind kind o a b n k = absurd (n (sym (trace-kind kind o a b) ∙ k))
 
   item-asks : (l i : ℕ) → Within t l i → AsksOwn t (traceWord (itemKind t i) (listOwner t l) (itemA t i) (itemB t i))
   item-asks l i w k =
-      let kind : itemKind t i ≡ kindAsk = sym (mod-eq-of-lt (digit-small _ 16 _ (omega arith))) ∙ sym (trace-kind (itemKind t i) (listOwner t l) (itemA t i) (itemB t i)) ∙ k in
+      let kind : itemKind t i ≡ itemAsk = sym (mod-eq-of-lt (digit-small _ 16 _ (omega arith))) ∙ sym (trace-kind (itemKind t i) (listOwner t l) (itemA t i) (itemB t i)) ∙ k in
       let there : itemA t i < networks t = ask-there t i (f .item i (item-there t f l i w) .1) kind in
       let few : networks t ≤ 8 = f .counts .networks in
       let number : traceA (traceWord (itemKind t i) (listOwner t l) (itemA t i) (itemB t i)) ≡ itemA t i = trace-a (itemKind t i) (listOwner t l) (itemA t i) (itemB t i) ∙ mod-eq-of-lt (omega arith) in
@@ -56,10 +56,10 @@ module _ (t : List ℕ) (f : Facts t) where
   unfolding act judge
   acts-ask-own =
       record {
-        begin = λ l x h a. emit-asks _ x (other-kind kindListStart (listOwner t l) l 0 (λ z. omega arith)) a;
+        begin = λ l x h a. emit-asks _ x (other-kind traceListStart (listOwner t l) l 0 (λ z. omega arith)) a;
         act = λ l i x w g h a. emit-asks _ x (item-asks l i w) a;
-        undefined = λ l i x w e a. emit-asks _ x (other-kind kindRule (listOwner t l) (itemA t i) _ (λ z. omega arith)) a;
-        judge = λ l i x w e u a. emit-asks _ x (other-kind kindRule (listOwner t l) (itemA t i) _ (λ z. omega arith)) a;
+        undefined = λ l i x w e a. emit-asks _ x (other-kind itemRule (listOwner t l) (itemA t i) _ (λ z. omega arith)) a;
+        judge = λ l i x w e u a. emit-asks _ x (other-kind itemRule (listOwner t l) (itemA t i) _ (λ z. omega arith)) a;
         deep = λ x a. a;
       }
 
@@ -88,7 +88,7 @@ asks-own t s room e h = go (step t s room e) (stepped t s room e)
 asks-no-stranger : (t : List ℕ) (n w : ℕ) → AsksOwn t w → asksOther n w ≡ true → stranger (networkOwner t n) (traceOwner w) ≡ false
 unfolding asksOther
 asks-no-stranger t n w h a =
-    let kind : traceKind w ≡ kindAsk = eqb-true _ _ (part-of _ (λ e. rw (asksOther, e) at a)) in
+    let kind : traceKind w ≡ itemAsk = eqb-true _ _ (part-of _ (λ e. rw (asksOther, e) at a)) in
     let number : traceA w ≡ n = eqb-true _ _ (part-of _ (λ e. rw (asksOther, e, and-false) at a)) in
     ⊎-elim (λ e. let own : traceOwner w ≡ networkOwner t n = e ∙ ap (networkOwner t) number in rw own (self-known (networkOwner t n)))
     (λ e. rw e (platform-known (networkOwner t n))) (h kind)

@@ -12,7 +12,7 @@ use Rattle.rulebook.specs.Table.{networks, threshold, eTicks}
 use Rattle.rulebook.specs.Reasons.{accepted}
 use Rattle.rulebook.specs.State.{Network, askedFull, stateCheck, stateFull, stateRecover, fresh}
 use Rattle.rulebook.specs.Lists.{networkIn}
-use Rattle.rulebook.specs.Events.{eventKind, eventIndex, tickKind, busOffKind, shown, moved, takes, wait, offBus, countedNetwork, tickedNetwork, happen}
+use Rattle.rulebook.specs.Events.{eventKind, eventIndex, eventTick, eventBusOff, shown, moved, takes, wait, offBus, countedNetwork, tickedNetwork, happen}
 use Rattle.rulebook.specs.Step.{Result}
 use Rattle.laws.proofs.Tests.{split, part-of, and-left, and-right}
 use Rattle.laws.proofs.Facts.{facts}
@@ -106,22 +106,22 @@ module _ (t : List ℕ) (h : accepted t ≡ true) (n : ℕ) (b : n < networks t)
       let m = network-moves t (facts t h) n b e s w fit .own in
       phase-same L _ k _ _ (ap (λ (u : Network). u .state) m) (ap (λ (u : Network). u .remaining) m) p
 
-  next-tick : (e : ℕ) (s : List ℕ) → eventKind e ≡ tickKind → nextNetwork t (facts t h) n b e s ≡ tickedNetwork t n (networkIn t n s)
+  next-tick : (e : ℕ) (s : List ℕ) → eventKind e ≡ eventTick → nextNetwork t (facts t h) n b e s ≡ tickedNetwork t n (networkIn t n s)
   unfolding nextNetwork
   next-tick e s k = rw k
 
-  next-same : (e : ℕ) (s : List ℕ) → eqb (eventKind e) tickKind ≡ false → (eqb (eventKind e) busOffKind && eqb (eventIndex e) n && takes (networkIn t n s)) ≡ false → nextNetwork t (facts t h) n b e s ≡ networkIn t n s
+  next-same : (e : ℕ) (s : List ℕ) → eqb (eventKind e) eventTick ≡ false → (eqb (eventKind e) eventBusOff && eqb (eventIndex e) n && takes (networkIn t n s)) ≡ false → nextNetwork t (facts t h) n b e s ≡ networkIn t n s
   unfolding nextNetwork
   next-same e s k d = rw (k, d)
 
-  tick-done : (k : ℕ) (s : List ℕ) (e : ℕ) → eventKind e ≡ tickKind → Taken t e → Fits t s → networkIn t n s .asked ≡ askedFull → At k s → At (suc k) (happen t e s .state)
+  tick-done : (k : ℕ) (s : List ℕ) (e : ℕ) → eventKind e ≡ eventTick → Taken t e → Fits t s → networkIn t n s .asked ≡ askedFull → At k s → At (suc k) (happen t e s .state)
   tick-done k s e is w fit a p = next-is e s (suc k) w fit (rw (next-tick e s is) (phase-tick t n L k (networkIn t n s) (facts t h .waits n b .eticks) a p))
 
   call-phase : (k : ℕ) (s : List ℕ) (c : Call) → Fits t s → networkIn t n s .asked ≡ askedFull → busOffTaken t n s c ≡ false → At k s → At (cond (ticks t s c) 1 0 + k) (called t s c .state)
   unfolding ticks busOffTaken
   call-phase k s c fit a quiet p = go (called t s c) (stepped t s (c .room) (c .event)) refl
     where
-      go : (r : Result) → Stepped t s (c .room) (c .event) r → r ≡ called t s c → At (cond (eqb (called t s c .answer) 0 && eqb (eventKind (c .event)) tickKind) 1 0 + k) (called t s c .state)
+      go : (r : Result) → Stepped t s (c .room) (c .event) r → r ≡ called t s c → At (cond (eqb (called t s c .answer) 0 && eqb (eventKind (c .event)) eventTick) 1 0 + k) (called t s c .state)
       go r (refused m x y e) is =
           let ans : called t s c .answer ≡ m = ap (λ (q : Result). q .answer) (sym is ∙ e) in
           let st : called t s c .state ≡ s = ap (λ (q : Result). q .state) (sym is ∙ e) in
@@ -129,7 +129,7 @@ module _ (t : List ℕ) (h : accepted t ≡ true) (n : ℕ) (b : n < networks t)
       go r (done x w e) is =
           let ans : called t s c .answer ≡ 0 = ap (λ (q : Result). q .answer) (sym is ∙ e) in
           let st : called t s c .state ≡ happen t (c .event) s .state = ap (λ (q : Result). q .state) (sym is ∙ e) in
-          split (eqb (eventKind (c .event)) tickKind)
+          split (eqb (eventKind (c .event)) eventTick)
           (λ d. let one : 1 + k ≡ suc k = omega arith in rw (ans, d, st, one) (tick-done k s (c .event) (eqb-true _ _ d) w fit a p))
           (λ d. rw (ans, d, st, zero-add k) (next-is (c .event) s k w fit (rw (next-same (c .event) s d (rw ans at quiet)) p)))
 
@@ -167,7 +167,7 @@ after-more t s (x ∷ xs) ys = after-more t _ xs ys
 
 record Starts (t : List ℕ) (n : ℕ) (s : List ℕ) (c : Call) : Type 0 where
   answer : called t s c .answer ≡ 0
-  kind : eventKind (c .event) ≡ busOffKind
+  kind : eventKind (c .event) ≡ eventBusOff
   index : eventIndex (c .event) ≡ n
   took : takes (networkIn t n s) ≡ true
 
@@ -178,7 +178,7 @@ starts t n s c h =
       answer = eqb-true _ _ (part-of _ (λ e. rw e at h));
       kind = eqb-true _ _ (part-of _ (λ e. rw (e, and-false) at h));
       index = eqb-true _ _ (part-of _ (λ e. rw (e, and-false) at h));
-      took = and-right (answered t s c && eqb (eventKind (c .event)) busOffKind && eqb (eventIndex (c .event)) n) _ h;
+      took = and-right (answered t s c && eqb (eventKind (c .event)) eventBusOff && eqb (eventIndex (c .event)) n) _ h;
     }
 
 -- a call that is answered 0 is done
@@ -189,7 +189,7 @@ done-call t s c h = go (called t s c) (stepped t s (c .room) (c .event)) refl
     go r (refused m x y e) is = let z : m ≡ 0 = sym (ap (λ (q : Result). q .answer) (sym is ∙ e)) ∙ h in absurd (omega arith)
     go r (done x w e) is = (w, ap (λ (q : Result). q .state) (sym is ∙ e), ap (λ (q : Result). q .words) (sym is ∙ e))
 
-no-words : (t s : List ℕ) (e : ℕ) → eventKind e ≡ busOffKind → happen t e s .words ≡ []
+no-words : (t s : List ℕ) (e : ℕ) → eventKind e ≡ eventBusOff → happen t e s .words ≡ []
 unfolding happen
 no-words t s e k = rw k
 
@@ -263,8 +263,8 @@ module _ (t : List ℕ) (h : accepted t ≡ true) (n : ℕ) (before : List Call)
   pub network-at-tick : (d : Call) → ticks t s₂ d ≡ true → Phase t n (loaded t n s₀) (suc (tickCount t s₁ cs)) (called t s₂ d .state)
   unfolding after ticks
   network-at-tick d is =
-      let e = done-call t s₂ d (eqb-true _ _ (and-left _ (eqb (eventKind (d .event)) tickKind) is)) in
-      let k : eventKind (d .event) ≡ tickKind = eqb-true _ _ (and-right (answered t s₂ d) _ is) in
+      let e = done-call t s₂ d (eqb-true _ _ (and-left _ (eqb (eventKind (d .event)) eventTick) is)) in
+      let k : eventKind (d .event) ≡ eventTick = eqb-true _ _ (and-right (answered t s₂ d) _ is) in
       let fit₂ = after-fits t s₁ cs h (step-fits t s₀ (c .room) (c .event) h fit₀) in
       phase-shown t n _ _ (called t s₂ d .state) (rw (after-more t (fresh t) before (c ∷ (cs ++ (d ∷ []))), after-more t s₁ cs (d ∷ [])) at (network-shows t h n n-there (before ++ c ∷ (cs ++ (d ∷ []))) .value))
       (rw (e .1) (tick-done t h n n-there (loaded t n s₀) (tickCount t s₁ cs) s₂ (d .event) k (e .0) fit₂ (run .1) (run .0)))

@@ -10,11 +10,11 @@ use lib.ListN.{set}
 use lib.Dec.{leb, eqb}
 use borrow.Author.Tests.{ltb-true, eqb-true, eqb-false, ne-eqb}
 use Rattle.rulebook.specs.Words.{word}
-use Rattle.rulebook.specs.Table.{ports, networks, sources, portKind, kindTimer, portOwner, deferred, networkOwner, networkPort, sourceOwner, sourcePort, timeout, platform, stranger}
+use Rattle.rulebook.specs.Table.{ports, networks, sources, portKind, portTimer, portOwner, deferred, networkOwner, networkPort, sourceOwner, sourcePort, timeout, platform, stranger}
 use Rattle.rulebook.specs.State.{networkIndex, sourceIndex, markedOf, valueOf, remainingOf, timerStarted, timerExpired, Network, networkOf, statusOf, statusNone, statusPending, statusValidated, statusExpired, Thing, aPort, aNetwork, aSource, ownerOf}
 use Rattle.rulebook.specs.Reasons.{mayShow}
 use Rattle.rulebook.specs.Lists.{Run, start, setPort, setNetwork}
-use Rattle.rulebook.specs.Events.{eventKind, eventOwner, eventIndex, eventValue, tickKind, modeKind, requestKind, wakeupKind, validKind, busOffKind, clearKind, only, request, setSource, moveSource, wake, validate, clear, shown, moveNetwork, takes, offBus, busOff, tickedNetwork, tickNetwork, tickSource, tickTimer, tickThings, markedIn, arbitrateMarked, tick, happen}
+use Rattle.rulebook.specs.Events.{eventKind, eventOwner, eventIndex, eventValue, eventTick, eventMode, eventRequest, eventWakeup, eventValid, eventBusOff, eventClear, only, request, setSource, moveSource, wake, validate, clear, shown, moveNetwork, takes, offBus, busOff, tickedNetwork, tickNetwork, tickSource, tickTimer, tickThings, markedIn, arbitrateMarked, tick, happen}
 use Rattle.rulebook.specs.Step.{wellFormed, named}
 use Rattle.laws.specs.Facts.{Facts, Shows}
 use Rattle.laws.proofs.Tests.{split, clash, part-of, and-left, implies-elim, or-some}
@@ -144,7 +144,7 @@ module _ (t : List ℕ) (f : Facts t) (o : ℕ) where
     unfolding tickTimer
     tick-timer =
         by-word p (port-word t o p b)
-        (λ u. choose (eqb (portKind t p) kindTimer && eqb (valueOf u) timerStarted)
+        (λ u. choose (eqb (portKind t p) portTimer && eqb (valueOf u) timerStarted)
         (choose (leb (remainingOf u) 1) (put-port p 1 timerExpired 0 (port-word t o p b)) (put-port p (markedOf u) timerStarted (remainingOf u - 1) (port-word t o p b))) stay)
 
     -- of the ports of o and of the platform, a stranger's is none
@@ -184,40 +184,40 @@ module _ (t : List ℕ) (f : Facts t) (o : ℕ) where
 -- An event that is not refused is its thing's owner's; a tick is the platform's.
 
 module _ (t : List ℕ) (e : ℕ) (w : Taken t e) where
-  pub tick-owner : eqb (eventKind e) tickKind ≡ true → eventOwner e ≡ platform
+  pub tick-owner : eqb (eventKind e) eventTick ≡ true → eventOwner e ≡ platform
   unfolding wellFormed
   tick-owner k =
       eqb-true _ _ (and-left _ (eqb (eventIndex e) 0)
-      (implies-elim (eqb (eventKind e) tickKind) _ (part-of _ (λ d. rw (wellFormed, d, and-false) at (w .wellFormed))) k))
+      (implies-elim (eqb (eventKind e) eventTick) _ (part-of _ (λ d. rw (wellFormed, d, and-false) at (w .wellFormed))) k))
 
-  thing-owner : (x : Thing) → eqb (eventKind e) tickKind ≡ false → named e ≡ x → eventOwner e ≡ ownerOf t x
+  thing-owner : (x : Thing) → eqb (eventKind e) eventTick ≡ false → named e ≡ x → eventOwner e ≡ ownerOf t x
   thing-owner x k d = rw (← d) (owner-is t e w (eqb-false _ _ k))
 
-  pub bus-off-owner : eventKind e ≡ busOffKind → eventOwner e ≡ networkOwner t (eventIndex e)
+  pub bus-off-owner : eventKind e ≡ eventBusOff → eventOwner e ≡ networkOwner t (eventIndex e)
   unfolding named ownerOf
   bus-off-owner k = thing-owner (aNetwork (eventIndex e)) (rw k) (rw k)
 
   -- of a source's event that ends its waiting
-  pub ending-owner : (eqb (eventKind e) validKind || eqb (eventKind e) clearKind) ≡ true → eventOwner e ≡ sourceOwner t (eventIndex e)
+  pub ending-owner : (eqb (eventKind e) eventValid || eqb (eventKind e) eventClear) ≡ true → eventOwner e ≡ sourceOwner t (eventIndex e)
   unfolding named ownerOf
   ending-owner h =
-      ⊎-elim (λ d. let k : eventKind e ≡ validKind = eqb-true _ _ d in thing-owner (aSource (eventIndex e)) (rw k) (rw k))
-      (λ d. let k : eventKind e ≡ clearKind = eqb-true _ _ d in thing-owner (aSource (eventIndex e)) (rw k) (rw k)) (or-some (eqb (eventKind e) validKind) (eqb (eventKind e) clearKind) h)
+      ⊎-elim (λ d. let k : eventKind e ≡ eventValid = eqb-true _ _ d in thing-owner (aSource (eventIndex e)) (rw k) (rw k))
+      (λ d. let k : eventKind e ≡ eventClear = eqb-true _ _ d in thing-owner (aSource (eventIndex e)) (rw k) (rw k)) (or-some (eqb (eventKind e) eventValid) (eqb (eventKind e) eventClear) h)
 
 pub happen-confined : (t : List ℕ) (f : Facts t) (o e : ℕ) → Taken t e → ConfinedRun t o (eventOwner e) (λ s. happen t e s)
 unfolding happen named ownerOf
 happen-confined t f o e w =
-    split (eqb (eventKind e) tickKind) (λ d. rw (d, tick-owner t e w d) (tick-confined t f o))
-    (λ k. split (eqb (eventKind e) modeKind)
+    split (eqb (eventKind e) eventTick) (λ d. rw (d, tick-owner t e w d) (tick-confined t f o))
+    (λ k. split (eqb (eventKind e) eventMode)
     (λ d. rw (k, d, thing-owner t e w (aPort (eventIndex e)) k (rw d)) (request-confined t f o (eventIndex e) (mode-index t e w (eqb-true _ _ d)) (eventValue e)))
-    (λ d₁. split (eqb (eventKind e) requestKind)
+    (λ d₁. split (eqb (eventKind e) eventRequest)
     (λ d. rw (k, d₁, d, thing-owner t e w (aPort (eventIndex e)) k (rw (d₁, d))) (request-confined t f o (eventIndex e) (request-index t e w (eqb-true _ _ d)) 1))
-    (λ d₂. split (eqb (eventKind e) busOffKind)
+    (λ d₂. split (eqb (eventKind e) eventBusOff)
     (λ d. let own : eventOwner e ≡ networkOwner t (eventIndex e) = thing-owner t e w (aNetwork (eventIndex e)) k (rw (d₁, d₂, d)) in
-    let is : eventKind e ≡ busOffKind = eqb-true _ _ d in
+    let is : eventKind e ≡ eventBusOff = eqb-true _ _ d in
     rw (own, is) (quiet (bus-off t f o (eventIndex e) (bus-off-index t e w is))))
     (λ d₃. let own : eventOwner e ≡ sourceOwner t (eventIndex e) = thing-owner t e w (aSource (eventIndex e)) k (rw (d₁, d₂, d₃)) in
     let there = source-index t e w (eqb-false _ _ k) (eqb-false _ _ d₁) (eqb-false _ _ d₂) (eqb-false _ _ d₃) in
-    split (eqb (eventKind e) wakeupKind) (λ d. rw (k, d₁, d₂, d, own) (quiet (wake-confined t f o (eventIndex e) there)))
-    (λ d₄. split (eqb (eventKind e) validKind) (λ d. rw (k, d₁, d₂, d₄, d, own) (quiet (validate-confined t f o (eventIndex e) there)))
+    split (eqb (eventKind e) eventWakeup) (λ d. rw (k, d₁, d₂, d, own) (quiet (wake-confined t f o (eventIndex e) there)))
+    (λ d₄. split (eqb (eventKind e) eventValid) (λ d. rw (k, d₁, d₂, d₄, d, own) (quiet (validate-confined t f o (eventIndex e) there)))
     (λ d₅. rw (k, d₁, d₂, d₄, d₅, d₃, own) (quiet (clear-confined t f o (eventIndex e) there))))))))

@@ -10,7 +10,7 @@ use lib.Seq.{getD-set-other}
 use lib.Dec.{leb, ltb, eqb}
 use borrow.Author.Tests.{ltb-true, eqb-true, eq-eqb, ltb-false}
 use Rattle.rulebook.specs.Words.{word, any, each}
-use Rattle.rulebook.specs.Table.{ports, networks, sources, rules, portKind, kindMode, kindTimer, networkPort, sourcePort}
+use Rattle.rulebook.specs.Table.{ports, networks, sources, rules, portKind, portMode, portTimer, networkPort, sourcePort}
 use Rattle.rulebook.specs.Reasons.{networkHas, sourceHas, held}
 use Rattle.rulebook.specs.State.{networkIndex, sourceIndex, valueOf, timerStarted, Network}
 use Rattle.rulebook.specs.Lists.{setPort, networkIn, setNetwork}
@@ -121,9 +121,9 @@ module _ (t : List ℕ) (f : Facts t) (i p : ℕ) (h : Holder t i p) (s₀ : Lis
   pub other-timer : (q : ℕ) (s : List ℕ) → q < ports t → Cells i p s₀ s → Cells i p s₀ (tickTimer t q s)
   unfolding tickTimer
   other-timer q s b k =
-      split (eqb (portKind t q) kindTimer && eqb (valueOf (word s q)) timerStarted)
-      (λ e. let kind : portKind t q ≡ kindTimer = eqb-true _ _ (and-left _ (eqb (valueOf (word s q)) timerStarted) e) in
-      let apart : (q ≡ p → ⊥) = λ z. let mode : portKind t p ≡ kindMode = h .may .mode in let same : portKind t q ≡ portKind t p = ap (λ (x : ℕ). portKind t x) z in omega arith in
+      split (eqb (portKind t q) portTimer && eqb (valueOf (word s q)) timerStarted)
+      (λ e. let kind : portKind t q ≡ portTimer = eqb-true _ _ (and-left _ (eqb (valueOf (word s q)) timerStarted) e) in
+      let apart : (q ≡ p → ⊥) = λ z. let mode : portKind t p ≡ portMode = h .may .mode in let same : portKind t q ≡ portKind t p = ap (λ (x : ℕ). portKind t x) z in omega arith in
       split (leb (remainingIn s q) 1) (λ d. rw (e, d) (port-keeps q 1 _ 0 s b apart k)) (λ d. rw (e, d) (port-keeps q _ _ _ s b apart k)))
       (λ e. rw e k)
 

@@ -7,10 +7,10 @@ use Prim.Native.Nat.{ℕ, zero, suc, _<_}
 use lib.ListN.{set}
 use lib.Dec.{eqb}
 use Rattle.rulebook.specs.Words.{between}
-use Rattle.rulebook.specs.Table.{rules, lists, kindEvent, kindTimer, ruleOwner, noList, listOwner, firstItem, itemCount, itemKind, itemA, kindClear, kindStart, kindStop, kindAsk, kindRule, stranger}
+use Rattle.rulebook.specs.Table.{rules, lists, portEvent, portTimer, ruleOwner, noList, listOwner, firstItem, itemCount, itemKind, itemA, itemClear, itemStart, itemStop, itemAsk, itemRule, stranger}
 use Rattle.rulebook.specs.State.{ruleIndex, networkIndex, undefinedResult}
 use Rattle.rulebook.specs.Reasons.{portOfKind, itemOwned}
-use Rattle.rulebook.specs.Lists.{Run, emit, traceWord, kindListStart, setPort, setNetwork, effect, act, unready, choiceIn, setResult, judge, runChoice, runRule, runItem, runItems, runList}
+use Rattle.rulebook.specs.Lists.{Run, emit, traceWord, traceListStart, setPort, setNetwork, effect, act, unready, choiceIn, setResult, judge, runChoice, runRule, runItem, runItems, runList}
 use Rattle.laws.specs.Facts.{Facts}
 use Rattle.laws.proofs.Tests.{split}
 use Rattle.laws.proofs.Walks.{each-keeps, each-alike}
@@ -31,7 +31,7 @@ module _ (t : List ℕ) (f : Facts t) (o : ℕ) where
 
   -- A stranger's list, on one side.
 
-  port-hidden : (l i kind v : ℕ) (s : List ℕ) → Within t l i → stranger o (listOwner t l) ≡ true → between kindClear kindStop (itemKind t i) ≡ true
+  port-hidden : (l i kind v : ℕ) (s : List ℕ) → Within t l i → stranger o (listOwner t l) ≡ true → between itemClear itemStop (itemKind t i) ≡ true
       → portOfKind t kind (itemA t i) ≡ true → SameView t o s (set s (itemA t i) v)
   port-hidden l i kind v s w h k there =
       write-hidden t o s (itemA t i) v
@@ -42,9 +42,9 @@ module _ (t : List ℕ) (f : Facts t) (o : ℕ) where
   effect-hidden l i s w h =
       let there = f .item i (item-there t f l i w) .1 in
       effect-cases (SameView t o s) t i s
-      (λ k. port-hidden l i kindEvent _ s w h (rw k) (clear-there t i there k))
-      (λ k. port-hidden l i kindTimer _ s w h (rw k) (start-there t i there k))
-      (λ k. port-hidden l i kindTimer _ s w h (rw k) (stop-there t i there k))
+      (λ k. port-hidden l i portEvent _ s w h (rw k) (clear-there t i there k))
+      (λ k. port-hidden l i portTimer _ s w h (rw k) (start-there t i there k))
+      (λ k. port-hidden l i portTimer _ s w h (rw k) (stop-there t i there k))
       (λ k. write-hidden t o s (networkIndex t (itemA t i)) _
       (network-word t o (itemA t i) (ask-there t i there k) ∙ rw (network-owned t (listOwner t l) i (owned l i w) (no-platform o _ h) k) h))
       (λ k. same-view-refl t o s)
@@ -66,7 +66,7 @@ module _ (t : List ℕ) (f : Facts t) (o : ℕ) where
   judge-hidden : (l r : ℕ) (x : Run) → r < rules t → stranger o (listOwner t l) ≡ true → stranger o (ruleOwner t r) ≡ true → Alike t o x (judge t (listOwner t l) r x)
   unfolding judge setResult
   judge-hidden l r x b h k =
-      record { view = write-hidden t o (x .state) (ruleIndex t r) _ (rule-word t o r b ∙ k); own = word-hidden l kindRule r _ x h .own }
+      record { view = write-hidden t o (x .state) (ruleIndex t r) _ (rule-word t o r b ∙ k); own = word-hidden l itemRule r _ x h .own }
 
   item-unseen : (below : ℕ → Run → Run) → Unseen below → (l i : ℕ) (x : Run) → Within t l i → stranger o (listOwner t l) ≡ true → Alike t o x (runItem below t (listOwner t l) i x)
   unfolding act
@@ -78,7 +78,7 @@ module _ (t : List ℕ) (f : Facts t) (o : ℕ) where
       (λ e g k. let own : stranger o (ruleOwner t (itemA t i)) ≡ true = rw (rule-owned t (listOwner t l) i (owned l i w) e) h in
       rw (item-rule below t (listOwner t l) i x g k)
       (split (unready t (x .state) (itemA t i))
-      (λ n. rw (rule-unready below t (listOwner t l) (itemA t i) x n) (word-hidden l kindRule (itemA t i) undefinedResult x h))
+      (λ n. rw (rule-unready below t (listOwner t l) (itemA t i) x n) (word-hidden l itemRule (itemA t i) undefinedResult x h))
       (λ n. rw (rule-ready below t (listOwner t l) (itemA t i) x n)
       (alike-trans t o (judge-hidden l (itemA t i) x (rule-there t i there e) h own)
       (choice-unseen below u (x .state) (itemA t i) _ (rule-there t i there e) own)))))
@@ -91,17 +91,17 @@ module _ (t : List ℕ) (f : Facts t) (o : ℕ) where
   list-unseen (suc d) l x b h =
       each-keeps (λ y. Alike t o x y) (runItem (runList d t) t (listOwner t l)) (firstItem t l) (itemCount t l) _
       (λ i y c e a. alike-trans t o a (item-unseen (runList d t) (list-unseen d) l i y (record { list = b; from = c; below = e }) h))
-      (word-hidden l kindListStart l 0 x h)
+      (word-hidden l traceListStart l 0 x h)
 
   -- A list of o or of the platform, on both sides. A platform's list may write a stranger's port or network: unseen on both.
 
   effect-alike : (i : ℕ) {s₁ s₂ : List ℕ} → SameView t o s₁ s₂ → SameView t o (effect t i s₁) (effect t i s₂)
   unfolding effect setPort setNetwork
   effect-alike i v =
-      pick-both (SameView t o) (eqb (itemKind t i) kindClear) (λ e. write-alike t o (itemA t i) _ _ (λ h. rw (v .same (itemA t i) h)) v)
-      (λ e. pick-both (SameView t o) (eqb (itemKind t i) kindStart) (λ e. write-alike t o (itemA t i) _ _ (λ h. refl) v)
-      (λ e. pick-both (SameView t o) (eqb (itemKind t i) kindStop) (λ e. write-alike t o (itemA t i) _ _ (λ h. refl) v)
-      (λ e. pick-both (SameView t o) (eqb (itemKind t i) kindAsk) (λ e. write-alike t o (networkIndex t (itemA t i)) _ _ (λ h. rw (v .same (networkIndex t (itemA t i)) h)) v)
+      pick-both (SameView t o) (eqb (itemKind t i) itemClear) (λ e. write-alike t o (itemA t i) _ _ (λ h. rw (v .same (itemA t i) h)) v)
+      (λ e. pick-both (SameView t o) (eqb (itemKind t i) itemStart) (λ e. write-alike t o (itemA t i) _ _ (λ h. refl) v)
+      (λ e. pick-both (SameView t o) (eqb (itemKind t i) itemStop) (λ e. write-alike t o (itemA t i) _ _ (λ h. refl) v)
+      (λ e. pick-both (SameView t o) (eqb (itemKind t i) itemAsk) (λ e. write-alike t o (networkIndex t (itemA t i)) _ _ (λ h. rw (v .same (networkIndex t (itemA t i)) h)) v)
       (λ e. v))))
 
   judge-alike : (l r : ℕ) {x y : Run} → r < rules t → stranger o (ruleOwner t r) ≡ false → Alike t o x y → Alike t o (judge t (listOwner t l) r x) (judge t (listOwner t l) r y)

@@ -12,11 +12,11 @@ use lib.Seq.{getD-set-same, getD-set-other, lt-length-set}
 use lib.Dec.{leb, eqb}
 use borrow.Author.Tests.{eqb-true, eqb-false, eq-eqb, ne-eqb}
 use Rattle.rulebook.specs.Words.{word, each}
-use Rattle.rulebook.specs.Table.{ports, networks, sources, portKind, kindMode, kindEvent, kindTimer, networkPort, sourcePort, timeout}
+use Rattle.rulebook.specs.Table.{ports, networks, sources, portKind, portMode, portEvent, portTimer, networkPort, sourcePort, timeout}
 use Rattle.rulebook.specs.State.{networkIndex, sourceIndex, definedOf, valueOf, remainingOf, Network, networkOf, statusOf, statusNone, statusPending, statusValidated, statusExpired, packPort, packNetwork, packSource}
 use Rattle.rulebook.specs.Lists.{setPort, networkIn, asking, setNetwork}
 use Rattle.rulebook.specs.Arbitration.{arbitrate}
-use Rattle.rulebook.specs.Events.{eventKind, eventIndex, eventValue, tickKind, modeKind, requestKind, wakeupKind, validKind, busOffKind, clearKind, only, request, statusIn, setSource, moveSource, wake, validate, clear, shown, moveNetwork, takes, offBus, busOff, tickedNetwork, tickNetwork, remainingIn, tickSource, tickThings, arbitrateMarked, tick, happen}
+use Rattle.rulebook.specs.Events.{eventKind, eventIndex, eventValue, eventTick, eventMode, eventRequest, eventWakeup, eventValid, eventBusOff, eventClear, only, request, statusIn, setSource, moveSource, wake, validate, clear, shown, moveNetwork, takes, offBus, busOff, tickedNetwork, tickNetwork, remainingIn, tickSource, tickThings, arbitrateMarked, tick, happen}
 use Rattle.laws.specs.Facts.{Facts}
 use Rattle.laws.proofs.Tests.{split}
 use Rattle.laws.proofs.Walks.{each-keeps, each-at}
@@ -87,7 +87,7 @@ module _ (t : List ℕ) (f : Facts t) {X : Type 0} (i p : ℕ) (core : ℕ → X
   pub by-source : (m status r : ℕ) (s : List ℕ) → m < sources t → (sourceIndex t m ≡ i → ⊥) → Moves i p core show (now s) s (moveSource t m status r s)
   by-source m status r s b d = stays s _ (other-source t f i p (h .holder) s m status r s b d (cells-refl i p s))
 
-  by-port : (q v : ℕ) (s : List ℕ) → q < ports t → (q ≡ p → ⊥) → (portKind t q ≡ kindTimer → ⊥) → v < 256 → (portKind t q ≡ kindEvent → v ≤ 1) → Fits t s → Moves i p core show (now s) s (request t q v s .state)
+  by-port : (q v : ℕ) (s : List ℕ) → q < ports t → (q ≡ p → ⊥) → (portKind t q ≡ portTimer → ⊥) → v < 256 → (portKind t q ≡ portEvent → v ≤ 1) → Fits t s → Moves i p core show (now s) s (request t q v s .state)
   unfolding setPort
   by-port q v s c apart nt v₈ ev fit =
       let above : ports t ≤ i = h .holder .above in
@@ -95,14 +95,14 @@ module _ (t : List ℕ) (f : Facts t) {X : Type 0} (i p : ℕ) (core : ℕ → X
       request-cases t f (λ x. Moves i p core show (now s) s (x .state)) q v s c nt v₈ ev fit
       (λ fit₁. stays s _ (cells _)) (λ fit₁. then-still _ (only q) s _ fit₁ (stays s _ (cells _)))
 
-  pub by-mode-request : (e : ℕ) (s : List ℕ) → Taken t e → eventKind e ≡ modeKind → Fits t s → Moves i p core show (now s) s (request t (eventIndex e) (eventValue e) s .state)
+  pub by-mode-request : (e : ℕ) (s : List ℕ) → Taken t e → eventKind e ≡ eventMode → Fits t s → Moves i p core show (now s) s (request t (eventIndex e) (eventValue e) s .state)
   by-mode-request e s w k fit =
       let m = mode-kind t e w k in
       by-port (eventIndex e) (eventValue e) s (mode-index t e w k) (h .holder .requests (eventIndex e) (mode-unheld t e w k)) (λ z. omega arith) (digit-small _ 256 _ (omega arith)) (λ z. absurd (omega arith)) fit
 
-  pub by-event-request : (e : ℕ) (s : List ℕ) → Taken t e → eventKind e ≡ requestKind → Fits t s → Moves i p core show (now s) s (request t (eventIndex e) 1 s .state)
+  pub by-event-request : (e : ℕ) (s : List ℕ) → Taken t e → eventKind e ≡ eventRequest → Fits t s → Moves i p core show (now s) s (request t (eventIndex e) 1 s .state)
   by-event-request e s w k fit =
-      let m = request-kind t e w k in let mode : portKind t p ≡ kindMode = h .holder .may .mode in
+      let m = request-kind t e w k in let mode : portKind t p ≡ portMode = h .holder .may .mode in
       by-port (eventIndex e) 1 s (request-index t e w k) (λ z. let same : portKind t (eventIndex e) ≡ portKind t p = ap (λ (u : ℕ). portKind t u) z in omega arith) (λ z. omega arith) (omega arith) (λ z. omega arith) fit
 
   pub by-nothing : (s : List ℕ) → Moves i p core show (now s) s s
@@ -177,11 +177,11 @@ module _ (t : List ℕ) (f : Facts t) (n : ℕ) (b : n < networks t) where
   -- what the event makes of n
   unfoldable pub nextNetwork : ℕ → List ℕ → Network
   nextNetwork e s =
-      cond (eqb (eventKind e) tickKind) (tickedNetwork t n (networkIn t n s))
-      (cond (eqb (eventKind e) busOffKind && eqb (eventIndex e) n && takes (networkIn t n s)) (offBus t n (min 255 (networkIn t n s .counter + 1)) (networkIn t n s))
+      cond (eqb (eventKind e) eventTick) (tickedNetwork t n (networkIn t n s))
+      (cond (eqb (eventKind e) eventBusOff && eqb (eventIndex e) n && takes (networkIn t n s)) (offBus t n (min 255 (networkIn t n s .counter + 1)) (networkIn t n s))
       (networkIn t n s))
 
-  quiet : (e : ℕ) (s s′ : List ℕ) → (eventKind e ≡ tickKind → ⊥) → (eventKind e ≡ busOffKind → ⊥) → NetworkMoves (networkIn t n s) s s′ → NetworkMoves (nextNetwork e s) s s′
+  quiet : (e : ℕ) (s s′ : List ℕ) → (eventKind e ≡ eventTick → ⊥) → (eventKind e ≡ eventBusOff → ⊥) → NetworkMoves (networkIn t n s) s s′ → NetworkMoves (nextNetwork e s) s s′
   unfolding nextNetwork
   quiet e s s′ a c m = rw (ne-eqb _ _ a, ne-eqb _ _ c) m
 
@@ -199,7 +199,7 @@ module _ (t : List ℕ) (f : Facts t) (n : ℕ) (b : n < networks t) where
   unfolding validate
   network-by-valid k s c = split (eqb (statusIn t k s) statusPending) (λ e. rw e (network-by-source k _ _ s c)) (λ e. rw e (network-by-nothing s))
 
-  network-by-bus-off : (e : ℕ) (s : List ℕ) → eventKind e ≡ busOffKind → eventIndex e < networks t → Fits t s → NetworkMoves (nextNetwork e s) s (busOff t (eventIndex e) s)
+  network-by-bus-off : (e : ℕ) (s : List ℕ) → eventKind e ≡ eventBusOff → eventIndex e < networks t → Fits t s → NetworkMoves (nextNetwork e s) s (busOff t (eventIndex e) s)
   unfolding nextNetwork busOff
   network-by-bus-off e s k c fit =
       split (eqb (eventIndex e) n)
@@ -291,10 +291,10 @@ module _ (t : List ℕ) (f : Facts t) (k : ℕ) (b : k < sources t) where
 
   unfoldable pub nextSource : ℕ → List ℕ → ℕ
   nextSource e s =
-      cond (eqb (eventKind e) tickKind) (tickedSource (word s (sourceIndex t k)))
-      (cond (eqb (eventKind e) wakeupKind && eqb (eventIndex e) k) (wokenSource (word s (sourceIndex t k)))
-      (cond (eqb (eventKind e) validKind && eqb (eventIndex e) k) (validSource (word s (sourceIndex t k)))
-      (cond (eqb (eventKind e) clearKind && eqb (eventIndex e) k) (packSource statusNone 0)
+      cond (eqb (eventKind e) eventTick) (tickedSource (word s (sourceIndex t k)))
+      (cond (eqb (eventKind e) eventWakeup && eqb (eventIndex e) k) (wokenSource (word s (sourceIndex t k)))
+      (cond (eqb (eventKind e) eventValid && eqb (eventIndex e) k) (validSource (word s (sourceIndex t k)))
+      (cond (eqb (eventKind e) eventClear && eqb (eventIndex e) k) (packSource statusNone 0)
       (word s (sourceIndex t k)))))
 
   -- another source's event

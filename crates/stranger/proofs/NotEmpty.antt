@@ -10,7 +10,7 @@ use Rattle.rulebook.specs.Words.{field, digit}
 use Rattle.rulebook.specs.Table.{sources, sourceOwner, timeout}
 use Rattle.rulebook.specs.Reasons.{accepted, bound}
 use Rattle.rulebook.specs.State.{ownerOf, fresh}
-use Rattle.rulebook.specs.Events.{eventKind, eventOwner, eventIndex, eventValue, wakeupKind}
+use Rattle.rulebook.specs.Events.{eventKind, eventOwner, eventIndex, eventValue, eventWakeup}
 use Rattle.rulebook.specs.Step.{refusedState, refusedCall, wellFormed, named, present, suited, known, sentByOwner, refusedEvent, finish, handle, step}
 use Rattle.laws.proofs.Facts.{facts}
 use Rattle.laws.proofs.Fields.{digit-small}
@@ -19,7 +19,7 @@ use Rattle.stranger.specs.Demand.{becomesPending, wakeupWord}
 use Rattle.stranger.proofs.Shows.{fresh-source}
 
 module _ (o k : ℕ) where
-  kind-is : eventKind (wakeupWord o k) ≡ wakeupKind
+  kind-is : eventKind (wakeupWord o k) ≡ eventWakeup
   unfolding digit wakeupWord
   kind-is = omega arith
 

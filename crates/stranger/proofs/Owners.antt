@@ -6,7 +6,7 @@ use Prim.Native.Nat.{ℕ}
 use lib.Dec.{eqb}
 use borrow.Author.Tests.{eqb-true, eq-eqb, not-true}
 use Rattle.rulebook.specs.Words.{implies, between}
-use Rattle.rulebook.specs.Table.{portOwner, networkOwner, ruleOwner, listOwner, trueList, falseList, noList, itemKind, itemA, kindClear, kindStop, kindAsk, kindList, kindRule, platform, stranger}
+use Rattle.rulebook.specs.Table.{portOwner, networkOwner, ruleOwner, listOwner, trueList, falseList, noList, itemKind, itemA, itemClear, itemStop, itemAsk, itemList, itemRule, platform, stranger}
 use Rattle.rulebook.specs.Reasons.{ruleOwned, itemOwned}
 use Rattle.rulebook.specs.Lists.{choiceIn}
 use Rattle.laws.proofs.Tests.{clash, part-of, and-right, implies-elim, or-elim}
@@ -27,25 +27,25 @@ unfolding stranger
 no-platform o w h = not-true _ (and-right (not (eqb w o)) _ h)
 
 module _ (t : List ℕ) (w i : ℕ) (h : itemOwned t w i ≡ true) where
-  pub list-owned : itemKind t i ≡ kindList → listOwner t (itemA t i) ≡ w
+  pub list-owned : itemKind t i ≡ itemList → listOwner t (itemA t i) ≡ w
   unfolding itemOwned
-  list-owned k = eqb-true _ _ (implies-elim (eqb (itemKind t i) kindList) _ (part-of _ (λ e. rw (itemOwned, e) at h)) (eq-eqb _ _ k))
+  list-owned k = eqb-true _ _ (implies-elim (eqb (itemKind t i) itemList) _ (part-of _ (λ e. rw (itemOwned, e) at h)) (eq-eqb _ _ k))
 
-  pub rule-owned : itemKind t i ≡ kindRule → ruleOwner t (itemA t i) ≡ w
+  pub rule-owned : itemKind t i ≡ itemRule → ruleOwner t (itemA t i) ≡ w
   unfolding itemOwned
-  rule-owned k = eqb-true _ _ (implies-elim (eqb (itemKind t i) kindRule) _ (part-of _ (λ e. rw (itemOwned, e, and-false) at h)) (eq-eqb _ _ k))
+  rule-owned k = eqb-true _ _ (implies-elim (eqb (itemKind t i) itemRule) _ (part-of _ (λ e. rw (itemOwned, e, and-false) at h)) (eq-eqb _ _ k))
 
-  pub port-owned : eqb w platform ≡ false → between kindClear kindStop (itemKind t i) ≡ true → portOwner t (itemA t i) ≡ w
+  pub port-owned : eqb w platform ≡ false → between itemClear itemStop (itemKind t i) ≡ true → portOwner t (itemA t i) ≡ w
   unfolding itemOwned
   port-owned n k =
-      eqb-true _ _ (implies-elim (between kindClear kindStop (itemKind t i)) _
-      (or-elim (eqb w platform) (implies (between kindClear kindStop (itemKind t i)) (eqb (portOwner t (itemA t i)) w)) (part-of _ (λ e. rw (itemOwned, e, and-false) at h)) n) k)
+      eqb-true _ _ (implies-elim (between itemClear itemStop (itemKind t i)) _
+      (or-elim (eqb w platform) (implies (between itemClear itemStop (itemKind t i)) (eqb (portOwner t (itemA t i)) w)) (part-of _ (λ e. rw (itemOwned, e, and-false) at h)) n) k)
 
-  pub network-owned : eqb w platform ≡ false → itemKind t i ≡ kindAsk → networkOwner t (itemA t i) ≡ w
+  pub network-owned : eqb w platform ≡ false → itemKind t i ≡ itemAsk → networkOwner t (itemA t i) ≡ w
   unfolding itemOwned
   network-owned n k =
-      eqb-true _ _ (implies-elim (eqb (itemKind t i) kindAsk) _
-      (or-elim (eqb w platform) (implies (eqb (itemKind t i) kindAsk) (eqb (networkOwner t (itemA t i)) w)) (part-of _ (λ e. rw (itemOwned, e, and-false) at h)) n) (eq-eqb _ _ k))
+      eqb-true _ _ (implies-elim (eqb (itemKind t i) itemAsk) _
+      (or-elim (eqb w platform) (implies (eqb (itemKind t i) itemAsk) (eqb (networkOwner t (itemA t i)) w)) (part-of _ (λ e. rw (itemOwned, e, and-false) at h)) n) (eq-eqb _ _ k))
 
 -- the list that a rule starts has the rule's owner
 pub choice-owned : (t s : List ℕ) (r : ℕ) → ruleOwned t r ≡ true → eqb (choiceIn t s r) noList ≡ false → listOwner t (choiceIn t s r) ≡ ruleOwner t r

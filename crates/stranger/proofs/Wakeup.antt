@@ -12,7 +12,7 @@ use Rattle.rulebook.specs.Words.{word}
 use Rattle.rulebook.specs.Table.{sources, sourceOwner, timeout}
 use Rattle.rulebook.specs.Reasons.{accepted}
 use Rattle.rulebook.specs.State.{sourceIndex, remainingOf, statusOf, statusNone, statusPending, statusExpired, packSource, ownerOf, fresh}
-use Rattle.rulebook.specs.Events.{eventKind, eventOwner, eventIndex, tickKind, modeKind, requestKind, wakeupKind, validKind, busOffKind, clearKind, statusIn, happen}
+use Rattle.rulebook.specs.Events.{eventKind, eventOwner, eventIndex, eventTick, eventMode, eventRequest, eventWakeup, eventValid, eventBusOff, eventClear, statusIn, happen}
 use Rattle.rulebook.specs.Step.{Result}
 use Rattle.laws.specs.Facts.{Facts}
 use Rattle.laws.proofs.Tests.{split, clash, part-of, and-left, and-right}
@@ -56,21 +56,21 @@ module _ (t : List ℕ) (h : accepted t ≡ true) (k : ℕ) (b : k < sources t) 
   ticked-out j w e p = let r = p .remaining in rw (eq-eqb (statusOf w) statusPending (p .status), le-leb (remainingOf w) 1 (omega arith))
 
   -- what the event makes of a pending source that it does not end
-  next-tick : (e : ℕ) (s : List ℕ) → eventKind e ≡ tickKind → nextSource t f k b e s ≡ tickedSource t f k b (word s (sourceIndex t k))
+  next-tick : (e : ℕ) (s : List ℕ) → eventKind e ≡ eventTick → nextSource t f k b e s ≡ tickedSource t f k b (word s (sourceIndex t k))
   unfolding nextSource
   next-tick e s z = rw z
 
   ends : ℕ → Bool
-  ends e = (eqb (eventKind e) validKind || eqb (eventKind e) clearKind) && eqb (eventIndex e) k
+  ends e = (eqb (eventKind e) eventValid || eqb (eventKind e) eventClear) && eqb (eventIndex e) k
 
-  next-same : (e : ℕ) (s : List ℕ) (j : ℕ) → eqb (eventKind e) tickKind ≡ false → ends e ≡ false → PendingAt T j (word s (sourceIndex t k)) → nextSource t f k b e s ≡ word s (sourceIndex t k)
+  next-same : (e : ℕ) (s : List ℕ) (j : ℕ) → eqb (eventKind e) eventTick ≡ false → ends e ≡ false → PendingAt T j (word s (sourceIndex t k)) → nextSource t f k b e s ≡ word s (sourceIndex t k)
   unfolding nextSource wokenSource ends
   next-same e s j nt ne p =
       split (eqb (eventIndex e) k)
-      (λ i. let neither : (eqb (eventKind e) validKind || eqb (eventKind e) clearKind) ≡ false = rw-and (eqb (eventKind e) validKind || eqb (eventKind e) clearKind) (rw i at ne) in
-      split (eqb (eventKind e) validKind) (λ v. clash (rw v) neither)
-      (λ v. let c : eqb (eventKind e) clearKind ≡ false = rw v at neither in
-      split (eqb (eventKind e) wakeupKind) (λ w. rw (nt, w, i, p .status)) (λ w. rw (nt, w, v, c))))
+      (λ i. let neither : (eqb (eventKind e) eventValid || eqb (eventKind e) eventClear) ≡ false = rw-and (eqb (eventKind e) eventValid || eqb (eventKind e) eventClear) (rw i at ne) in
+      split (eqb (eventKind e) eventValid) (λ v. clash (rw v) neither)
+      (λ v. let c : eqb (eventKind e) eventClear ≡ false = rw v at neither in
+      split (eqb (eventKind e) eventWakeup) (λ w. rw (nt, w, i, p .status)) (λ w. rw (nt, w, v, c))))
       (λ i. simp (nt, i, and-false))
     where
       rw-and : (x : Bool) → (x && true) ≡ false → x ≡ false
@@ -87,7 +87,7 @@ module _ (t : List ℕ) (h : accepted t ≡ true) (k : ℕ) (b : k < sources t) 
 
   not-ends : (s : List ℕ) (c : Call) → called t s c .answer ≡ 0 → ended t k s c ≡ false → ends (c .event) ≡ false
   unfolding ended ends
-  not-ends s c a n = three (eqb (eventKind (c .event)) validKind || eqb (eventKind (c .event)) clearKind) (eqb (eventIndex (c .event)) k) (rw a at n)
+  not-ends s c a n = three (eqb (eventKind (c .event)) eventValid || eqb (eventKind (c .event)) eventClear) (eqb (eventIndex (c .event)) k) (rw a at n)
     where
       three : (x y : Bool) → (true && x && y) ≡ false → (x && y) ≡ false
       three x y z = z
@@ -96,7 +96,7 @@ module _ (t : List ℕ) (h : accepted t ≡ true) (k : ℕ) (b : k < sources t) 
   unfolding ticks
   call-pending j s c fit n lt p = go (called t s c) (stepped t s (c .room) (c .event)) refl
     where
-      go : (r : Result) → Stepped t s (c .room) (c .event) r → r ≡ called t s c → PendingAt T (cond (eqb (called t s c .answer) 0 && eqb (eventKind (c .event)) tickKind) 1 0 + j) (Own (called t s c .state))
+      go : (r : Result) → Stepped t s (c .room) (c .event) r → r ≡ called t s c → PendingAt T (cond (eqb (called t s c .answer) 0 && eqb (eventKind (c .event)) eventTick) 1 0 + j) (Own (called t s c .state))
       go r (refused m x y e) is =
           let ans : called t s c .answer ≡ m = ap (λ (q : Result). q .answer) (sym is ∙ e) in
           let st : called t s c .state ≡ s = ap (λ (q : Result). q .state) (sym is ∙ e) in
@@ -104,7 +104,7 @@ module _ (t : List ℕ) (h : accepted t ≡ true) (k : ℕ) (b : k < sources t) 
       go r (done x w e) is =
           let ans : called t s c .answer ≡ 0 = ap (λ (q : Result). q .answer) (sym is ∙ e) in
           let st : called t s c .state ≡ happen t (c .event) s .state = ap (λ (q : Result). q .state) (sym is ∙ e) in
-          split (eqb (eventKind (c .event)) tickKind)
+          split (eqb (eventKind (c .event)) eventTick)
           (λ d. let one : 1 + j ≡ suc j = omega arith in
           let below : 1 + j < T = rw (ans, d) at lt in
           rw (ans, d, st, one, next-own (c .event) s w fit, next-tick (c .event) s (eqb-true _ _ d)) (ticked-on j (Own s) (omega arith) p))
@@ -124,7 +124,7 @@ module _ (t : List ℕ) (h : accepted t ≡ true) (k : ℕ) (b : k < sources t) 
 
 record StartsPending (t : List ℕ) (k : ℕ) (s : List ℕ) (c : Call) : Type 0 where
   answer : called t s c .answer ≡ 0
-  kind : eventKind (c .event) ≡ wakeupKind
+  kind : eventKind (c .event) ≡ eventWakeup
   index : eventIndex (c .event) ≡ k
   idle : (eqb (statusIn t k s) statusNone || eqb (statusIn t k s) statusExpired) ≡ true
   some : 1 ≤ timeout t k
@@ -189,8 +189,8 @@ module _ (t : List ℕ) (h : accepted t ≡ true) (k : ℕ) (before : List Call)
   pub source-at-tick : (d : Call) → ticks t s₂ d ≡ true → Waiting t k (suc (tickCount t s₁ cs)) (called t s₂ d .state)
   unfolding after ticks statusToShow
   source-at-tick d is =
-      let e = done-call t s₂ d (eqb-true _ _ (and-left _ (eqb (eventKind (d .event)) tickKind) is)) in
-      let z : eventKind (d .event) ≡ tickKind = eqb-true _ _ (and-right (answered t s₂ d) _ is) in
+      let e = done-call t s₂ d (eqb-true _ _ (and-left _ (eqb (eventKind (d .event)) eventTick) is)) in
+      let z : eventKind (d .event) ≡ eventTick = eqb-true _ _ (and-right (answered t s₂ d) _ is) in
       let fit₂ = after-fits t s₁ cs h (step-fits t s₀ (c .room) (c .event) h fit₀) in
       let v = rw (after-more t (fresh t) before (c ∷ (cs ++ (d ∷ []))), after-more t s₁ cs (d ∷ [])) at (source-shows t h k k-there (before ++ c ∷ (cs ++ (d ∷ []))) .value) in
       let own : word (called t s₂ d .state) (sourceIndex t k) ≡ tickedSource t (facts t h) k k-there (word s₂ (sourceIndex t k)) =
@@ -206,11 +206,11 @@ pub ended-by-owner : (t : List ℕ) (k : ℕ) (s : List ℕ) (c : Call) → ende
 unfolding ended ownerOf
 ended-by-owner t k s c x =
     let a : called t s c .answer ≡ 0 = eqb-true _ _ (part-of _ (λ e. rw e at x)) in
-    let z : (eqb (eventKind (c .event)) validKind || eqb (eventKind (c .event)) clearKind) ≡ true = part-of _ (λ e. rw (e, and-false) at x) in
+    let z : (eqb (eventKind (c .event)) eventValid || eqb (eventKind (c .event)) eventClear) ≡ true = part-of _ (λ e. rw (e, and-false) at x) in
     let i : eventIndex (c .event) ≡ k = eqb-true _ _ (part-of _ (λ e. rw (e, and-false) at x)) in
     let w = done-call t s c a .0 in
-    let not-kind : (q : ℕ) → eqb q validKind ≡ false → eqb q clearKind ≡ false → eventKind (c .event) ≡ q → ⊥ =
-    λ q u v e. let y : (eqb q validKind || eqb q clearKind) ≡ true = rw e at z in clash y (rw (u, v)) in
-    owner-is t (c .event) w (not-kind tickKind refl refl)
-    ∙ ap (ownerOf t) (named-source t (c .event) w (not-kind modeKind refl refl) (not-kind requestKind refl refl) (not-kind busOffKind refl refl))
+    let not-kind : (q : ℕ) → eqb q eventValid ≡ false → eqb q eventClear ≡ false → eventKind (c .event) ≡ q → ⊥ =
+    λ q u v e. let y : (eqb q eventValid || eqb q eventClear) ≡ true = rw e at z in clash y (rw (u, v)) in
+    owner-is t (c .event) w (not-kind eventTick refl refl)
+    ∙ ap (ownerOf t) (named-source t (c .event) w (not-kind eventMode refl refl) (not-kind eventRequest refl refl) (not-kind eventBusOff refl refl))
     ∙ ap (λ (x : ℕ). sourceOwner t x) i

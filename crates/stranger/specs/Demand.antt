@@ -5,10 +5,10 @@ use mathlib.Core.List.{List, [], _∷_}
 use Prim.Native.Nat.{ℕ, _+_, _-_, _≤_, _<_, min}
 use lib.Dec.{leb, eqb}
 use Rattle.rulebook.specs.Words.{word, field, laid}
-use Rattle.rulebook.specs.Table.{networkPort, eTicks, sourcePort, timeout, kindAsk}
+use Rattle.rulebook.specs.Table.{networkPort, eTicks, sourcePort, timeout, itemAsk}
 use Rattle.rulebook.specs.State.{sourceIndex, definedOf, valueOf, remainingOf, fresh, askedFull, stateCheck, stateFull, stateRecover, statusNone, statusPending, statusExpired}
 use Rattle.rulebook.specs.Lists.{networkIn}
-use Rattle.rulebook.specs.Events.{eventKind, eventIndex, tickKind, wakeupKind, validKind, busOffKind, clearKind, statusIn, shown, takes, wait}
+use Rattle.rulebook.specs.Events.{eventKind, eventIndex, eventTick, eventWakeup, eventValid, eventBusOff, eventClear, statusIn, shown, takes, wait}
 use Rattle.stranger.specs.Calls.{Call, called, after}
 
 abbrev pub answered : List ℕ → List ℕ → Call → Bool
@@ -16,7 +16,7 @@ answered t s c = eqb (called t s c .answer) 0
 
 -- a tick that is taken
 unfoldable pub ticks : List ℕ → List ℕ → Call → Bool
-ticks t s c = answered t s c && eqb (eventKind (c .event)) tickKind
+ticks t s c = answered t s c && eqb (eventKind (c .event)) eventTick
 
 -- how many ticks are taken in a run of calls
 unfoldable pub tickCount : List ℕ → List ℕ → List Call → ℕ
@@ -32,7 +32,7 @@ shows t n s = valueOf (word s (networkPort t n))
 -- a bus-off of n is taken: answered 0, and it makes n recover
 unfoldable pub busOffTaken : List ℕ → ℕ → List ℕ → Call → Bool
 busOffTaken t n s c =
-    answered t s c && eqb (eventKind (c .event)) busOffKind && eqb (eventIndex (c .event)) n && takes (networkIn t n s)
+    answered t s c && eqb (eventKind (c .event)) eventBusOff && eqb (eventIndex (c .event)) n && takes (networkIn t n s)
 
 -- the wait that a bus-off taken in state s loads
 abbrev pub loaded : List ℕ → ℕ → List ℕ → ℕ
@@ -40,7 +40,7 @@ loaded t n s = wait t n (min 255 (networkIn t n s .counter + 1))
 
 -- a trace word by which a list asks network n for another mode than full
 unfoldable pub asksOther : ℕ → ℕ → Bool
-asksOther n w = eqb (field 0 4 w) kindAsk && eqb (field 8 8 w) n && not (eqb (field 16 16 w) askedFull)
+asksOther n w = eqb (field 0 4 w) itemAsk && eqb (field 8 8 w) n && not (eqb (field 16 16 w) askedFull)
 
 unfoldable pub anyWord : (ℕ → Bool) → List ℕ → Bool
 anyWord p [] = false
@@ -70,20 +70,20 @@ showsStatus t k s = valueOf (word s (sourcePort t k))
 unfoldable pub becomesPending : List ℕ → ℕ → List ℕ → Call → Bool
 becomesPending t k s c =
     answered t s c
-    && eqb (eventKind (c .event)) wakeupKind
+    && eqb (eventKind (c .event)) eventWakeup
     && eqb (eventIndex (c .event)) k
     && (eqb (statusIn t k s) statusNone || eqb (statusIn t k s) statusExpired)
     && leb 1 (timeout t k)
 
 -- a wakeup of source k, sent under the number of operator o
 unfoldable pub wakeupWord : ℕ → ℕ → ℕ
-wakeupWord o k = laid 0 4 wakeupKind + laid 4 4 o + laid 8 8 k
+wakeupWord o k = laid 0 4 eventWakeup + laid 4 4 o + laid 8 8 k
 
 -- source k is validated or cleared in this call
 unfoldable pub ended : List ℕ → ℕ → List ℕ → Call → Bool
 ended t k s c =
     answered t s c
-    && (eqb (eventKind (c .event)) validKind || eqb (eventKind (c .event)) clearKind)
+    && (eqb (eventKind (c .event)) eventValid || eqb (eventKind (c .event)) eventClear)
     && eqb (eventIndex (c .event)) k
 
 unfoldable pub notEnded : List ℕ → ℕ → List ℕ → List Call → Bool

@@ -7,7 +7,7 @@ use mathlib.Core.List.{List, [], _∷_}
 use Prim.Native.Nat.{ℕ, zero, suc}
 use lib.ListN.{length}
 use Rattle.rulebook.specs.Words.{word, field}
-use Rattle.rulebook.specs.Table.{networkOwner, kindAsk, platform, stranger}
+use Rattle.rulebook.specs.Table.{networkOwner, itemAsk, platform, stranger}
 use Rattle.rulebook.specs.State.{stateLength, thing, ownerOf}
 use Rattle.rulebook.specs.Step.{Result}
 use Rattle.stranger.specs.Calls.{Call, called, strangersCall}
@@ -49,7 +49,7 @@ ownWords o (w ∷ ws) = elim (stranger o (traceOwner w)) [ true ↦ ownWords o w
 
 -- a word by which a network is asked for a mode has the network's owner or the platform's
 abbrev pub AsksOwn : List ℕ → ℕ → Type 0
-AsksOwn t w = traceKind w ≡ kindAsk → (traceOwner w ≡ networkOwner t (traceA w)) ⊎ (traceOwner w ≡ platform)
+AsksOwn t w = traceKind w ≡ itemAsk → (traceOwner w ≡ networkOwner t (traceA w)) ⊎ (traceOwner w ≡ platform)
 
 -- What a stranger's call from s is to o: no state word of o or of the platform changes, no trace word of theirs is written.
 pub record Unseen (t : List ℕ) (o : ℕ) (s : List ℕ) (r : Result) : Type 0 where

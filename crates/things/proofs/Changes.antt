@@ -5,14 +5,14 @@ use mathlib.Core.Bool.{false}
 use mathlib.Core.List.{List}
 use lib.Dec.{eqb}
 use Rattle.rulebook.specs.Lists.{start}
-use Rattle.rulebook.specs.Events.{eventKind, eventIndex, tickKind, modeKind, requestKind, wakeupKind, validKind, busOffKind, happen}
+use Rattle.rulebook.specs.Events.{eventKind, eventIndex, eventTick, eventMode, eventRequest, eventWakeup, eventValid, eventBusOff, happen}
 use Rattle.walks.proofs.Walks.{split}
 use Rattle.things.specs.Changes.{changed}
 
-pub change-goes : (t : List ℕ) (e : ℕ) (s : List ℕ) → eqb (eventKind e) tickKind ≡ false → eqb (eventKind e) modeKind ≡ false
-    → eqb (eventKind e) requestKind ≡ false → happen t e s ≡ start (changed t (eventKind e) (eventIndex e) s)
+pub change-goes : (t : List ℕ) (e : ℕ) (s : List ℕ) → eqb (eventKind e) eventTick ≡ false → eqb (eventKind e) eventMode ≡ false
+    → eqb (eventKind e) eventRequest ≡ false → happen t e s ≡ start (changed t (eventKind e) (eventIndex e) s)
 unfolding happen changed
 change-goes t e s a b c =
-    split (eqb (eventKind e) wakeupKind) (λ x. rw (a, b, c, x))
-    (λ x. split (eqb (eventKind e) validKind) (λ y. rw (a, b, c, x, y))
-    (λ y. split (eqb (eventKind e) busOffKind) (λ z. rw (a, b, c, x, y, z)) (λ z. rw (a, b, c, x, y, z))))
+    split (eqb (eventKind e) eventWakeup) (λ x. rw (a, b, c, x))
+    (λ x. split (eqb (eventKind e) eventValid) (λ y. rw (a, b, c, x, y))
+    (λ y. split (eqb (eventKind e) eventBusOff) (λ z. rw (a, b, c, x, y, z)) (λ z. rw (a, b, c, x, y, z))))

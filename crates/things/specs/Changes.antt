@@ -3,11 +3,11 @@ use Prim.Native.Nat.{ℕ}
 use mathlib.Core.Bool.{cond}
 use mathlib.Core.List.{List}
 use lib.Dec.{eqb}
-use Rattle.rulebook.specs.Events.{wakeupKind, validKind, busOffKind, wake, validate, busOff, clear}
+use Rattle.rulebook.specs.Events.{eventWakeup, eventValid, eventBusOff, wake, validate, busOff, clear}
 
 unfoldable pub changed : List ℕ → ℕ → ℕ → List ℕ → List ℕ
 changed t kind i s =
-    cond (eqb kind wakeupKind) (wake t i s)
-    (cond (eqb kind validKind) (validate t i s)
-    (cond (eqb kind busOffKind) (busOff t i s)
+    cond (eqb kind eventWakeup) (wake t i s)
+    (cond (eqb kind eventValid) (validate t i s)
+    (cond (eqb kind eventBusOff) (busOff t i s)
     (clear t i s)))

@@ -120,8 +120,8 @@ fn wait(t: &[u32], h: Layout, n: u32, counter: u32) -> u32
 {
     let threshold = table::network_threshold(sections::network_word(t, h, n));
     let waits = sections::waits_word(t, h, n);
-    let short = table::short_wait(waits);
-    let long = table::long_wait(waits);
+    let short = table::l1(waits);
+    let long = table::l2(waits);
     if counter <= threshold { short } else { long }
 }
 

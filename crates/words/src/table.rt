@@ -113,13 +113,13 @@ pub fn network_zero(w: u32) -> u32
     crate::field(w, 1, 4096)
 }
 
-pub fn short_wait(w: u32) -> u32
+pub fn l1(w: u32) -> u32
     ensures { λ r. ⌜ Field (fieldOf 0 8 w) 256 r ⌝ }
 {
     crate::field(w, 16777216, 256)
 }
 
-pub fn long_wait(w: u32) -> u32
+pub fn l2(w: u32) -> u32
     ensures { λ r. ⌜ Field (fieldOf 8 8 w) 256 r ⌝ }
 {
     crate::field(w, 65536, 256)

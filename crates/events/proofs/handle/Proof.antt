@@ -1,11 +1,11 @@
--- `events::handle` meets its promise: refused with the answer heard, or done as the run. Assumes nothing.
+-- `events::handle` meets its promise: refused with the answer of its check, or done as the run. Assumes nothing.
 use Rattle.events.proofs.Exits.{told-refused, told-done, not-taken, is-taken}
 use borrow.Author.Needs.{needs}
 use Rattle.events.proofs.handle.Statement.{statement}
 use Rattle.events.proofs.handle.Tie as tie
 
-hear-requires : tie.Need-hear-requires
-hear-requires c κs = search needs
+check-event-requires : tie.Need-check-event-requires
+check-event-requires c κs = search needs
 
 enum-told : tie.Need-enum-told
 enum-told c = search needs
@@ -14,7 +14,7 @@ refused-requires : tie.Need-refused-requires
 refused-requires c κs = search needs
 
 returns : tie.Need-returns
-returns c = told-refused _ (c .before .before .before .before .before .before .args .s .now) (c .before .before .before .before .before .before .args .trace .now) _ _ (c .before .before .hear .ensures) (c .refused .result) (not-taken (c .before .before .hear .result) (c .before .match .keys2)) (c .refused .ensures .0) (c .refused .ensures .1)
+returns c = told-refused _ (c .before .before .before .before .before .before .args .s .now) (c .before .before .before .before .before .before .args .trace .now) _ _ (c .before .before .check-event .ensures) (c .refused .result) (not-taken (c .before .before .check-event .result) (c .before .match .keys2)) (c .refused .ensures .0) (c .refused .ensures .1)
 
 happen-requires : tie.Need-happen-requires
 happen-requires c κs = search needs
@@ -26,13 +26,13 @@ same-length-2 : tie.Need-same-length-2
 same-length-2 c = search needs
 
 returns-2 : tie.Need-returns-2
-returns-2 c = told-done _ _ _ _ _ (c .before .before .before .before .before .before .before .before .before .hear .ensures) _ _ _ (is-taken _ (c .before .before .before .before .before .before .before .enum-told .given .1)) (c .before .before .before .before .before .before .before .before .before .before .before .before .before .pre .2 .shallow) (c .before .before .before .before .happen .ensures)
+returns-2 c = told-done _ _ _ _ _ (c .before .before .before .before .before .before .before .before .before .check-event .ensures) _ _ _ (is-taken _ (c .before .before .before .before .before .before .before .enum-told .given .1)) (c .before .before .before .before .before .before .before .before .before .before .before .before .before .pre .2 .shallow) (c .before .before .before .before .happen .ensures)
 
 pub handle-spec : {M : Type 1} → statement M
 handle-spec =
     tie.close
     (tie.spec
-    hear-requires
+    check-event-requires
     enum-told
     refused-requires
     returns

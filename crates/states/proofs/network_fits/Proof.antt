@@ -7,11 +7,11 @@ use Rattle.states.proofs.network_fits.Tie as tie
 waits-word-requires : tie.Need-waits-word-requires
 waits-word-requires c κs = search needs
 
-short-wait-requires : tie.Need-short-wait-requires
-short-wait-requires c κs = search needs
+l1-requires : tie.Need-l1-requires
+l1-requires c κs = search needs
 
-long-wait-requires : tie.Need-long-wait-requires
-long-wait-requires c κs = search needs
+l2-requires : tie.Need-l2-requires
+l2-requires c κs = search needs
 
 larger-requires : tie.Need-larger-requires
 larger-requires c κs = search needs
@@ -36,15 +36,15 @@ remaining-requires c κs = search needs
 
 returns : tie.Need-returns
 unfolding networkFits
-returns c = rw (c .before .before .before .before .before .before .larger .ensures, c .before .before .before .before .before .before .before .before .short-wait .ensures .value, c .before .before .before .before .before .before .before .long-wait .ensures .value, c .before .before .before .before .before .e-ticks .ensures .value, c .before .before .before .before .state-network-zero .ensures .value, c .before .before .before .asked .ensures .value, c .before .before .network-state .ensures .value, c .before .counter .ensures .value, c .remaining .ensures .value, c .before .before .before .before .before .before .before .before .before .waits-word .ensures)
+returns c = rw (c .before .before .before .before .before .before .larger .ensures, c .before .before .before .before .before .before .before .before .l1 .ensures .value, c .before .before .before .before .before .before .before .l2 .ensures .value, c .before .before .before .before .before .e-ticks .ensures .value, c .before .before .before .before .state-network-zero .ensures .value, c .before .before .before .asked .ensures .value, c .before .before .network-state .ensures .value, c .before .counter .ensures .value, c .remaining .ensures .value, c .before .before .before .before .before .before .before .before .before .waits-word .ensures)
 
 pub network-fits-spec : {M : Type 1} → statement M
 network-fits-spec =
     tie.close
     (tie.spec
     waits-word-requires
-    short-wait-requires
-    long-wait-requires
+    l1-requires
+    l2-requires
     larger-requires
     e-ticks-requires
     state-network-zero-requires

@@ -13,19 +13,19 @@ network-threshold-requires c κs = tt
 waits-word-requires : tie.Need-waits-word-requires
 waits-word-requires c κs = c .before .before .before .pre
 
-short-wait-requires : tie.Need-short-wait-requires
-short-wait-requires c κs = tt
+l1-requires : tie.Need-l1-requires
+l1-requires c κs = tt
 
-long-wait-requires : tie.Need-long-wait-requires
-long-wait-requires c κs = tt
+l2-requires : tie.Need-l2-requires
+l2-requires c κs = tt
 
 returns : tie.Need-returns
 unfolding wait
-returns c = rw (← c .before .before .before .before .before .network-word .ensures, ← c .before .before .before .before .network-threshold .ensures .value, le-leb _ _ (c .if1 .taken), ← c .before .before .before .waits-word .ensures, ← c .before .before .short-wait .ensures .value)
+returns c = rw (← c .before .before .before .before .before .network-word .ensures, ← c .before .before .before .before .network-threshold .ensures .value, le-leb _ _ (c .if1 .taken), ← c .before .before .before .waits-word .ensures, ← c .before .before .l1 .ensures .value)
 
 returns-2 : tie.Need-returns-2
 unfolding wait
-returns-2 c = rw (← c .before .before .before .before .before .network-word .ensures, ← c .before .before .before .before .network-threshold .ensures .value, lt-leb _ _ (c .if1 .left), ← c .before .before .before .waits-word .ensures, ← c .before .long-wait .ensures .value)
+returns-2 c = rw (← c .before .before .before .before .before .network-word .ensures, ← c .before .before .before .before .network-threshold .ensures .value, lt-leb _ _ (c .if1 .left), ← c .before .before .before .waits-word .ensures, ← c .before .l2 .ensures .value)
 
 pub wait-spec : {M : Type 1} → statement M
 wait-spec =
@@ -34,7 +34,7 @@ wait-spec =
     network-word-requires
     network-threshold-requires
     waits-word-requires
-    short-wait-requires
-    long-wait-requires
+    l1-requires
+    l2-requires
     returns
     returns-2)

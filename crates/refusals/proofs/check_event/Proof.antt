@@ -1,9 +1,9 @@
--- `refusals::hear` meets its contract: one answer for each exit, by what the checks before it said. Assumes nothing.
+-- `refusals::check_event` meets its contract: one answer for each exit, by what the checks before it said. Assumes nothing.
 use mathlib.Core.Path.{sym, ap, _∙_}
-use Rattle.refusals.specs.Answers.{passes, heard}
+use Rattle.refusals.specs.Answers.{passes, eventChecked}
 use borrow.Author.Needs.{needs}
-use Rattle.refusals.proofs.hear.Statement.{statement}
-use Rattle.refusals.proofs.hear.Tie as tie
+use Rattle.refusals.proofs.check_event.Statement.{statement}
+use Rattle.refusals.proofs.check_event.Tie as tie
 
 well-formed-requires : tie.Need-well-formed-requires
 well-formed-requires c κs = tt
@@ -15,7 +15,7 @@ enum-told-2 : tie.Need-enum-told-2
 enum-told-2 c = search needs
 
 returns : tie.Need-returns
-unfolding heard
+unfolding eventChecked
 returns c = rw (sym (c .before .before .well-formed .ensures) ∙ ap passes (c .enum-told2 .given .1))
 
 known-requires : tie.Need-known-requires
@@ -28,7 +28,7 @@ enum-told-4 : tie.Need-enum-told-4
 enum-told-4 c = search needs
 
 returns-2 : tie.Need-returns-2
-unfolding heard
+unfolding eventChecked
 returns-2 c = rw (sym (c .before .before .before .before .before .well-formed .ensures) ∙ ap passes (c .before .before .before .enum-told .given .1), sym (c .before .before .known .ensures) ∙ ap passes (c .enum-told4 .given .1))
 
 sent-by-owner-requires : tie.Need-sent-by-owner-requires
@@ -41,15 +41,15 @@ enum-told-6 : tie.Need-enum-told-6
 enum-told-6 c = search needs
 
 returns-3 : tie.Need-returns-3
-unfolding heard
+unfolding eventChecked
 returns-3 c = rw (sym (c .before .before .before .before .before .before .before .before .well-formed .ensures) ∙ ap passes (c .before .before .before .before .before .before .enum-told .given .1), sym (c .before .before .before .before .before .known .ensures) ∙ ap passes (c .before .before .before .enum-told3 .given .1), sym (c .before .before .sent-by-owner .ensures) ∙ ap passes (c .enum-told6 .given .1))
 
 returns-4 : tie.Need-returns-4
-unfolding heard
+unfolding eventChecked
 returns-4 c = rw (sym (c .before .before .before .before .before .before .before .before .well-formed .ensures) ∙ ap passes (c .before .before .before .before .before .before .enum-told .given .1), sym (c .before .before .before .before .before .known .ensures) ∙ ap passes (c .before .before .before .enum-told3 .given .1), sym (c .before .before .sent-by-owner .ensures) ∙ ap passes (c .enum-told5 .given .1))
 
-pub hear-spec : {M : Type 1} → statement M
-hear-spec =
+pub check-event-spec : {M : Type 1} → statement M
+check-event-spec =
     tie.close
     (tie.spec
     well-formed-requires
