@@ -1,5 +1,6 @@
 """Reads what the program prints: which line is which word, whose it is, and what it says."""
 import re
+import signal
 import subprocess
 import sys
 from pathlib import Path
@@ -10,6 +11,21 @@ NETWORK_STATES = ["none", "silent", "check", "full", "recover"]
 STATUSES = ["none", "pending", "validated", "expired"]
 RESULTS = ["false", "true", "undefined"]
 ANSWERS = {0: "done", 4: "malformed", 5: "no such thing, or not to be asked so", 6: "not the owner's"}
+
+
+signal.signal(signal.SIGPIPE, signal.SIG_DFL)  # the scripts end quietly in a closed pipe
+
+
+def words_of(usage, good=lambda words: True):
+    """A script's words; how it is used, where that is asked for or the words are wrong."""
+    words = sys.argv[1:]
+    if words in (["--help"], ["-h"]):
+        print(usage)
+        sys.exit(0)
+    if any(word.startswith("-") for word in words[:1]) or not good(words):
+        print(usage, file=sys.stderr)
+        sys.exit(2)
+    return words
 
 
 def program(arguments):

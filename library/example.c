@@ -69,18 +69,18 @@ static void check(void)
     uint32_t bound = 99;
     uint32_t reason = herringcart_check_table(table, TABLE_WORDS, &place, &bound);
     printf("check: reason %" PRIu32 ", place %zu, B %" PRIu32 "\n", reason, place, bound);
-    expect("reason", reason, 0);
+    expect("reason", reason, HERRINGCART_ACCEPTED);
     expect("place", place, 0);
     expect("B", bound, BOUND);
     expect("state words", herringcart_state_words(table, TABLE_WORDS), STATE_WORDS);
 
     /* Without its last word the table's length differs; with L1 0 its word 6 breaks its fields. */
-    expect("reason", herringcart_check_table(table, TABLE_WORDS - 1, &place, &bound), 4);
+    expect("reason", herringcart_check_table(table, TABLE_WORDS - 1, &place, &bound), HERRINGCART_WRONG_LENGTH);
     expect("B of a refused table", bound, 0);
     uint32_t wrong[TABLE_WORDS];
     memcpy(wrong, table, sizeof table);
     wrong[6] = 0x000A0005;
-    expect("reason", herringcart_check_table(wrong, TABLE_WORDS, &place, &bound), 5);
+    expect("reason", herringcart_check_table(wrong, TABLE_WORDS, &place, &bound), HERRINGCART_MISFIT);
     expect("place", place, 6);
 }
 
@@ -88,9 +88,10 @@ static void fresh(void)
 {
     static const uint32_t zero[STATE_WORDS];
     memset(state, 0xAA, sizeof state);
-    expect("fresh in three words", herringcart_make_fresh(table, TABLE_WORDS, state, STATE_WORDS - 1), 2);
+    expect("fresh in three words", herringcart_make_fresh(table, TABLE_WORDS, state, STATE_WORDS - 1),
+           HERRINGCART_WRONG_STATE_WORDS);
     expect("a word after a refusal", state[0], 0xAAAAAAAA);
-    expect("the state check", herringcart_check_state(table, TABLE_WORDS, state, STATE_WORDS), 2);
+    expect("the state check", herringcart_check_state(table, TABLE_WORDS, state, STATE_WORDS), HERRINGCART_UNFIT_STATE);
     uint32_t answer = herringcart_make_fresh(table, TABLE_WORDS, state, STATE_WORDS);
     printf("fresh: answer %" PRIu32 "\n", answer);
     expect("answer", answer, 0);
@@ -98,13 +99,30 @@ static void fresh(void)
     expect("the state check", herringcart_check_state(table, TABLE_WORDS, state, STATE_WORDS), 0);
 }
 
+/* The inline function makes the document's words, and never cuts a field. */
+static void events(void)
+{
+    expect("a request", herringcart_event(HERRINGCART_MODE_REQUEST, 1, 0, 5), 0x11000500);
+    expect("a tick", herringcart_event(HERRINGCART_TICK, 0, 0, 0), 0);
+    expect("a bus-off", herringcart_event(HERRINGCART_BUS_OFF, 1, 0, 0), 0x51000000);
+    expect("all fields", herringcart_event(HERRINGCART_WAKEUP_CLEAR, 15, 0xAB, 0xCD), 0x6FABCD00);
+    static const uint32_t large[][4] = {{16, 0, 0, 0}, {0, 16, 0, 0}, {0, 0, 256, 0}, {0, 0, 0, 256}};
+    for (size_t i = 0; i < sizeof large / sizeof *large; i++) {
+        uint32_t trace[BOUND] = {0}, word = herringcart_event(large[i][0], large[i][1], large[i][2], large[i][3]);
+        size_t count = 99;
+        expect("a field too large", word, 0xFFFFFFFF);
+        expect("its answer", herringcart_take_event(table, TABLE_WORDS, state, STATE_WORDS, trace, BOUND, word, &count),
+               HERRINGCART_MALFORMED_EVENT);
+    }
+}
+
 int main(void)
 {
     static const struct expected refused[] = {
-        {"malformed", 0x21000500, BOUND, 4, {0}, 0, {0}},
-        {"no event port", 0x21000000, BOUND, 5, {0}, 0, {0}},
-        {"another's port", 0x12000500, BOUND, 6, {0}, 0, {0}},
-        {"two words of room", 0x11000500, 2, 3, {0}, 0, {0}},
+        {"malformed", 0x21000500, BOUND, HERRINGCART_MALFORMED_EVENT, {0}, 0, {0}},
+        {"no event port", 0x21000000, BOUND, HERRINGCART_NO_SUCH_THING, {0}, 0, {0}},
+        {"another's port", 0x12000500, BOUND, HERRINGCART_OTHER_OWNER, {0}, 0, {0}},
+        {"two words of room", 0x11000500, 2, HERRINGCART_SHORT_TRACE, {0}, 0, {0}},
     };
     static const struct expected run[] = {
         {"request", 0x11000500, BOUND, 0, {0x81400000, 0, 0x40000000, 0x80000000}, 3, {0xF1000000, 0x41000002, 0x01001234}},
@@ -121,6 +139,7 @@ int main(void)
     };
     check();
     fresh();
+    events();
     for (size_t i = 0; i < sizeof refused / sizeof *refused; i++)
         take(&refused[i]);
     for (size_t i = 0; i < sizeof run / sizeof *run; i++)

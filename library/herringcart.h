@@ -1,8 +1,8 @@
-/* Herringcart: the proved mode manager's calls for C.
+/* Herringcart: the proved mode manager's calls for C and C++.
  *
- * Tables, states and traces are lent as arrays of 32-bit words laid out by document 01, each by a pointer and its
- * length in words. Answers are document 01's numbers. Every call takes any words: it checks them for itself, and a
- * refusal leaves every word of state and trace as it was.
+ * Tables, states and traces are lent as arrays of 32-bit words, each by a pointer and its length in words.
+ * docs/TABLES.md has the layout of every word, and what to do about each reason and answer. Every call takes any
+ * words: it checks them for itself, and a refusal leaves every word of state and trace as it was.
  *
  * What is proved is the calls' results and every lent word afterwards, under these conditions on the pointers, which
  * no call can check for itself:
@@ -25,12 +25,26 @@
  * A call takes at most HERRINGCART_STACK_BYTES of stack. That is measured, not proved: stack.c, run by the gate, makes
  * the calls go as deep as a table can. The deepest took 11 KiB, for lists and expressions nest at most seven deep and
  * the local arrays have 1 KiB each.
+ *
+ * What a call costs: all but herringcart_state_words check the whole table each time, for nothing is kept. Measured
+ * on an Arm Neoverse V1 an event takes some 16 ns for each word of the table (docs/BENCHMARKS.md): 0.2 us with 12 words,
+ * 49 us with 2,892. Tables made to be slow to check take up to 0.9 ms a call, and one is known, with 4,080 rule items
+ * in one event, that takes 4.3 ms. Whoever has a deadline measures with the table that is to be deployed.
  */
 #ifndef HERRINGCART_H
 #define HERRINGCART_H
 
+#if !defined(__linux__) || !defined(__LP64__) || !(defined(__x86_64__) || (defined(__aarch64__) && defined(__AARCH64EL__)))
+#error "herringcart: the archive is for 64-bit x86 and little-endian Arm Linux only"
+#endif
+
 #include <stddef.h>
 #include <stdint.h>
+
+/* The version of this header and of the archive beside it. docs/CHANGES.md says what each version changes. */
+#define HERRINGCART_VERSION "1.0"
+#define HERRINGCART_VERSION_MAJOR 1
+#define HERRINGCART_VERSION_MINOR 0
 
 #ifdef __cplusplus
 extern "C" {
@@ -44,12 +58,64 @@ extern "C" {
 /* The most stack a call takes, in bytes. */
 #define HERRINGCART_STACK_BYTES 16384
 
-/* Checks a table. Gives 0 if it is accepted, else the first of the reasons 1 to 9 that holds.
- *
- *   1 fewer than 3 words              4 length differs                7 nests deeper than 7, or without end
- *   2 edition is not 1                5 a word breaks its own fields  8 owners clash
- *   3 a count is outside its limits   6 names an absent thing or a    9 all lists' cost is above 4,096
- *                                       wrong kind
+/* Why a table is refused. */
+enum herringcart_reason {
+    HERRINGCART_ACCEPTED = 0,
+    HERRINGCART_TOO_SHORT = 1,     /* fewer than 3 words */
+    HERRINGCART_WRONG_EDITION = 2, /* edition is not 1 */
+    HERRINGCART_WRONG_COUNTS = 3,  /* a count is outside its limits */
+    HERRINGCART_WRONG_LENGTH = 4,  /* length differs from what the header asks for */
+    HERRINGCART_MISFIT = 5,        /* a word breaks its own field rules */
+    HERRINGCART_MISNAMED = 6,      /* a word names an absent thing or one of a wrong kind */
+    HERRINGCART_TOO_DEEP = 7,      /* an expression or list nests deeper than seven, or without end */
+    HERRINGCART_OWNERS_CLASH = 8,
+    HERRINGCART_TOO_DEAR = 9       /* all lists' cost is above 4,096 */
+};
+
+/* What the other calls answer. Answer 7 of document 01 is never given: that the table check excludes it is proved. */
+enum herringcart_answer {
+    HERRINGCART_DONE = 0,
+    HERRINGCART_BAD_TABLE = 1,          /* the table has a reason */
+    HERRINGCART_UNFIT_STATE = 2,        /* the state does not fit the table */
+    HERRINGCART_WRONG_STATE_WORDS = 2,  /* the same number, of herringcart_make_fresh: the length is not the table's */
+    HERRINGCART_SHORT_TRACE = 3,        /* trace_words is less than B */
+    HERRINGCART_MALFORMED_EVENT = 4,    /* a field that must be 0 is not, or the kind is above 6 */
+    HERRINGCART_NO_SUCH_THING = 5,      /* no such port, source or network, or not one for this kind */
+    HERRINGCART_OTHER_OWNER = 6         /* the thing is not the owner's */
+};
+
+/* The kinds of events. */
+enum herringcart_kind {
+    HERRINGCART_TICK = 0,          /* owner, index and value 0 */
+    HERRINGCART_MODE_REQUEST = 1,  /* of a mode port, with a value */
+    HERRINGCART_EVENT_REQUEST = 2, /* of an event port */
+    HERRINGCART_WAKEUP = 3,        /* of a source */
+    HERRINGCART_WAKEUP_VALID = 4,  /* of a source */
+    HERRINGCART_BUS_OFF = 5,       /* of a network */
+    HERRINGCART_WAKEUP_CLEAR = 6   /* of a source */
+};
+
+/* The modes that a network is asked for, and what its port shows: these three, or that it recovers. */
+enum herringcart_mode {
+    HERRINGCART_NONE = 0,
+    HERRINGCART_SILENT = 1,
+    HERRINGCART_FULL = 2,
+    HERRINGCART_RECOVER = 3 /* shown only */
+};
+
+/* The owner that is no operator. */
+#define HERRINGCART_PLATFORM 0
+
+/* An event word. Where a field is too large for its place the word is FFFFFFFF, which is answered with 4: no field is
+ * cut, for that would name another thing. */
+static inline uint32_t herringcart_event(uint32_t kind, uint32_t owner, uint32_t index, uint32_t value)
+{
+    if (kind > 15 || owner > 15 || index > 255 || value > 255)
+        return UINT32_C(0xFFFFFFFF);
+    return kind << 28 | owner << 24 | index << 16 | value << 8;
+}
+
+/* Checks a table. Gives HERRINGCART_ACCEPTED, or the first of the reasons that holds, in their order.
  *
  * Always writes *place, the number from 0 of the lowest word that breaks the rule, 0 for reasons 0 to 4 and 9;
  * and *bound, B, the trace words that each event must be lent, 0 for a refused table. */
@@ -66,15 +132,9 @@ uint32_t herringcart_make_fresh(const uint32_t *table, size_t table_words, uint3
 /* Checks a state. Gives 0 if it fits the table, 1 if the table has a reason, 2 if it does not fit. */
 uint32_t herringcart_check_state(const uint32_t *table, size_t table_words, const uint32_t *state, size_t state_words);
 
-/* Takes one event. Gives the first of these that holds:
- *
- *   1 the table has a reason          4 the event word is malformed or its kind is above 6
- *   2 the state does not fit          5 no such port, source or network, or not one for this kind
- *   3 trace_words is less than B      6 the owner differs from the thing's
- *
- * or else 0: the event is done, the state is the next one, and the first *count words of the trace are what was done;
- * the later ones are unchanged. Always writes *count, 0 for a refused event. Answer 7 of document 01 is never given:
- * that the check excludes it is proved. */
+/* Takes one event. Gives the first answer from 1 to 6 that holds, in their order, or else 0: the event is done, the
+ * state is the next one, and the first *count words of the trace are what was done; the later ones are unchanged.
+ * Always writes *count, 0 for a refused event. */
 uint32_t herringcart_take_event(const uint32_t *table, size_t table_words, uint32_t *state, size_t state_words,
                                 uint32_t *trace, size_t trace_words, uint32_t event, size_t *count);
 

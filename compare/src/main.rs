@@ -22,7 +22,20 @@ const USAGE: &str = "usage: compare cases SEED COUNT [SEED COUNT ...]
        compare bench
        compare bench-programs PROGRAM...";
 
+unsafe extern "C" {
+    fn signal(number: i32, action: usize) -> usize;
+}
+
+/// Rust starts with the signal of a closed pipe ignored, and a print into one then panics. This has it end the program quietly.
+fn end_quietly_in_a_closed_pipe() {
+    const SIGPIPE: i32 = 13;
+    const DEFAULT: usize = 0;
+    // SAFETY: C's signal; the number and the action are Linux's on every machine that this is built for.
+    unsafe { signal(SIGPIPE, DEFAULT) };
+}
+
 fn main() -> ExitCode {
+    end_quietly_in_a_closed_pipe();
     let args: Vec<String> = std::env::args().skip(1).collect();
     let args: Vec<&str> = args.iter().map(String::as_str).collect();
     let done = match args[..] {

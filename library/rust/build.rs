@@ -5,7 +5,7 @@ use std::env;
 use std::path::PathBuf;
 
 const VARIABLE: &str = "HERRINGCART_LIBRARY";
-const DEFAULT: &str = "../../target/native/libgateway.a";
+const DEFAULT: &str = "../../target/native/libherringcart.a";
 
 fn main() {
     println!("cargo::rerun-if-env-changed={VARIABLE}");

@@ -1,6 +1,6 @@
 //! The proved mode manager for Rust. Tables, states and traces are slices of
-//! 32-bit words, as document 01 lays them out; answers are document 01's
-//! numbers.
+//! 32-bit words; `docs/TABLES.md` has the layout of each and what to do about
+//! each reason and answer. Answers are document 01's numbers.
 //!
 //! Every call takes any words: it checks them for itself, and a refusal leaves
 //! every lent word as it was. Nothing is kept between calls, no heap is used,

@@ -1,0 +1,57 @@
+-- `inspect::fill` is safe and ends: every turn of its loop reads a byte at least. Assumes nothing.
+use Prim.Native.Nat.{_-_, _≤_}
+use mathlib.Core.Path.{_≡_, refl, sym, _∙_}
+use native.Mathlib.Omega.{arith}
+use lib.ListN.{length}
+use lib.Seq.{length-take-le}
+use Rattle.inspect.proofs.fill.Statement.{statement}
+use Rattle.inspect.proofs.fill.Tie as tie
+
+abbrev Inv-loop : tie.InvT-loop
+Inv-loop fd block₀ bytes₀ block bytes = (bytes ≤ length block) × (length block ≡ length block₀)
+
+abbrev μ-loop : tie.MeasureT-loop
+μ-loop fd block₀ bytes₀ block bytes = length block₀ - bytes
+
+loop-holds : tie.Need-loop-holds Inv-loop μ-loop
+loop-holds c = (omega arith, refl)
+
+read-some-requires : tie.Need-read-some-requires Inv-loop μ-loop
+read-some-requires c κs = omega arith
+
+same-length : tie.Need-same-length Inv-loop μ-loop
+same-length c = c .before .before .before .read-some .kept .1 .0 ∙ c .before .before .before .before .before .before .loop .inv .1
+
+returns : tie.Need-returns Inv-loop μ-loop
+returns c = (omega (arith, c .before .before .before .read-some .kept .1 .0, c .before .before .before .before .before .before .loop .inv .0), sym (length-take-le _ _ (omega (arith, c .before .before .before .read-some .kept .1 .0, c .before .before .before .before .before .before .loop .inv .0))))
+
+add-bytes : tie.Need-add-bytes Inv-loop μ-loop
+add-bytes c = omega (arith, c .before .before .before .read-some .ensures)
+
+loop-less : tie.Need-loop-less Inv-loop μ-loop
+loop-less c = omega (arith, c .before .before .before .read-some .ensures)
+
+loop-again : tie.Need-loop-again Inv-loop μ-loop
+loop-again c = (omega (arith, c .before .before .before .read-some .ensures, c .before .before .before .read-some .kept .1 .0), c .before .before .before .read-some .kept .1 .0 ∙ c .before .before .before .before .before .before .loop .inv .1)
+
+same-length-2 : tie.Need-same-length-2 Inv-loop μ-loop
+same-length-2 c = c .before .loop .inv .1
+
+returns-2 : tie.Need-returns-2 Inv-loop μ-loop
+returns-2 c = (c .before .loop .inv .0, sym (length-take-le _ _ (c .before .loop .inv .0)))
+
+pub fill-spec : {M : Type 1} → statement M
+fill-spec =
+    tie.close
+    (tie.spec
+    Inv-loop
+    μ-loop
+    loop-holds
+    read-some-requires
+    same-length
+    returns
+    add-bytes
+    loop-less
+    loop-again
+    same-length-2
+    returns-2)

@@ -1,0 +1,4 @@
+-- Laws of a verdict's lines.
+pub mod Lines
+pub mod Unique
+pub mod Cut

@@ -1,0 +1,2 @@
+-- What the verdict of a table promises.
+pub mod Verdict
