@@ -7,23 +7,8 @@ use borrow.Author.Needs.{needs}
 use Rattle.arbitration.proofs.better.Statement.{statement}
 use Rattle.arbitration.proofs.better.Tie as tie
 
-flag-requires : tie.Need-flag-requires
-flag-requires c κs = search needs
-
 returns : tie.Need-returns
 returns c = better-none _ _ _ _ _ (c .before .flag .ensures) (not-true _ (c .if1 .taken))
-
-list-word-requires : tie.Need-list-word-requires
-list-word-requires c κs = search needs
-
-list-priority-requires : tie.Need-list-priority-requires
-list-priority-requires c κs = search needs
-
-list-word-requires-2 : tie.Need-list-word-requires-2
-list-word-requires-2 c κs = search needs
-
-list-priority-requires-2 : tie.Need-list-priority-requires-2
-list-priority-requires-2 c κs = search needs
 
 returns-2 : tie.Need-returns-2
 returns-2 c = better-takes _ _ _ _ _ (c .before .before .before .before .before .before .flag .ensures) _ _ _ (not-false _ (c .before .before .before .before .before .if1 .left)) (c .before .before .before .before .before .before .before .before .before .pre .lists .value) (c .before .before .before .list-priority .ensures .value ∙ ap (field 5 8) (c .before .before .before .before .list-word .ensures)) (c .before .list-priority2 .ensures .value ∙ ap (field 5 8) (c .before .before .list-word2 .ensures)) (c .if2 .taken)
@@ -35,11 +20,11 @@ pub better-spec : {M : Type 1} → statement M
 better-spec =
     tie.close
     (tie.spec
-    flag-requires
+    (λ c κs. search needs)
     returns
-    list-word-requires
-    list-priority-requires
-    list-word-requires-2
-    list-priority-requires-2
+    (λ c κs. search needs)
+    (λ c κs. search needs)
+    (λ c κs. search needs)
+    (λ c κs. search needs)
     returns-2
     returns-3)

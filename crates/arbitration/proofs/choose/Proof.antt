@@ -1,6 +1,6 @@
 -- `arbitration::choose` meets its contract. The loop's invariant: what all rules choose is what those passed choose, or the rest. Assumes nothing.
 use Prim.Native.Nat.{ℕ, _-_, _≤_}
-use mathlib.Core.Path.{_≡_, refl, sym, ap, _∙_}
+use mathlib.Core.Path.{_≡_, sym, ap, _∙_}
 use mathlib.Core.Bool.{_||_}
 use native.Mathlib.Omega.{arith}
 use lib.ListN.{length}
@@ -23,12 +23,6 @@ loop-holds c = (omega arith, ap length (c .before .before .before .before .pre .
 
 pick-requires : tie.Need-pick-requires Inv-loop μ-loop
 pick-requires c κs = c .before .before .before .before .before .before .pre .0
-
-cast-put : tie.Need-cast-put Inv-loop μ-loop
-cast-put c = omega arith
-
-put-requires : tie.Need-put-requires Inv-loop μ-loop
-put-requires c κs = tt
 
 add-r : tie.Need-add-r Inv-loop μ-loop
 add-r c = omega (arith, c .before .before .before .before .before .loop-test .taken, c .before .before .before .before .before .before .before .before .before .before .before .pre .0 .rules .small)
@@ -53,8 +47,8 @@ choose-spec =
     μ-loop
     loop-holds
     pick-requires
-    cast-put
-    put-requires
+    (λ c. omega arith)
+    (λ c κs. tt)
     add-r
     loop-less
     loop-again

@@ -22,12 +22,6 @@ loop-holds c = (omega arith, c .before .before .before .before .pre .2, λ k h. 
 outcome-requires : tie.Need-outcome-requires Inv-loop μ-loop
 outcome-requires c κs = c .before .before .before .before .before .before .pre .0
 
-cast-put : tie.Need-cast-put Inv-loop μ-loop
-cast-put c = omega arith
-
-put-requires : tie.Need-put-requires Inv-loop μ-loop
-put-requires c κs = tt
-
 add-r : tie.Need-add-r Inv-loop μ-loop
 add-r c = omega (arith, c .before .before .before .before .before .loop-test .taken, c .before .before .before .before .before .before .before .before .before .before .before .pre .1)
 
@@ -51,8 +45,8 @@ find-outcomes-spec =
     μ-loop
     loop-holds
     outcome-requires
-    cast-put
-    put-requires
+    (λ c. omega arith)
+    (λ c κs. tt)
     add-r
     loop-less
     loop-again

@@ -19,15 +19,6 @@ loop-holds c = (omega arith, rw (c .before .before .before .pre .1) (marked-star
 is-marked-requires : tie.Need-is-marked-requires Inv-loop μ-loop
 is-marked-requires c κs = c .before .before .before .before .before .pre .0
 
-raised-requires : tie.Need-raised-requires Inv-loop μ-loop
-raised-requires c κs = tt
-
-cast-put : tie.Need-cast-put Inv-loop μ-loop
-cast-put c = omega arith
-
-put-requires : tie.Need-put-requires Inv-loop μ-loop
-put-requires c κs = tt
-
 add-p : tie.Need-add-p Inv-loop μ-loop
 add-p c = omega (arith, c .before .before .before .before .before .before .loop-test .taken, c .before .before .before .before .before .before .before .before .before .before .before .pre .0 .ports .small)
 
@@ -51,9 +42,9 @@ flag-marked-spec =
     μ-loop
     loop-holds
     is-marked-requires
-    raised-requires
-    cast-put
-    put-requires
+    (λ c κs. tt)
+    (λ c. omega arith)
+    (λ c κs. tt)
     add-p
     loop-less
     loop-again

@@ -4,14 +4,8 @@ use borrow.Author.Needs.{needs}
 use Rattle.arbitration.proofs.is_marked.Statement.{statement}
 use Rattle.arbitration.proofs.is_marked.Tie as tie
 
-word-requires : tie.Need-word-requires
-word-requires c κs = search needs
-
-marked-requires : tie.Need-marked-requires
-marked-requires c κs = search needs
-
 returns : tie.Need-returns
 returns c = marked-by _ _ _ _ _ _ (c .before .before .before .before .pre .ports .value) (c .before .word .ensures) (c .marked .ensures .value)
 
 pub is-marked-spec : {M : Type 1} → statement M
-is-marked-spec = tie.close (tie.spec word-requires marked-requires returns)
+is-marked-spec = tie.close (tie.spec (λ c κs. search needs) (λ c κs. search needs) returns)

@@ -5,32 +5,14 @@ use borrow.Author.Needs.{needs}
 use Rattle.arbitration.proofs.outcome.Statement.{statement}
 use Rattle.arbitration.proofs.outcome.Tie as tie
 
-rule-word-requires : tie.Need-rule-word-requires
-rule-word-requires c κs = search needs
-
-nested-only-requires : tie.Need-nested-only-requires
-nested-only-requires c κs = search needs
-
 returns : tie.Need-returns
 returns c = outcome-nested _ (flagged (c .before .before .before .before .before .before .args .flags .now)) (c .before .before .before .before .before .before .args .s .now) _ _ _ (c .before .before .rule-word .ensures) (c .before .nested-only .ensures .value) (c .if1 .taken)
-
-rule-expression-requires : tie.Need-rule-expression-requires
-rule-expression-requires c κs = search needs
-
-mentions-requires : tie.Need-mentions-requires
-mentions-requires c κs = search needs
 
 returns-2 : tie.Need-returns-2
 returns-2 c = outcome-unmentioned _ (flagged (c .before .before .before .before .before .before .before .before .before .args .flags .now)) (c .before .before .before .before .before .before .before .before .before .args .s .now) _ _ _ (c .before .before .before .before .before .rule-word .ensures) (c .before .before .before .before .nested-only .ensures .value) (c .before .before .before .if1 .left) _ (c .before .before .rule-expression .ensures .value) _ (c .before .mentions .ensures) (c .if2 .taken)
 
-unready-requires : tie.Need-unready-requires
-unready-requires c κs = search needs
-
 returns-3 : tie.Need-returns-3
 returns-3 c = outcome-unready _ (flagged (c .before .before .before .before .before .before .before .before .before .before .before .args .flags .now)) _ _ _ _ (c .before .before .before .before .before .before .before .rule-word .ensures) (c .before .before .before .before .before .before .nested-only .ensures .value) (c .before .before .before .before .before .if1 .left) _ (c .before .before .before .before .rule-expression .ensures .value) _ (c .before .before .before .mentions .ensures) (c .before .before .if2 .left) _ (c .before .unready .ensures) (c .if3 .taken)
-
-result-requires : tie.Need-result-requires
-result-requires c κs = search needs
 
 returns-4 : tie.Need-returns-4
 returns-4 c = outcome-result _ (flagged (c .before .before .before .before .before .before .before .before .before .before .before .before .args .flags .now)) _ _ _ _ (c .before .before .before .before .before .before .before .before .rule-word .ensures) (c .before .before .before .before .before .before .before .nested-only .ensures .value) (c .before .before .before .before .before .before .if1 .left) _ (c .before .before .before .before .before .rule-expression .ensures .value) _ (c .before .before .before .before .mentions .ensures) (c .before .before .before .if2 .left) _ (c .before .before .unready .ensures) (c .before .if3 .left) _ (c .result .ensures)
@@ -39,13 +21,13 @@ pub outcome-spec : {M : Type 1} → statement M
 outcome-spec =
     tie.close
     (tie.spec
-    rule-word-requires
-    nested-only-requires
+    (λ c κs. search needs)
+    (λ c κs. search needs)
     returns
-    rule-expression-requires
-    mentions-requires
+    (λ c κs. search needs)
+    (λ c κs. search needs)
     returns-2
-    unready-requires
+    (λ c κs. search needs)
     returns-3
-    result-requires
+    (λ c κs. search needs)
     returns-4)

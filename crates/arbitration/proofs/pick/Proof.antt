@@ -4,20 +4,11 @@ use borrow.Author.Needs.{needs}
 use Rattle.arbitration.proofs.pick.Statement.{statement}
 use Rattle.arbitration.proofs.pick.Tie as tie
 
-word-requires : tie.Need-word-requires
-word-requires c κs = search needs
-
 returns : tie.Need-returns
 returns c = picks-none _ _ (c .before .before .before .before .before .args .s .now) _ _ (c .before .word .ensures) (c .if1 .taken)
-
-previous-requires : tie.Need-previous-requires
-previous-requires c κs = search needs
-
-choice-requires : tie.Need-choice-requires
-choice-requires c κs = search needs
 
 returns-2 : tie.Need-returns-2
 returns-2 c = picks _ _ _ _ _ (c .before .before .before .word .ensures) (c .before .before .if1 .left) _ _ (c .before .previous .ensures) (c .choice .ensures .value)
 
 pub pick-spec : {M : Type 1} → statement M
-pick-spec = tie.close (tie.spec word-requires returns previous-requires choice-requires returns-2)
+pick-spec = tie.close (tie.spec (λ c κs. search needs) returns (λ c κs. search needs) (λ c κs. search needs) returns-2)

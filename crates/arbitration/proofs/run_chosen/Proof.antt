@@ -32,12 +32,6 @@ best-requires c κs = c .before .before .before .before .before .pre .0
 loop-holds : tie.Need-loop-holds Inv-loop μ-loop
 loop-holds c = (refl, refl, c .best .ensures, along-none _ _ _ _ refl)
 
-cast-put : tie.Need-cast-put Inv-loop μ-loop
-cast-put c = search needs
-
-put-requires : tie.Need-put-requires Inv-loop μ-loop
-put-requires c κs = search needs
-
 mul-run-list : tie.Need-mul-run-list Inv-loop μ-loop
 mul-run-list c = omega (arith, c .before .before .before .before .before .before .loop .inv .3 .inside, c .before .before .before .before .before .before .loop .inv .3 .long, c .before .before .before .before .before .before .before .before .before .before .before .before .before .good .1 .1 .1 .1 .0)
 
@@ -46,9 +40,6 @@ sub-run-list c = c .before .before .before .before .before .before .loop .inv .3
 
 part-run-list-start : tie.Need-part-run-list-start Inv-loop μ-loop
 part-run-list-start c = c .before .before .before .before .before .before .loop .inv .3 .inside
-
-part-run-list-end : tie.Need-part-run-list-end Inv-loop μ-loop
-part-run-list-end c = search needs
 
 run-list-requires : tie.Need-run-list-requires Inv-loop μ-loop
 run-list-requires c κs = (c .before .before .before .before .before .before .before .before .before .before .before .before .before .before .pre .0, list-safe _ _ _ (c .before .before .before .before .before .before .before .loop .inv .2) _ _ _ _ _ (c .before .before .before .before .before .before .before .loop .inv .3) _ (c .before .before .before .before .put .ensures) (omega (arith, c .before .before .before .before .before .before .loop-test .taken, c .before .before .before .before .before .before .before .before .before .before .before .before .before .before .pre .0 .lists .value)) (c .before .before .before .before .before .before .before .before .before .before .before .before .before .before .pre .1))
@@ -94,12 +85,12 @@ run-chosen-spec =
     μ-loop
     best-requires
     loop-holds
-    cast-put
-    put-requires
+    (λ c. search needs)
+    (λ c κs. search needs)
     mul-run-list
     sub-run-list
     part-run-list-start
-    part-run-list-end
+    (λ c. search needs)
     run-list-requires
     add-at
     best-requires-2

@@ -21,9 +21,6 @@ abbrev μ-loop : tie.MeasureT-loop
 loop-holds : tie.Need-loop-holds Inv-loop μ-loop
 loop-holds c = (refl, rw sub-zero)
 
-unmark-port-requires : tie.Need-unmark-port-requires Inv-loop μ-loop
-unmark-port-requires c κs = tt
-
 add-p : tie.Need-add-p Inv-loop μ-loop
 add-p c = omega (arith, c .before .before .before .before .loop-test .taken, c .before .before .before .before .before .before .before .before .before .pre .ports .small)
 
@@ -50,7 +47,7 @@ unmark-spec =
     Inv-loop
     μ-loop
     loop-holds
-    unmark-port-requires
+    (λ c κs. tt)
     add-p
     loop-less
     loop-again

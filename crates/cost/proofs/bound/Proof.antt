@@ -16,9 +16,6 @@ Inv-loop t depths lists costs total₀ l₀ total l = (l ≤ lists) × (total �
 abbrev μ-loop : tie.MeasureT-loop
 μ-loop t depths lists costs total₀ l₀ total l = lists - l
 
-slice-aggregate-find-costs : tie.Need-slice-aggregate-find-costs Inv-loop μ-loop
-slice-aggregate-find-costs c = refl
-
 find-costs-requires : tie.Need-find-costs-requires Inv-loop μ-loop
 find-costs-requires c κs = (c .before .before .before .pre .0, c .before .before .before .pre .1, c .before .before .before .pre .2, no-round (c .before .before .before .args .t .now))
 
@@ -28,20 +25,8 @@ loop-holds c = (omega arith, omega arith, bound-start _ _ (c .before .before .be
 slice-aggregate-cost-in : tie.Need-slice-aggregate-cost-in Inv-loop μ-loop
 slice-aggregate-cost-in c = sym (c .before .before .before .before .find-costs .ensures .long)
 
-cost-in-requires : tie.Need-cost-in-requires Inv-loop μ-loop
-cost-in-requires c κs = tt
-
 add-cap : tie.Need-add-cap Inv-loop μ-loop
 add-cap c = omega (arith, c .before .before .before .loop .inv .1, c .cost-in .ensures .small)
-
-cap-requires : tie.Need-cap-requires Inv-loop μ-loop
-cap-requires c κs = tt
-
-add-l : tie.Need-add-l Inv-loop μ-loop
-add-l c = omega arith
-
-loop-less : tie.Need-loop-less Inv-loop μ-loop
-loop-less c = omega arith
 
 loop-again : tie.Need-loop-again Inv-loop μ-loop
 loop-again c = (omega arith, omega (arith, c .cap .ensures), c .before .before .before .before .loop .inv .2 ∙ cost-turn (Reasons.costWithin 7 (c .before .before .before .before .before .before .before .before .before .before .args .t .now)) _ _ _ _ _ (c .before .before .before .loop-test .taken) (cost-is _ _ (c .before .before .before .before .before .before .find-costs .ensures) (c .before .before .before .before .before .before .before .before .before .before .pre .3) _ _ (omega (arith, c .before .before .before .loop-test .taken, c .before .before .before .before .before .before .before .before .before .before .pre .0 .lists .value)) (c .before .cost-in .ensures .value)) (c .cap .ensures))
@@ -55,14 +40,14 @@ bound-spec =
     (tie.spec
     Inv-loop
     μ-loop
-    slice-aggregate-find-costs
+    (λ c. refl)
     find-costs-requires
     loop-holds
     slice-aggregate-cost-in
-    cost-in-requires
+    (λ c κs. tt)
     add-cap
-    cap-requires
-    add-l
-    loop-less
+    (λ c κs. tt)
+    (λ c. omega arith)
+    (λ c. omega arith)
     loop-again
     returns)

@@ -1,5 +1,4 @@
 -- `cost::chosen_cost` meets its contract. Assumes nothing.
-use mathlib.Core.Path.{_∙_}
 use native.Mathlib.Omega.{arith}
 use borrow.Author.Tests.{eq-eqb, ne-eqb}
 use borrow.Author.Needs.{needs}
@@ -9,11 +8,8 @@ use Rattle.cost.proofs.chosen_cost.Tie as tie
 returns : tie.Need-returns
 returns c = record { value = rw (eq-eqb (c .before .before .args .l) 255 (c .if1 .taken)); small = omega arith }
 
-cost-in-requires : tie.Need-cost-in-requires
-cost-in-requires c κs = search needs
-
 returns-2 : tie.Need-returns-2
 returns-2 c = record { value = rw (ne-eqb (c .before .before .before .args .l) 255 (c .before .if1 .left)) (c .cost-in .ensures .value); small = c .cost-in .ensures .small }
 
 pub chosen-cost-spec : {M : Type 1} → statement M
-chosen-cost-spec = tie.close (tie.spec returns cost-in-requires returns-2)
+chosen-cost-spec = tie.close (tie.spec returns (λ c κs. search needs) returns-2)

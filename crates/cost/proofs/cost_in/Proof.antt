@@ -6,15 +6,9 @@ use borrow.Author.Needs.{needs}
 use Rattle.cost.proofs.cost_in.Statement.{statement}
 use Rattle.cost.proofs.cost_in.Tie as tie
 
-word-requires : tie.Need-word-requires
-word-requires c κs = search needs
-
-cap-requires : tie.Need-cap-requires
-cap-requires c κs = search needs
-
 returns : tie.Need-returns
 unfolding costIn
 returns c = record { value = c .cap .ensures ∙ ap capped (c .before .word .ensures); small = omega (arith, c .cap .ensures) }
 
 pub cost-in-spec : {M : Type 1} → statement M
-cost-in-spec = tie.close (tie.spec word-requires cap-requires returns)
+cost-in-spec = tie.close (tie.spec (λ c κs. search needs) (λ c κs. search needs) returns)

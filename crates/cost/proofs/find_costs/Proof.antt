@@ -18,12 +18,6 @@ loop-holds c = (omega arith, c .before .before .before .pre .3)
 cost-level-requires : tie.Need-cost-level-requires Inv-loop μ-loop
 cost-level-requires c κs = (c .before .before .before .before .before .before .pre .0, c .before .before .before .before .before .before .pre .1, c .before .loop-test .taken, c .before .before .before .before .before .before .pre .2, c .before .before .loop .inv .1)
 
-add-d : tie.Need-add-d Inv-loop μ-loop
-add-d c = omega arith
-
-loop-less : tie.Need-loop-less Inv-loop μ-loop
-loop-less c = omega arith
-
 loop-again : tie.Need-loop-again Inv-loop μ-loop
 loop-again c = (omega arith, c .before .before .cost-level .ensures)
 
@@ -41,8 +35,8 @@ find-costs-spec =
     μ-loop
     loop-holds
     cost-level-requires
-    add-d
-    loop-less
+    (λ c. omega arith)
+    (λ c. omega arith)
     loop-again
     same-length
     returns)

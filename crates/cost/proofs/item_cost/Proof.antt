@@ -7,23 +7,8 @@ use borrow.Author.Needs.{needs}
 use Rattle.cost.proofs.item_cost.Statement.{statement}
 use Rattle.cost.proofs.item_cost.Tie as tie
 
-item-word-requires : tie.Need-item-word-requires
-item-word-requires c κs = search needs
-
-item-kind-requires : tie.Need-item-kind-requires
-item-kind-requires c κs = search needs
-
-item-a-requires : tie.Need-item-a-requires
-item-a-requires c κs = search needs
-
-cost-in-requires : tie.Need-cost-in-requires
-cost-in-requires c κs = search needs
-
 returns : tie.Need-returns
 returns c = record { value = c .cost-in .ensures .value ∙ cost-of-list _ (costIn (c .before .before .before .before .before .before .before .args .below .now)) _ _ _ _ (c .before .before .before .before .item-word .ensures) (c .before .before .before .item-kind .ensures .value) (c .before .before .item-a .ensures .value) (c .before .if1 .taken); small = omega (arith, c .cost-in .ensures .small) }
-
-rule-cost-requires : tie.Need-rule-cost-requires
-rule-cost-requires c κs = search needs
 
 returns-2 : tie.Need-returns-2
 returns-2 c = record { value = c .rule-cost .ensures .value ∙ cost-of-rule _ (costIn (c .before .before .before .before .before .before .before .before .args .below .now)) _ _ _ _ (c .before .before .before .before .before .item-word .ensures) (c .before .before .before .before .item-kind .ensures .value) (c .before .before .before .item-a .ensures .value) (c .before .before .if1 .left) (c .before .if2 .taken); small = c .rule-cost .ensures .small }
@@ -35,11 +20,11 @@ pub item-cost-spec : {M : Type 1} → statement M
 item-cost-spec =
     tie.close
     (tie.spec
-    item-word-requires
-    item-kind-requires
-    item-a-requires
-    cost-in-requires
+    (λ c κs. search needs)
+    (λ c κs. search needs)
+    (λ c κs. search needs)
+    (λ c κs. search needs)
     returns
-    rule-cost-requires
+    (λ c κs. search needs)
     returns-2
     returns-3)

@@ -22,15 +22,6 @@ returns c = ap capped (absent-free _ _ (c .before .before .before .pre) (costIn 
 list-word-requires : tie.Need-list-word-requires Inv-loop μ-loop
 list-word-requires c κs = c .before .before .before .pre
 
-first-item-requires : tie.Need-first-item-requires Inv-loop μ-loop
-first-item-requires c κs = tt
-
-item-count-requires : tie.Need-item-count-requires Inv-loop μ-loop
-item-count-requires c κs = tt
-
-add-end : tie.Need-add-end Inv-loop μ-loop
-add-end c = omega arith
-
 loop-holds : tie.Need-loop-holds Inv-loop μ-loop
 loop-holds c = (omega arith, omega arith, rw (whole (c .before .first-item .result) (c .item-count .result)))
 
@@ -39,15 +30,6 @@ item-cost-requires c κs = c .before .before .before .before .before .before .be
 
 add-cap : tie.Need-add-cap Inv-loop μ-loop
 add-cap c = omega (arith, c .before .before .loop .inv .1, c .item-cost .ensures .small)
-
-cap-requires : tie.Need-cap-requires Inv-loop μ-loop
-cap-requires c κs = tt
-
-add-i : tie.Need-add-i Inv-loop μ-loop
-add-i c = omega arith
-
-loop-less : tie.Need-loop-less Inv-loop μ-loop
-loop-less c = omega arith
 
 loop-again : tie.Need-loop-again Inv-loop μ-loop
 loop-again c = (
@@ -67,14 +49,14 @@ list-cost-spec =
     μ-loop
     returns
     list-word-requires
-    first-item-requires
-    item-count-requires
-    add-end
+    (λ c κs. tt)
+    (λ c κs. tt)
+    (λ c. omega arith)
     loop-holds
     item-cost-requires
     add-cap
-    cap-requires
-    add-i
-    loop-less
+    (λ c κs. tt)
+    (λ c. omega arith)
+    (λ c. omega arith)
     loop-again
     returns-2)

@@ -1,6 +1,6 @@
 -- `evaluation::holds` meets its contract: one level by the laws of `Level`, the arguments by its own calls. The measure is the levels left.
 -- Assumes nothing.
-use mathlib.Core.Path.{sym, _∙_, ap}
+use mathlib.Core.Path.{_∙_}
 use native.Mathlib.Omega.{arith}
 use Rattle.rulebook.specs.Expressions as Expressions
 use Rattle.rulebook.specs.Lists.{valueIn}

@@ -5,15 +5,6 @@ use borrow.Author.Needs.{needs}
 use Rattle.evaluation.proofs.choice.Statement.{statement}
 use Rattle.evaluation.proofs.choice.Tie as tie
 
-list-for-requires : tie.Need-list-for-requires
-list-for-requires c κs = search needs
-
-list-word-requires : tie.Need-list-word-requires
-list-word-requires c κs = search needs
-
-list-triggered-requires : tie.Need-list-triggered-requires
-list-triggered-requires c κs = search needs
-
 returns : tie.Need-returns
 returns c = record { value = choice-starts _ _ _ _ _ _ _ (c .before .before .before .list-for .ensures .value) (c .before .before .list-word .ensures) (c .before .list-triggered .ensures .value) (c .if1 .taken); small = c .before .before .before .list-for .ensures .small }
 
@@ -23,4 +14,4 @@ returns-2 c = record { value = choice-none _ _ _ _ _ _ _ (c .before .before .bef
 pub choice-spec : {M : Type 1} → statement M
 choice-spec =
     tie.close
-    (tie.spec list-for-requires list-word-requires list-triggered-requires returns returns-2)
+    (tie.spec (λ c κs. search needs) (λ c κs. search needs) (λ c κs. search needs) returns returns-2)

@@ -1,6 +1,5 @@
 -- `evaluation::result` meets its contract: the evaluation of its expression. Assumes nothing.
 use mathlib.Core.Path.{ap, _∙_}
-use Prim.Native.Nat.{ℕ}
 use mathlib.Core.Bool.{Bool, cond}
 use Rattle.rulebook.specs.Words.{field}
 use Rattle.rulebook.specs.Expressions.{holds, deepest}
@@ -9,18 +8,6 @@ use borrow.Author.Needs.{needs}
 use Rattle.evaluation.proofs.result.Statement.{statement}
 use Rattle.evaluation.proofs.result.Tie as tie
 
-rule-word-requires : tie.Need-rule-word-requires
-rule-word-requires c κs = search needs
-
-rule-expression-requires : tie.Need-rule-expression-requires
-rule-expression-requires c κs = search needs
-
-holds-requires : tie.Need-holds-requires
-holds-requires c κs = search needs
-
-raised-requires : tie.Need-raised-requires
-raised-requires c κs = search needs
-
 returns : tie.Need-returns
 unfolding resultIn
 returns c = c .raised .ensures ∙ ap (λ (b : Bool). cond b 1 0) (c .before .holds .ensures ∙ ap (holds deepest (c .before .before .before .before .before .before .args .t .now) (valueIn (c .before .before .before .before .before .before .args .s .now))) (c .before .before .rule-expression .ensures .value ∙ ap (field 7 9) (c .before .before .before .rule-word .ensures)))
@@ -28,4 +15,4 @@ returns c = c .raised .ensures ∙ ap (λ (b : Bool). cond b 1 0) (c .before .ho
 pub result-spec : {M : Type 1} → statement M
 result-spec =
     tie.close
-    (tie.spec rule-word-requires rule-expression-requires holds-requires raised-requires returns)
+    (tie.spec (λ c κs. search needs) (λ c κs. search needs) (λ c κs. search needs) (λ c κs. search needs) returns)

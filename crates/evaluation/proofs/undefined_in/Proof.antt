@@ -8,15 +8,9 @@ use Rattle.rulebook.specs.Lists.{undefinedIn}
 use Rattle.evaluation.proofs.undefined_in.Statement.{statement}
 use Rattle.evaluation.proofs.undefined_in.Tie as tie
 
-word-requires : tie.Need-word-requires
-word-requires c κs = search needs
-
-defined-requires : tie.Need-defined-requires
-defined-requires c κs = search needs
-
 returns : tie.Need-returns
 unfolding undefinedIn
 returns c = ap (λ (n : ℕ). eqb n 0) (c .defined .ensures .value ∙ ap definedOf (c .before .word .ensures))
 
 pub undefined-in-spec : {M : Type 1} → statement M
-undefined-in-spec = tie.close (tie.spec word-requires defined-requires returns)
+undefined-in-spec = tie.close (tie.spec (λ c κs. search needs) (λ c κs. search needs) returns)

@@ -1,6 +1,5 @@
 -- `evaluation::unready` meets its contract: the mention test of its expression. Assumes nothing.
 use mathlib.Core.Path.{ap, _∙_}
-use Prim.Native.Nat.{ℕ}
 use Rattle.rulebook.specs.Words.{field}
 use Rattle.rulebook.specs.Expressions.{mentions, deepest}
 use Rattle.rulebook.specs.Lists.{undefinedIn, unready}
@@ -9,9 +8,6 @@ use Rattle.evaluation.proofs.unready.Tie as tie
 
 rule-word-requires : tie.Need-rule-word-requires
 rule-word-requires c κs = c .before .before .pre
-
-rule-expression-requires : tie.Need-rule-expression-requires
-rule-expression-requires c κs = tt
 
 mentions-undefined-requires : tie.Need-mentions-undefined-requires
 mentions-undefined-requires c κs = c .before .before .before .before .pre .expression0
@@ -23,4 +19,4 @@ returns c = c .mentions-undefined .ensures ∙ ap (mentions deepest (c .before .
 pub unready-spec : {M : Type 1} → statement M
 unready-spec =
     tie.close
-    (tie.spec rule-word-requires rule-expression-requires mentions-undefined-requires returns)
+    (tie.spec rule-word-requires (λ c κs. tt) mentions-undefined-requires returns)

@@ -6,15 +6,9 @@ use Rattle.rulebook.specs.Lists.{valueIn}
 use Rattle.evaluation.proofs.value_in.Statement.{statement}
 use Rattle.evaluation.proofs.value_in.Tie as tie
 
-word-requires : tie.Need-word-requires
-word-requires c κs = search needs
-
-value-requires : tie.Need-value-requires
-value-requires c κs = search needs
-
 returns : tie.Need-returns
 unfolding valueIn
 returns c = c .value .ensures .value ∙ ap valueOf (c .before .word .ensures)
 
 pub value-in-spec : {M : Type 1} → statement M
-value-in-spec = tie.close (tie.spec word-requires value-requires returns)
+value-in-spec = tie.close (tie.spec (λ c κs. search needs) (λ c κs. search needs) returns)

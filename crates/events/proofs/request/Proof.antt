@@ -4,23 +4,11 @@ use borrow.Author.Needs.{needs}
 use Rattle.events.proofs.request.Statement.{statement}
 use Rattle.events.proofs.request.Tie as tie
 
-request-port-requires : tie.Need-request-port-requires
-request-port-requires c κs = search needs
-
 arbitrate-one-requires : tie.Need-arbitrate-one-requires
 arbitrate-one-requires c κs = (c .before .before .before .before .before .before .before .before .before .before .pre .0, c .before .before .before .before .before .before .before .before .before .before .pre .1, c .before .before .before .before .before .before .before .before .before .before .pre .2, rw (request-now _ _ _ _ _ _ (c .before .before .before .before .before .request-port .ensures) (c .before .before .if1 .taken)) at (c .before .before .before .before .before .before .before .before .before .before .pre .3))
 
-same-length : tie.Need-same-length
-same-length c = search needs
-
-same-length-2 : tie.Need-same-length-2
-same-length-2 c = search needs
-
 returns : tie.Need-returns
 returns c = rw (request-now _ _ _ _ _ _ (c .before .before .before .before .before .before .before .before .before .before .request-port .ensures) (c .before .before .before .before .before .before .before .if1 .taken)) (c .before .before .before .before .arbitrate-one .ensures)
-
-same-length-3 : tie.Need-same-length-3
-same-length-3 c = search needs
 
 returns-2 : tie.Need-returns-2
 returns-2 c = rw (request-late _ _ _ _ _ _ (c .before .before .before .request-port .ensures) (c .if1 .left)) (ran-start _ _)
@@ -29,10 +17,10 @@ pub request-spec : {M : Type 1} → statement M
 request-spec =
     tie.close
     (tie.spec
-    request-port-requires
+    (λ c κs. search needs)
     arbitrate-one-requires
-    same-length
-    same-length-2
+    (λ c. search needs)
+    (λ c. search needs)
     returns
-    same-length-3
+    (λ c. search needs)
     returns-2)

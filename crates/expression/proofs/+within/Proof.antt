@@ -1,10 +1,8 @@
 -- `expression::within` meets its contract: one level by the laws of `Level`, the arguments by its own calls. The measure is the levels left.
 -- Assumes nothing.
-use mathlib.Core.Path.{_≡_, _∙_}
-use mathlib.Core.Bool.{true, false}
+use mathlib.Core.Path.{_∙_}
 use mathlib.Core.Path.{sym}
 use native.Mathlib.Omega.{arith}
-use borrow.Author.Tests.{eq-eqb, ne-eqb}
 use Rattle.rulebook.specs.Expressions.{expressionWithin}
 use Rattle.expression.proofs.Level.{within-condition, within-left-fails, within-not, within-right}
 use Prim.Native.Nat.{ℕ, _<_}

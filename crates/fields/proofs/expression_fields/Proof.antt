@@ -5,21 +5,6 @@ use borrow.Author.Needs.{needs}
 use Rattle.fields.proofs.expression_fields.Statement.{statement}
 use Rattle.fields.proofs.expression_fields.Tie as tie
 
-expression-word-requires : tie.Need-expression-word-requires
-expression-word-requires c κs = search needs
-
-expression-kind-requires : tie.Need-expression-kind-requires
-expression-kind-requires c κs = search needs
-
-condition-value-requires : tie.Need-condition-value-requires
-condition-value-requires c κs = search needs
-
-condition-zero-requires : tie.Need-condition-zero-requires
-condition-zero-requires c κs = search needs
-
-right-requires : tie.Need-right-requires
-right-requires c κs = search needs
-
 returns : tie.Need-returns
 unfolding ownFields expressionFields operator
 returns c = rw (c .before .before .before .expression-kind .ensures .value, c .before .before .condition-value .ensures .value, c .before .condition-zero .ensures .value, c .right .ensures .value, c .before .before .before .before .expression-word .ensures)
@@ -28,9 +13,9 @@ pub expression-fields-spec : {M : Type 1} → statement M
 expression-fields-spec =
     tie.close
     (tie.spec
-    expression-word-requires
-    expression-kind-requires
-    condition-value-requires
-    condition-zero-requires
-    right-requires
+    (λ c κs. search needs)
+    (λ c κs. search needs)
+    (λ c κs. search needs)
+    (λ c κs. search needs)
+    (λ c κs. search needs)
     returns)

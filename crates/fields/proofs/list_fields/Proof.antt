@@ -4,15 +4,9 @@ use borrow.Author.Needs.{needs}
 use Rattle.fields.proofs.list_fields.Statement.{statement}
 use Rattle.fields.proofs.list_fields.Tie as tie
 
-list-word-requires : tie.Need-list-word-requires
-list-word-requires c κs = search needs
-
-item-count-requires : tie.Need-item-count-requires
-item-count-requires c κs = search needs
-
 returns : tie.Need-returns
 unfolding ownFields
 returns c = rw (c .item-count .ensures .value, c .before .list-word .ensures)
 
 pub list-fields-spec : {M : Type 1} → statement M
-list-fields-spec = tie.close (tie.spec list-word-requires item-count-requires returns)
+list-fields-spec = tie.close (tie.spec (λ c κs. search needs) (λ c κs. search needs) returns)

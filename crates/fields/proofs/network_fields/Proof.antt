@@ -4,15 +4,9 @@ use borrow.Author.Needs.{needs}
 use Rattle.fields.proofs.network_fields.Statement.{statement}
 use Rattle.fields.proofs.network_fields.Tie as tie
 
-network-word-requires : tie.Need-network-word-requires
-network-word-requires c κs = search needs
-
-network-zero-requires : tie.Need-network-zero-requires
-network-zero-requires c κs = search needs
-
 returns : tie.Need-returns
 unfolding ownFields
 returns c = rw (c .network-zero .ensures .value, c .before .network-word .ensures)
 
 pub network-fields-spec : {M : Type 1} → statement M
-network-fields-spec = tie.close (tie.spec network-word-requires network-zero-requires returns)
+network-fields-spec = tie.close (tie.spec (λ c κs. search needs) (λ c κs. search needs) returns)

@@ -4,15 +4,9 @@ use borrow.Author.Needs.{needs}
 use Rattle.fields.proofs.rule_fields.Statement.{statement}
 use Rattle.fields.proofs.rule_fields.Tie as tie
 
-rule-word-requires : tie.Need-rule-word-requires
-rule-word-requires c κs = search needs
-
-first-result-requires : tie.Need-first-result-requires
-first-result-requires c κs = search needs
-
 returns : tie.Need-returns
 unfolding ownFields
 returns c = rw (c .first-result .ensures .value, c .before .rule-word .ensures)
 
 pub rule-fields-spec : {M : Type 1} → statement M
-rule-fields-spec = tie.close (tie.spec rule-word-requires first-result-requires returns)
+rule-fields-spec = tie.close (tie.spec (λ c κs. search needs) (λ c κs. search needs) returns)

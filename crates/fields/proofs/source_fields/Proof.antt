@@ -4,15 +4,9 @@ use borrow.Author.Needs.{needs}
 use Rattle.fields.proofs.source_fields.Statement.{statement}
 use Rattle.fields.proofs.source_fields.Tie as tie
 
-source-word-requires : tie.Need-source-word-requires
-source-word-requires c κs = search needs
-
-source-zero-requires : tie.Need-source-zero-requires
-source-zero-requires c κs = search needs
-
 returns : tie.Need-returns
 unfolding ownFields
 returns c = rw (c .source-zero .ensures .value, c .before .source-word .ensures)
 
 pub source-fields-spec : {M : Type 1} → statement M
-source-fields-spec = tie.close (tie.spec source-word-requires source-zero-requires returns)
+source-fields-spec = tie.close (tie.spec (λ c κs. search needs) (λ c κs. search needs) returns)

@@ -4,18 +4,6 @@ use borrow.Author.Needs.{needs}
 use Rattle.fields.proofs.waits_fields.Statement.{statement}
 use Rattle.fields.proofs.waits_fields.Tie as tie
 
-waits-word-requires : tie.Need-waits-word-requires
-waits-word-requires c κs = search needs
-
-l1-requires : tie.Need-l1-requires
-l1-requires c κs = search needs
-
-l2-requires : tie.Need-l2-requires
-l2-requires c κs = search needs
-
-e-ticks-requires : tie.Need-e-ticks-requires
-e-ticks-requires c κs = search needs
-
 returns : tie.Need-returns
 unfolding ownFields
 returns c = rw (c .before .before .l1 .ensures .value, c .before .l2 .ensures .value, c .e-ticks .ensures .value, c .before .before .before .waits-word .ensures)
@@ -23,4 +11,4 @@ returns c = rw (c .before .before .l1 .ensures .value, c .before .l2 .ensures .v
 pub waits-fields-spec : {M : Type 1} → statement M
 waits-fields-spec =
     tie.close
-    (tie.spec waits-word-requires l1-requires l2-requires e-ticks-requires returns)
+    (tie.spec (λ c κs. search needs) (λ c κs. search needs) (λ c κs. search needs) (λ c κs. search needs) returns)

@@ -4,16 +4,10 @@ use borrow.Author.Needs.{needs}
 use Rattle.gateway.proofs.herringcart_check_table.Statement.{statement}
 use Rattle.gateway.proofs.herringcart_check_table.Tie as tie
 
-check-table-requires : tie.Need-check-table-requires
-check-table-requires c κs = search needs
-
-numbers-requires : tie.Need-numbers-requires
-numbers-requires c κs = search needs
-
 returns : tie.Need-returns
 returns c =
     let said = c .numbers .ensures in let is = c .before .check-table .ensures in
     (said .0 ∙ is .0, said .1 ∙ is .1, said .2 ∙ is .2)
 
 pub herringcart-check-table-spec : {M : Type 1} → statement M
-herringcart-check-table-spec = tie.close (tie.spec check-table-requires numbers-requires returns)
+herringcart-check-table-spec = tie.close (tie.spec (λ c κs. search needs) (λ c κs. search needs) returns)

@@ -16,9 +16,6 @@ abbrev μ-loop : tie.MeasureT-loop
 loop-holds : tie.Need-loop-holds Inv-loop μ-loop
 loop-holds c = (omega arith, refl)
 
-read-some-requires : tie.Need-read-some-requires Inv-loop μ-loop
-read-some-requires c κs = omega arith
-
 same-length : tie.Need-same-length Inv-loop μ-loop
 same-length c = c .before .before .before .read-some .kept .1 .0 ∙ c .before .before .before .before .before .before .loop .inv .1
 
@@ -47,7 +44,7 @@ fill-spec =
     Inv-loop
     μ-loop
     loop-holds
-    read-some-requires
+    (λ c κs. omega arith)
     same-length
     returns
     add-bytes

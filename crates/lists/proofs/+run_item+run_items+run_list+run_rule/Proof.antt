@@ -1,13 +1,13 @@
 -- The cycle of lists, items and rules meets its contracts. Each call along the trace is a law of `Cycle`; the loop over items keeps `Along`.
 -- A list stands above its items, an item above its rule, a rule above the list that it starts, and each list has a level less: hence the
 -- measures 4 * levels, and 4 * below + 3, + 2, + 1. Assumes nothing.
-use Prim.Native.Nat.{_+_, _-_, _*_, _≤_}
+use Prim.Native.Nat.{_+_, _-_, _*_}
 use mathlib.Core.Path.{_≡_, refl, sym, _∙_}
 use native.Mathlib.Omega.{arith}
 use borrow.Author.Needs.{needs}
 use borrow.Rule.Slice.PartMut.{putMid}
 use lib.ListN.{length}
-use Rattle.rulebook.specs.Lists.{start, runItem, runRule, runList}
+use Rattle.rulebook.specs.Lists.{start, runRule, runList}
 use Rattle.laws.proofs.Frame.{list-framed}
 use Rattle.lists.specs.Runs.{itemsFrom}
 use Rattle.lists.proofs.Along.{Along, along-none}

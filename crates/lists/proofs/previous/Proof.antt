@@ -7,20 +7,8 @@ use borrow.Author.Needs.{needs}
 use Rattle.lists.proofs.previous.Statement.{statement}
 use Rattle.lists.proofs.previous.Tie as tie
 
-cast-word : tie.Need-cast-word
-cast-word c = search needs
-
-add-word : tie.Need-add-word
-add-word c = search needs
-
-word-requires : tie.Need-word-requires
-word-requires c κs = search needs
-
-result-requires : tie.Need-result-requires
-result-requires c κs = search needs
-
 returns : tie.Need-returns
 returns c = c .result .ensures .value ∙ ap resultOf (c .before .word .ensures ∙ ap (λ (n : ℕ). word (c .before .before .before .before .before .args .s .now) (n + c .before .before .before .before .before .args .r)) (c .before .before .before .before .before .pre .ports .value))
 
 pub previous-spec : {M : Type 1} → statement M
-previous-spec = tie.close (tie.spec cast-word add-word word-requires result-requires returns)
+previous-spec = tie.close (tie.spec (λ c. search needs) (λ c. search needs) (λ c κs. search needs) (λ c κs. search needs) returns)

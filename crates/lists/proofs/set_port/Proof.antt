@@ -6,18 +6,9 @@ use borrow.Author.Needs.{needs}
 use Rattle.lists.proofs.set_port.Statement.{statement}
 use Rattle.lists.proofs.set_port.Tie as tie
 
-pack-port-requires : tie.Need-pack-port-requires
-pack-port-requires c κs = search needs
-
-put-requires : tie.Need-put-requires
-put-requires c κs = search needs
-
-same-length : tie.Need-same-length
-same-length c = search needs
-
 returns : tie.Need-returns
 unfolding setPort
 returns c = c .before .before .put .ensures ∙ ap (set (c .before .before .before .before .before .before .args .s .now) (c .before .before .before .before .before .before .args .p)) (c .before .before .before .pack-port .ensures)
 
 pub set-port-spec : {M : Type 1} → statement M
-set-port-spec = tie.close (tie.spec pack-port-requires put-requires same-length returns)
+set-port-spec = tie.close (tie.spec (λ c κs. search needs) (λ c κs. search needs) (λ c. search needs) returns)

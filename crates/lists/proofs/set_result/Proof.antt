@@ -7,25 +7,10 @@ use borrow.Author.Needs.{needs}
 use Rattle.lists.proofs.set_result.Statement.{statement}
 use Rattle.lists.proofs.set_result.Tie as tie
 
-cast-put : tie.Need-cast-put
-cast-put c = search needs
-
-add-put : tie.Need-add-put
-add-put c = search needs
-
-pack-rule-requires : tie.Need-pack-rule-requires
-pack-rule-requires c κs = search needs
-
-put-requires : tie.Need-put-requires
-put-requires c κs = search needs
-
-same-length : tie.Need-same-length
-same-length c = search needs
-
 returns : tie.Need-returns
 unfolding setResult
 returns c = c .before .before .put .ensures ∙ ap₂ (set (c .before .before .before .before .before .before .before .before .args .s .now)) (ap (λ (n : ℕ). n + c .before .before .before .before .before .before .before .before .args .r) (c .before .before .before .before .before .before .before .before .pre .ports .value)) (c .before .before .before .pack-rule .ensures)
 
 pub set-result-spec : {M : Type 1} → statement M
 set-result-spec =
-    tie.close (tie.spec cast-put add-put pack-rule-requires put-requires same-length returns)
+    tie.close (tie.spec (λ c. search needs) (λ c. search needs) (λ c κs. search needs) (λ c κs. search needs) (λ c. search needs) returns)

@@ -6,17 +6,8 @@ use borrow.Author.Needs.{needs}
 use Rattle.manager.proofs.check_state.Statement.{statement}
 use Rattle.manager.proofs.check_state.Tie as tie
 
-check-requires : tie.Need-check-requires
-check-requires c κs = search needs
-
-enum-told : tie.Need-enum-told
-enum-told c = search needs
-
 returns : tie.Need-returns
 returns c = bad-table _ _ (is-refused _ (c .before .check .result) (c .match .keys2) (c .before .check .ensures))
-
-fits-requires : tie.Need-fits-requires
-fits-requires c κs = search needs
 
 returns-2 : tie.Need-returns-2
 returns-2 c = fit _ _ (is-accepted _ _ _ (c .before .before .enum-told .given .1) (c .before .before .before .before .check .ensures)) (sym (c .before .fits2 .ensures) ∙ c .if1 .taken)
@@ -26,4 +17,4 @@ returns-3 c = unfit _ _ (is-accepted _ _ _ (c .before .before .enum-told .given 
 
 pub check-state-spec : {M : Type 1} → statement M
 check-state-spec =
-    tie.close (tie.spec check-requires enum-told returns fits-requires returns-2 returns-3)
+    tie.close (tie.spec (λ c κs. search needs) (λ c. search needs) returns (λ c κs. search needs) returns-2 returns-3)

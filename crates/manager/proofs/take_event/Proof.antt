@@ -7,62 +7,17 @@ use borrow.Author.Needs.{needs}
 use Rattle.manager.proofs.take_event.Statement.{statement}
 use Rattle.manager.proofs.take_event.Tie as tie
 
-check-requires : tie.Need-check-requires
-check-requires c κs = search needs
-
-enum-known-checked : tie.Need-enum-known-checked
-enum-known-checked c = search needs
-
 returns : tie.Need-returns
 returns c = bad-table _ _ _ _ (is-refused _ (c .before .check .result) (c .match .keys2) (c .before .check .ensures))
-
-fits-requires : tie.Need-fits-requires
-fits-requires c κs = search needs
-
-told-requires : tie.Need-told-requires
-told-requires c κs = search needs
-
-enum-told : tie.Need-enum-told
-enum-told c = search needs
-
-enum-told-2 : tie.Need-enum-told-2
-enum-told-2 c = search needs
-
-same-length : tie.Need-same-length
-same-length c = search needs
 
 returns-2 : tie.Need-returns-2
 returns-2 c = unfit-state _ _ _ _ (is-accepted _ _ _ (c .before .before .before .before .before .before .checked .given .1) (c .before .before .before .before .before .before .before .before .check .ensures)) (sym (c .before .before .before .fits2 .ensures) ∙ sym (c .before .before .told .ensures) ∙ ap passes (c .enum-told2 .given .1))
 
-cast-told : tie.Need-cast-told
-cast-told c = search needs
-
-told-requires-2 : tie.Need-told-requires-2
-told-requires-2 c κs = search needs
-
-enum-told-3 : tie.Need-enum-told-3
-enum-told-3 c = search needs
-
-enum-told-4 : tie.Need-enum-told-4
-enum-told-4 c = search needs
-
-same-length-2 : tie.Need-same-length-2
-same-length-2 c = search needs
-
 returns-3 : tie.Need-returns-3
 returns-3 c = short-trace _ _ _ _ _ (told-bound _ _ _ (c .before .before .before .before .before .before .before .before .before .checked .given .1) (c .before .before .before .before .before .before .before .before .before .before .before .check .ensures) (is-accepted _ _ _ (c .before .before .before .before .before .before .before .before .before .checked .given .1) (c .before .before .before .before .before .before .before .before .before .before .before .check .ensures))) (is-accepted _ _ _ (c .before .before .before .before .before .before .before .before .before .checked .given .1) (c .before .before .before .before .before .before .before .before .before .before .before .check .ensures)) (sym (c .before .before .before .before .before .before .fits2 .ensures) ∙ sym (c .before .before .before .before .before .told .ensures) ∙ ap passes (c .before .before .before .enum-told .given .1)) (sym (c .before .before .told2 .ensures) ∙ ap passes (c .enum-told4 .given .1))
 
-read-layout-requires : tie.Need-read-layout-requires
-read-layout-requires c κs = search needs
-
 handle-requires : tie.Need-handle-requires
 handle-requires c κs = (c .before .before .read-layout .ensures, few-rules _ _ (is-accepted _ _ _ (c .before .before .before .before .before .before .before .before .before .before .before .before .checked .given .1) (c .before .before .before .before .before .before .before .before .before .before .before .before .before .before .check .ensures)) (c .before .before .read-layout .ensures .rules .value), safe _ _ _ _ _ (told-bound _ _ _ (c .before .before .before .before .before .before .before .before .before .before .before .before .checked .given .1) (c .before .before .before .before .before .before .before .before .before .before .before .before .before .before .check .ensures) (is-accepted _ _ _ (c .before .before .before .before .before .before .before .before .before .before .before .before .checked .given .1) (c .before .before .before .before .before .before .before .before .before .before .before .before .before .before .check .ensures))) (is-accepted _ _ _ (c .before .before .before .before .before .before .before .before .before .before .before .before .checked .given .1) (c .before .before .before .before .before .before .before .before .before .before .before .before .before .before .check .ensures)) (sym (c .before .before .before .before .before .told2 .ensures) ∙ ap passes (c .before .before .before .enum-told3 .given .1)))
-
-same-length-3 : tie.Need-same-length-3
-same-length-3 c = search needs
-
-same-length-4 : tie.Need-same-length-4
-same-length-4 c = search needs
 
 returns-4 : tie.Need-returns-4
 returns-4 c = rw (goes-on _ _ _ _ _ (told-bound _ _ _ (c .before .before .before .before .before .before .before .before .before .before .before .before .before .before .before .before .before .checked .given .1) (c .before .before .before .before .before .before .before .before .before .before .before .before .before .before .before .before .before .before .before .check .ensures) (is-accepted _ _ _ (c .before .before .before .before .before .before .before .before .before .before .before .before .before .before .before .before .before .checked .given .1) (c .before .before .before .before .before .before .before .before .before .before .before .before .before .before .before .before .before .before .before .check .ensures))) (is-accepted _ _ _ (c .before .before .before .before .before .before .before .before .before .before .before .before .before .before .before .before .before .checked .given .1) (c .before .before .before .before .before .before .before .before .before .before .before .before .before .before .before .before .before .before .before .check .ensures)) (sym (c .before .before .before .before .before .before .before .before .before .before .before .before .before .before .fits2 .ensures) ∙ sym (c .before .before .before .before .before .before .before .before .before .before .before .before .before .told .ensures) ∙ ap passes (c .before .before .before .before .before .before .before .before .before .before .before .enum-told .given .1)) (sym (c .before .before .before .before .before .before .before .before .before .before .told2 .ensures) ∙ ap passes (c .before .before .before .before .before .before .before .before .enum-told3 .given .1))) (c .before .before .before .before .handle .ensures)
@@ -71,23 +26,23 @@ pub take-event-spec : {M : Type 1} → statement M
 take-event-spec =
     tie.close
     (tie.spec
-    check-requires
-    enum-known-checked
+    (λ c κs. search needs)
+    (λ c. search needs)
     returns
-    fits-requires
-    told-requires
-    enum-told
-    enum-told-2
-    same-length
+    (λ c κs. search needs)
+    (λ c κs. search needs)
+    (λ c. search needs)
+    (λ c. search needs)
+    (λ c. search needs)
     returns-2
-    cast-told
-    told-requires-2
-    enum-told-3
-    enum-told-4
-    same-length-2
+    (λ c. search needs)
+    (λ c κs. search needs)
+    (λ c. search needs)
+    (λ c. search needs)
+    (λ c. search needs)
     returns-3
-    read-layout-requires
+    (λ c κs. search needs)
     handle-requires
-    same-length-3
-    same-length-4
+    (λ c. search needs)
+    (λ c. search needs)
     returns-4)

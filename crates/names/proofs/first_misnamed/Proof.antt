@@ -24,12 +24,6 @@ part-at-requires c κs = (c .before .before .before .pre .0, c .if1 .left)
 names-requires : tie.Need-names-requires Inv-loop μ-loop
 names-requires c κs = c .before .before .before .before .pre .0
 
-add-i : tie.Need-add-i Inv-loop μ-loop
-add-i c = omega arith
-
-loop-less : tie.Need-loop-less Inv-loop μ-loop
-loop-less c = omega arith
-
 loop-again : tie.Need-loop-again Inv-loop μ-loop
 loop-again c = (omega arith, c .before .before .before .before .loop .inv .1 ∙ scan-turn names _ _ _ _ (c .before .before .before .if1 .left) (c .before .names .ensures ∙ ap (names (c .before .before .before .before .before .before .args .t .now)) (c .before .before .part-at .ensures)) (c .if2 .left))
 
@@ -48,8 +42,8 @@ first-misnamed-spec =
     loop-holds
     part-at-requires
     names-requires
-    add-i
-    loop-less
+    (λ c. omega arith)
+    (λ c. omega arith)
     loop-again
     returns
     returns-2)

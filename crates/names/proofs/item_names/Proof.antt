@@ -17,23 +17,8 @@ call-names t i w k hw hk e =
     let z : itemKind t i ≡ 0 = sym (hk ∙ ap (field 0 4) hw) ∙ e in
     rw z
 
-item-word-requires : tie.Need-item-word-requires
-item-word-requires c κs = search needs
-
-item-kind-requires : tie.Need-item-kind-requires
-item-kind-requires c κs = search needs
-
 returns : tie.Need-returns
 returns c = call-names _ _ _ _ (c .before .before .item-word .ensures) (c .before .item-kind .ensures .value) (c .if1 .taken)
-
-item-a-requires : tie.Need-item-a-requires
-item-a-requires c κs = search needs
-
-port-word-requires : tie.Need-port-word-requires
-port-word-requires c κs = search needs
-
-port-kind-requires : tie.Need-port-kind-requires
-port-kind-requires c κs = search needs
 
 returns-2 : tie.Need-returns-2
 unfolding names itemNames portOfKind
@@ -43,10 +28,10 @@ pub item-names-spec : {M : Type 1} → statement M
 item-names-spec =
     tie.close
     (tie.spec
-    item-word-requires
-    item-kind-requires
+    (λ c κs. search needs)
+    (λ c κs. search needs)
     returns
-    item-a-requires
-    port-word-requires
-    port-kind-requires
+    (λ c κs. search needs)
+    (λ c κs. search needs)
+    (λ c κs. search needs)
     returns-2)

@@ -4,18 +4,6 @@ use borrow.Author.Needs.{needs}
 use Rattle.names.proofs.may_show.Statement.{statement}
 use Rattle.names.proofs.may_show.Tie as tie
 
-port-word-requires : tie.Need-port-word-requires
-port-word-requires c κs = search needs
-
-port-kind-requires : tie.Need-port-kind-requires
-port-kind-requires c κs = search needs
-
-port-deferred-requires : tie.Need-port-deferred-requires
-port-deferred-requires c κs = search needs
-
-port-has-initial-requires : tie.Need-port-has-initial-requires
-port-has-initial-requires c κs = search needs
-
 returns : tie.Need-returns
 unfolding mayShow
 returns c = rw (c .before .before .port-kind .ensures .value, c .before .port-deferred .ensures .value, c .port-has-initial .ensures .value, c .before .before .before .before .before .pre .ports .value, c .before .before .before .port-word .ensures)
@@ -24,8 +12,8 @@ pub may-show-spec : {M : Type 1} → statement M
 may-show-spec =
     tie.close
     (tie.spec
-    port-word-requires
-    port-kind-requires
-    port-deferred-requires
-    port-has-initial-requires
+    (λ c κs. search needs)
+    (λ c κs. search needs)
+    (λ c κs. search needs)
+    (λ c κs. search needs)
     returns)

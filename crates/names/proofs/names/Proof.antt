@@ -4,51 +4,6 @@ use borrow.Author.Needs.{needs}
 use Rattle.names.proofs.names.Statement.{statement}
 use Rattle.names.proofs.names.Tie as tie
 
-enum-told : tie.Need-enum-told
-enum-told c = search needs
-
-enum-told-2 : tie.Need-enum-told-2
-enum-told-2 c = search needs
-
-enum-known-part : tie.Need-enum-known-part
-enum-known-part c = search needs
-
-network-names-requires : tie.Need-network-names-requires
-network-names-requires c κs = search needs
-
-enum-told-3 : tie.Need-enum-told-3
-enum-told-3 c = search needs
-
-enum-known-part-2 : tie.Need-enum-known-part-2
-enum-known-part-2 c = search needs
-
-source-names-requires : tie.Need-source-names-requires
-source-names-requires c κs = search needs
-
-enum-known-part-3 : tie.Need-enum-known-part-3
-enum-known-part-3 c = search needs
-
-expression-names-requires : tie.Need-expression-names-requires
-expression-names-requires c κs = search needs
-
-enum-known-part-4 : tie.Need-enum-known-part-4
-enum-known-part-4 c = search needs
-
-rule-names-requires : tie.Need-rule-names-requires
-rule-names-requires c κs = search needs
-
-enum-known-part-5 : tie.Need-enum-known-part-5
-enum-known-part-5 c = search needs
-
-list-names-requires : tie.Need-list-names-requires
-list-names-requires c κs = search needs
-
-enum-known-part-6 : tie.Need-enum-known-part-6
-enum-known-part-6 c = search needs
-
-item-names-requires : tie.Need-item-names-requires
-item-names-requires c κs = search needs
-
 returns : tie.Need-returns
 unfolding names
 returns c = rw (c .enum-told .given .1)
@@ -83,21 +38,21 @@ pub names-spec : {M : Type 1} → statement M
 names-spec =
     tie.close
     (tie.spec
-    enum-told
-    enum-told-2
-    enum-known-part
-    network-names-requires
-    enum-told-3
-    enum-known-part-2
-    source-names-requires
-    enum-known-part-3
-    expression-names-requires
-    enum-known-part-4
-    rule-names-requires
-    enum-known-part-5
-    list-names-requires
-    enum-known-part-6
-    item-names-requires
+    (λ c. search needs)
+    (λ c. search needs)
+    (λ c. search needs)
+    (λ c κs. search needs)
+    (λ c. search needs)
+    (λ c. search needs)
+    (λ c κs. search needs)
+    (λ c. search needs)
+    (λ c κs. search needs)
+    (λ c. search needs)
+    (λ c κs. search needs)
+    (λ c. search needs)
+    (λ c κs. search needs)
+    (λ c. search needs)
+    (λ c κs. search needs)
     returns
     returns-2
     returns-3

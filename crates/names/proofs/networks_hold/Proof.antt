@@ -23,17 +23,8 @@ loop-holds c = (omega arith, rw sub-zero)
 network-word-requires : tie.Need-network-word-requires Inv-loop μ-loop
 network-word-requires c κs = c .before .before .before .pre
 
-network-port-requires : tie.Need-network-port-requires Inv-loop μ-loop
-network-port-requires c κs = tt
-
 returns : tie.Need-returns Inv-loop μ-loop
 returns c = sym (c .before .before .before .before .loop .inv .1 ∙ any-here _ _ (networkHas (c .before .before .before .before .before .before .args .t .now) (c .before .before .before .before .before .before .args .p)) (c .before .before .before .loop-test .taken) (network-has _ _ _ _ _ (c .before .before .network-word .ensures) (c .before .network-port .ensures .value) ∙ eq-eqb _ _ (c .if1 .taken)))
-
-add-i : tie.Need-add-i Inv-loop μ-loop
-add-i c = omega arith
-
-loop-less : tie.Need-loop-less Inv-loop μ-loop
-loop-less c = omega arith
 
 loop-again : tie.Need-loop-again Inv-loop μ-loop
 loop-again c = (omega arith, c .before .before .before .before .loop .inv .1 ∙ any-turn _ _ (networkHas (c .before .before .before .before .before .before .args .t .now) (c .before .before .before .before .before .before .args .p)) (c .before .before .before .loop-test .taken) (network-has _ _ _ _ _ (c .before .before .network-word .ensures) (c .before .network-port .ensures .value) ∙ ne-eqb _ _ (c .if1 .left)))
@@ -49,9 +40,9 @@ networks-hold-spec =
     μ-loop
     loop-holds
     network-word-requires
-    network-port-requires
+    (λ c κs. tt)
     returns
-    add-i
-    loop-less
+    (λ c. omega arith)
+    (λ c. omega arith)
     loop-again
     returns-2)

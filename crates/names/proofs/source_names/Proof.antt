@@ -4,18 +4,6 @@ use borrow.Author.Needs.{needs}
 use Rattle.names.proofs.source_names.Statement.{statement}
 use Rattle.names.proofs.source_names.Tie as tie
 
-source-word-requires : tie.Need-source-word-requires
-source-word-requires c κs = search needs
-
-source-port-requires : tie.Need-source-port-requires
-source-port-requires c κs = search needs
-
-may-show-requires : tie.Need-may-show-requires
-may-show-requires c κs = search needs
-
-held-requires : tie.Need-held-requires
-held-requires c κs = search needs
-
 returns : tie.Need-returns
 unfolding names
 returns c = rw (c .before .may-show .ensures, c .held .ensures, c .before .before .source-port .ensures .value, c .before .before .before .before .before .pre .networks .value, c .before .before .before .source-word .ensures)
@@ -23,4 +11,4 @@ returns c = rw (c .before .may-show .ensures, c .held .ensures, c .before .befor
 pub source-names-spec : {M : Type 1} → statement M
 source-names-spec =
     tie.close
-    (tie.spec source-word-requires source-port-requires may-show-requires held-requires returns)
+    (tie.spec (λ c κs. search needs) (λ c κs. search needs) (λ c κs. search needs) (λ c κs. search needs) returns)

@@ -23,17 +23,8 @@ loop-holds c = (omega arith, rw sub-zero)
 source-word-requires : tie.Need-source-word-requires Inv-loop μ-loop
 source-word-requires c κs = c .before .before .before .pre
 
-source-port-requires : tie.Need-source-port-requires Inv-loop μ-loop
-source-port-requires c κs = tt
-
 returns : tie.Need-returns Inv-loop μ-loop
 returns c = sym (c .before .before .before .before .loop .inv .1 ∙ any-here _ _ (sourceHas (c .before .before .before .before .before .before .args .t .now) (c .before .before .before .before .before .before .args .p)) (c .before .before .before .loop-test .taken) (source-has _ _ _ _ _ (c .before .before .source-word .ensures) (c .before .source-port .ensures .value) ∙ eq-eqb _ _ (c .if1 .taken)))
-
-add-i : tie.Need-add-i Inv-loop μ-loop
-add-i c = omega arith
-
-loop-less : tie.Need-loop-less Inv-loop μ-loop
-loop-less c = omega arith
 
 loop-again : tie.Need-loop-again Inv-loop μ-loop
 loop-again c = (omega arith, c .before .before .before .before .loop .inv .1 ∙ any-turn _ _ (sourceHas (c .before .before .before .before .before .before .args .t .now) (c .before .before .before .before .before .before .args .p)) (c .before .before .before .loop-test .taken) (source-has _ _ _ _ _ (c .before .before .source-word .ensures) (c .before .source-port .ensures .value) ∙ ne-eqb _ _ (c .if1 .left)))
@@ -49,9 +40,9 @@ sources-hold-spec =
     μ-loop
     loop-holds
     source-word-requires
-    source-port-requires
+    (λ c κs. tt)
     returns
-    add-i
-    loop-less
+    (λ c. omega arith)
+    (λ c. omega arith)
     loop-again
     returns-2)

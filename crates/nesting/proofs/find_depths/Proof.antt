@@ -26,12 +26,6 @@ same-length c = c .before .before .before .find-level .ensures .next .long ∙ s
 returns : tie.Need-returns Inv-loop μ-loop
 returns c = let e = c .before .before .before .find-level .ensures in settled _ _ _ (e .none (not-true _ (c .if1 .taken))) (e .next) 7 (omega arith)
 
-add-d : tie.Need-add-d Inv-loop μ-loop
-add-d c = omega arith
-
-loop-less : tie.Need-loop-less Inv-loop μ-loop
-loop-less c = omega arith
-
 loop-again : tie.Need-loop-again Inv-loop μ-loop
 loop-again c = (omega arith, c .before .before .before .find-level .ensures .next)
 
@@ -51,8 +45,8 @@ find-depths-spec =
     find-level-requires
     same-length
     returns
-    add-d
-    loop-less
+    (λ c. omega arith)
+    (λ c. omega arith)
     loop-again
     same-length-2
     returns-2)

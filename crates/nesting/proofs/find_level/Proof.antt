@@ -21,21 +21,6 @@ loop-holds c = (omega arith, round-starts _ _ _ (c .before .before .pre .3), λ 
 next-depth-requires : tie.Need-next-depth-requires Inv-loop μ-loop
 next-depth-requires c κs = (c .before .before .before .before .before .pre .0, c .before .before .before .before .before .pre .2)
 
-cast-put : tie.Need-cast-put Inv-loop μ-loop
-cast-put c = omega arith
-
-put-requires : tie.Need-put-requires Inv-loop μ-loop
-put-requires c κs = tt
-
-add-more : tie.Need-add-more Inv-loop μ-loop
-add-more c = omega arith
-
-add-l : tie.Need-add-l Inv-loop μ-loop
-add-l c = omega arith
-
-loop-less : tie.Need-loop-less Inv-loop μ-loop
-loop-less c = omega arith
-
 loop-again : tie.Need-loop-again Inv-loop μ-loop
 loop-again c = (omega arith, rw (c .before .before .put .ensures) (round-turn _ _ _ _ _ (omega (arith, c .before .before .before .before .before .before .loop-test .taken, c .before .before .before .before .before .before .before .before .before .before .pre .1)) (c .before .before .before .before .before .before .before .loop .inv .1) (c .before .before .before .before .next-depth .ensures)), λ h. rw (c .before .before .put .ensures) (still-none _ _ _ _ _ (omega (arith, c .before .before .before .before .before .before .loop-test .taken, c .before .before .before .before .before .before .before .before .before .before .pre .1)) (c .before .before .before .before .before .before .before .loop .inv .1) (c .before .before .before .before .next-depth .ensures) _ (c .before .before .before .before .before .before .before .loop .inv .2) h))
 
@@ -53,11 +38,11 @@ find-level-spec =
     μ-loop
     loop-holds
     next-depth-requires
-    cast-put
-    put-requires
-    add-more
-    add-l
-    loop-less
+    (λ c. omega arith)
+    (λ c κs. tt)
+    (λ c. omega arith)
+    (λ c. omega arith)
+    (λ c. omega arith)
     loop-again
     same-length
     returns)

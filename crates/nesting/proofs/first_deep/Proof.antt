@@ -24,12 +24,6 @@ part-at-requires c κs = (c .before .before .before .before .pre .0, c .if1 .lef
 nests-requires : tie.Need-nests-requires Inv-loop μ-loop
 nests-requires c κs = (c .before .before .before .before .before .pre .0, c .before .before .before .before .before .pre .2)
 
-add-i : tie.Need-add-i Inv-loop μ-loop
-add-i c = omega arith
-
-loop-less : tie.Need-loop-less Inv-loop μ-loop
-loop-less c = omega arith
-
 loop-again : tie.Need-loop-again Inv-loop μ-loop
 loop-again c = (omega arith, c .before .before .before .before .loop .inv .1 ∙ scan-turn nesting _ _ _ _ (c .before .before .before .if1 .left) (c .before .nests .ensures ∙ ap (nesting (c .before .before .before .before .before .before .before .args .t .now)) (c .before .before .part-at .ensures)) (c .if2 .left))
 
@@ -48,8 +42,8 @@ first-deep-spec =
     loop-holds
     part-at-requires
     nests-requires
-    add-i
-    loop-less
+    (λ c. omega arith)
+    (λ c. omega arith)
     loop-again
     returns
     returns-2)

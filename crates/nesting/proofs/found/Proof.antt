@@ -4,12 +4,9 @@ use borrow.Author.Needs.{needs}
 use Rattle.nesting.proofs.found.Statement.{statement}
 use Rattle.nesting.proofs.found.Tie as tie
 
-word-requires : tie.Need-word-requires
-word-requires c κs = search needs
-
 returns : tie.Need-returns
 unfolding foundBy
 returns c = rw (c .word .ensures)
 
 pub found-spec : {M : Type 1} → statement M
-found-spec = tie.close (tie.spec word-requires returns)
+found-spec = tie.close (tie.spec (λ c κs. search needs) returns)

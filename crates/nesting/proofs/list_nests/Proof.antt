@@ -23,15 +23,6 @@ returns c = list-absent _ _ (c .before .before .before .pre) _ _ (c .if1 .taken)
 list-word-requires : tie.Need-list-word-requires Inv-loop μ-loop
 list-word-requires c κs = c .before .before .before .pre
 
-first-item-requires : tie.Need-first-item-requires Inv-loop μ-loop
-first-item-requires c κs = tt
-
-item-count-requires : tie.Need-item-count-requires Inv-loop μ-loop
-item-count-requires c κs = tt
-
-add-end : tie.Need-add-end Inv-loop μ-loop
-add-end c = omega arith
-
 loop-holds : tie.Need-loop-holds Inv-loop μ-loop
 loop-holds c = (omega arith, rw (whole (c .before .first-item .result) (c .item-count .result)))
 
@@ -40,12 +31,6 @@ item-nests-requires c κs = c .before .before .before .before .before .before .b
 
 returns-2 : tie.Need-returns-2 Inv-loop μ-loop
 returns-2 c = sym (list-present _ _ (c .before .before .before .before .before .before .before .before .before .before .pre) _ _ _ _ _ (c .before .before .before .before .before .before .before .if1 .left) (c .before .before .before .before .before .before .list-word .ensures) (c .before .before .before .before .before .first-item .ensures .value) (c .before .before .before .before .item-count .ensures .value) ∙ c .before .before .before .loop .inv .1 ∙ all-fails _ _ _ (c .before .before .loop-test .taken) (sym (c .before .item-nests .ensures) ∙ not-true _ (c .if2 .taken)))
-
-add-i : tie.Need-add-i Inv-loop μ-loop
-add-i c = omega arith
-
-loop-less : tie.Need-loop-less Inv-loop μ-loop
-loop-less c = omega arith
 
 loop-again : tie.Need-loop-again Inv-loop μ-loop
 loop-again c = (omega arith, c .before .before .before .loop .inv .1 ∙ all-turn _ _ _ (c .before .before .loop-test .taken) (sym (c .before .item-nests .ensures) ∙ not-false _ (c .if2 .left)))
@@ -61,13 +46,13 @@ list-nests-spec =
     μ-loop
     returns
     list-word-requires
-    first-item-requires
-    item-count-requires
-    add-end
+    (λ c κs. tt)
+    (λ c κs. tt)
+    (λ c. omega arith)
     loop-holds
     item-nests-requires
     returns-2
-    add-i
-    loop-less
+    (λ c. omega arith)
+    (λ c. omega arith)
     loop-again
     returns-3)

@@ -4,17 +4,8 @@ use borrow.Author.Needs.{needs}
 use Rattle.nesting.proofs.next_depth.Statement.{statement}
 use Rattle.nesting.proofs.next_depth.Tie as tie
 
-word-requires : tie.Need-word-requires
-word-requires c κs = search needs
-
 returns : tie.Need-returns
 returns c = depth-kept _ _ _ _ _ (c .before .word .ensures) (c .if1 .taken)
-
-list-nests-requires : tie.Need-list-nests-requires
-list-nests-requires c κs = search needs
-
-add-result : tie.Need-add-result
-add-result c = search needs
 
 returns-2 : tie.Need-returns-2
 returns-2 c = depth-found _ _ _ _ _ (c .before .before .before .word .ensures) _ (c .before .list-nests .ensures) (c .before .before .if1 .left) (c .if2 .taken)
@@ -24,4 +15,4 @@ returns-3 c = depth-open _ _ _ _ _ (c .before .before .before .word .ensures) _ 
 
 pub next-depth-spec : {M : Type 1} → statement M
 next-depth-spec =
-    tie.close (tie.spec word-requires returns list-nests-requires add-result returns-2 returns-3)
+    tie.close (tie.spec (λ c κs. search needs) returns (λ c κs. search needs) (λ c. search needs) returns-2 returns-3)

@@ -1,7 +1,6 @@
 -- `owners::clash_before_lists` meets its contract. The loop's invariant: what the whole walk gives is what the rest of it gives. Assumes nothing.
 use Prim.Native.Nat.{_-_, _≤_}
 use mathlib.Core.Path.{_≡_, sym, _∙_}
-use native.Mathlib.Nat.{sub-zero}
 use native.Mathlib.Omega.{arith}
 use Rattle.rulebook.specs.Words.{first}
 use Rattle.rulebook.specs.Table.{listsFrom}
@@ -23,12 +22,6 @@ loop-holds c = (omega arith, same-first (breaks owners (c .before .args .t .now)
 owned-before-lists-requires : tie.Need-owned-before-lists-requires Inv-loop μ-loop
 owned-before-lists-requires c κs = (c .before .before .before .pre, c .if1 .left)
 
-add-i : tie.Need-add-i Inv-loop μ-loop
-add-i c = omega arith
-
-loop-less : tie.Need-loop-less Inv-loop μ-loop
-loop-less c = omega arith
-
 loop-again : tie.Need-loop-again Inv-loop μ-loop
 loop-again c = (omega arith, c .before .before .before .loop .inv .1 ∙ scan-turn owners _ _ _ _ (c .before .before .if1 .left) (c .before .owned-before-lists .ensures) (c .if2 .left))
 
@@ -46,8 +39,8 @@ clash-before-lists-spec =
     μ-loop
     loop-holds
     owned-before-lists-requires
-    add-i
-    loop-less
+    (λ c. omega arith)
+    (λ c. omega arith)
     loop-again
     returns
     returns-2)

@@ -29,26 +29,8 @@ abbrev μ-lists : tie.MeasureT-lists
 lists-holds : tie.Need-lists-holds Inv-loop μ-loop Inv-lists μ-lists
 lists-holds c = (omega arith, same-first (breaks owners (c .before .args .t .now)) (omega arith) (omega arith))
 
-cast-result : tie.Need-cast-result Inv-loop μ-loop Inv-lists μ-lists
-cast-result c = omega arith
-
-add-result : tie.Need-add-result Inv-loop μ-loop Inv-lists μ-lists
-add-result c = omega arith
-
 list-word-requires : tie.Need-list-word-requires Inv-loop μ-loop Inv-lists μ-lists
 list-word-requires c κs = c .before .before .before .pre
-
-list-owner-requires : tie.Need-list-owner-requires Inv-loop μ-loop Inv-lists μ-lists
-list-owner-requires c κs = tt
-
-first-item-requires : tie.Need-first-item-requires Inv-loop μ-loop Inv-lists μ-lists
-first-item-requires c κs = tt
-
-item-count-requires : tie.Need-item-count-requires Inv-loop μ-loop Inv-lists μ-lists
-item-count-requires c κs = tt
-
-add-end : tie.Need-add-end Inv-loop μ-loop Inv-lists μ-lists
-add-end c = omega arith
 
 loop-holds : tie.Need-loop-holds Inv-loop μ-loop Inv-lists μ-lists
 loop-holds c = (omega arith, rw (whole (c .before .first-item .result) (c .item-count .result)))
@@ -56,26 +38,8 @@ loop-holds c = (omega arith, rw (whole (c .before .first-item .result) (c .item-
 item-owned-requires : tie.Need-item-owned-requires Inv-loop μ-loop Inv-lists μ-lists
 item-owned-requires c κs = c .before .before .before .before .before .before .before .before .before .pre
 
-cast-result-2 : tie.Need-cast-result-2 Inv-loop μ-loop Inv-lists μ-lists
-cast-result-2 c = omega arith
-
-add-result-2 : tie.Need-add-result-2 Inv-loop μ-loop Inv-lists μ-lists
-add-result-2 c = omega arith
-
-add-i : tie.Need-add-i Inv-loop μ-loop Inv-lists μ-lists
-add-i c = omega arith
-
-loop-less : tie.Need-loop-less Inv-loop μ-loop Inv-lists μ-lists
-loop-less c = omega arith
-
 loop-again : tie.Need-loop-again Inv-loop μ-loop Inv-lists μ-lists
 loop-again c = (omega arith, c .before .before .before .loop .inv .1 ∙ all-turn _ _ _ (c .before .before .loop-test .taken) (sym (c .before .item-owned .ensures) ∙ not-false _ (c .if2 .left)))
-
-add-l : tie.Need-add-l Inv-loop μ-loop Inv-lists μ-lists
-add-l c = omega arith
-
-lists-less : tie.Need-lists-less Inv-loop μ-loop Inv-lists μ-lists
-lists-less c = omega arith
 
 lists-again : tie.Need-lists-again Inv-loop μ-loop Inv-lists μ-lists
 lists-again c = (
@@ -102,22 +66,22 @@ list-clash-spec =
     Inv-lists
     μ-lists
     lists-holds
-    cast-result
-    add-result
+    (λ c. omega arith)
+    (λ c. omega arith)
     list-word-requires
-    list-owner-requires
-    first-item-requires
-    item-count-requires
-    add-end
+    (λ c κs. tt)
+    (λ c κs. tt)
+    (λ c κs. tt)
+    (λ c. omega arith)
     loop-holds
     item-owned-requires
-    cast-result-2
-    add-result-2
-    add-i
-    loop-less
+    (λ c. omega arith)
+    (λ c. omega arith)
+    (λ c. omega arith)
+    (λ c. omega arith)
     loop-again
-    add-l
-    lists-less
+    (λ c. omega arith)
+    (λ c. omega arith)
     lists-again
     returns
     returns-2)

@@ -7,45 +7,6 @@ use borrow.Author.Needs.{needs}
 use Rattle.owners.proofs.owned_before_lists.Statement.{statement}
 use Rattle.owners.proofs.owned_before_lists.Tie as tie
 
-part-at-requires : tie.Need-part-at-requires
-part-at-requires c κs = search needs
-
-enum-told : tie.Need-enum-told
-enum-told c = search needs
-
-enum-told-2 : tie.Need-enum-told-2
-enum-told-2 c = search needs
-
-enum-known-part : tie.Need-enum-known-part
-enum-known-part c = search needs
-
-network-owned-requires : tie.Need-network-owned-requires
-network-owned-requires c κs = search needs
-
-enum-told-3 : tie.Need-enum-told-3
-enum-told-3 c = search needs
-
-enum-known-part-2 : tie.Need-enum-known-part-2
-enum-known-part-2 c = search needs
-
-source-owned-requires : tie.Need-source-owned-requires
-source-owned-requires c κs = search needs
-
-enum-told-4 : tie.Need-enum-told-4
-enum-told-4 c = search needs
-
-enum-known-part-3 : tie.Need-enum-known-part-3
-enum-known-part-3 c = search needs
-
-rule-owned-requires : tie.Need-rule-owned-requires
-rule-owned-requires c κs = search needs
-
-enum-told-5 : tie.Need-enum-told-5
-enum-told-5 c = search needs
-
-enum-told-6 : tie.Need-enum-told-6
-enum-told-6 c = search needs
-
 returns : tie.Need-returns
 unfolding owners
 returns c = rw (← c .before .before .part-at .ensures, c .enum-told .given .1)
@@ -82,19 +43,19 @@ pub owned-before-lists-spec : {M : Type 1} → statement M
 owned-before-lists-spec =
     tie.close
     (tie.spec
-    part-at-requires
-    enum-told
-    enum-told-2
-    enum-known-part
-    network-owned-requires
-    enum-told-3
-    enum-known-part-2
-    source-owned-requires
-    enum-told-4
-    enum-known-part-3
-    rule-owned-requires
-    enum-told-5
-    enum-told-6
+    (λ c κs. search needs)
+    (λ c. search needs)
+    (λ c. search needs)
+    (λ c. search needs)
+    (λ c κs. search needs)
+    (λ c. search needs)
+    (λ c. search needs)
+    (λ c κs. search needs)
+    (λ c. search needs)
+    (λ c. search needs)
+    (λ c κs. search needs)
+    (λ c. search needs)
+    (λ c. search needs)
     returns
     returns-2
     returns-3

@@ -14,45 +14,15 @@ use Rattle.words.proofs.table.rule_owner.Reads as rule-owner-reads
 use Rattle.words.proofs.table.true_list.Reads as true-list-reads
 
 -- src/lib.rt:70:9
-rule-word-requires : tie.Need-rule-word-requires
-rule-word-requires c κs = search needs
-
 -- src/lib.rt:71:9
-rule-owner-requires : tie.Need-rule-owner-requires
-rule-owner-requires c κs = search needs
-
 -- src/lib.rt:72:9
-rule-expression-requires : tie.Need-rule-expression-requires
-rule-expression-requires c κs = search needs
-
 -- src/lib.rt:73:9
-true-list-requires : tie.Need-true-list-requires
-true-list-requires c κs = search needs
-
 -- src/lib.rt:74:9
-false-list-requires : tie.Need-false-list-requires
-false-list-requires c κs = search needs
-
 -- src/lib.rt:75:9
-list-word-requires : tie.Need-list-word-requires
-list-word-requires c κs = search needs
-
 -- src/lib.rt:76:9
-list-word-requires-2 : tie.Need-list-word-requires-2
-list-word-requires-2 c κs = search needs
-
 -- src/lib.rt:77:9
-list-owner-requires : tie.Need-list-owner-requires
-list-owner-requires c κs = search needs
-
 -- src/lib.rt:78:9
-list-owner-requires-2 : tie.Need-list-owner-requires-2
-list-owner-requires-2 c κs = search needs
-
 -- src/lib.rt:79:9
-mentions-stranger-requires : tie.Need-mentions-stranger-requires
-mentions-stranger-requires c κs = search needs
-
 -- src/lib.rt:66:1
 returns : tie.Need-returns
 unfolding owners ruleOwned
@@ -63,14 +33,14 @@ pub rule-owned-spec : {M : Type 1} → statement M
 rule-owned-spec =
     tie.close
     (tie.spec
-    rule-word-requires
-    rule-owner-requires
-    rule-expression-requires
-    true-list-requires
-    false-list-requires
-    list-word-requires
-    list-word-requires-2
-    list-owner-requires
-    list-owner-requires-2
-    mentions-stranger-requires
+    (λ c κs. search needs)
+    (λ c κs. search needs)
+    (λ c κs. search needs)
+    (λ c κs. search needs)
+    (λ c κs. search needs)
+    (λ c κs. search needs)
+    (λ c κs. search needs)
+    (λ c κs. search needs)
+    (λ c κs. search needs)
+    (λ c κs. search needs)
     returns)

@@ -5,15 +5,6 @@ use borrow.Author.Needs.{needs}
 use Rattle.refusals.proofs.check_event.Statement.{statement}
 use Rattle.refusals.proofs.check_event.Tie as tie
 
-well-formed-requires : tie.Need-well-formed-requires
-well-formed-requires c κs = tt
-
-enum-told : tie.Need-enum-told
-enum-told c = search needs
-
-enum-told-2 : tie.Need-enum-told-2
-enum-told-2 c = search needs
-
 returns : tie.Need-returns
 unfolding eventChecked
 returns c = rw (sym (c .before .before .well-formed .ensures) ∙ ap passes (c .enum-told2 .given .1))
@@ -21,24 +12,12 @@ returns c = rw (sym (c .before .before .well-formed .ensures) ∙ ap passes (c .
 known-requires : tie.Need-known-requires
 known-requires c κs = c .before .before .before .before .pre
 
-enum-told-3 : tie.Need-enum-told-3
-enum-told-3 c = search needs
-
-enum-told-4 : tie.Need-enum-told-4
-enum-told-4 c = search needs
-
 returns-2 : tie.Need-returns-2
 unfolding eventChecked
 returns-2 c = rw (sym (c .before .before .before .before .before .well-formed .ensures) ∙ ap passes (c .before .before .before .enum-told .given .1), sym (c .before .before .known .ensures) ∙ ap passes (c .enum-told4 .given .1))
 
 sent-by-owner-requires : tie.Need-sent-by-owner-requires
 sent-by-owner-requires c κs = c .before .before .before .before .before .before .before .pre
-
-enum-told-5 : tie.Need-enum-told-5
-enum-told-5 c = search needs
-
-enum-told-6 : tie.Need-enum-told-6
-enum-told-6 c = search needs
 
 returns-3 : tie.Need-returns-3
 unfolding eventChecked
@@ -52,16 +31,16 @@ pub check-event-spec : {M : Type 1} → statement M
 check-event-spec =
     tie.close
     (tie.spec
-    well-formed-requires
-    enum-told
-    enum-told-2
+    (λ c κs. tt)
+    (λ c. search needs)
+    (λ c. search needs)
     returns
     known-requires
-    enum-told-3
-    enum-told-4
+    (λ c. search needs)
+    (λ c. search needs)
     returns-2
     sent-by-owner-requires
-    enum-told-5
-    enum-told-6
+    (λ c. search needs)
+    (λ c. search needs)
     returns-3
     returns-4)

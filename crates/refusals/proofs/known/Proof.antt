@@ -3,20 +3,11 @@ use Rattle.rulebook.specs.Step.{known}
 use Rattle.refusals.proofs.known.Statement.{statement}
 use Rattle.refusals.proofs.known.Tie as tie
 
-kind-requires : tie.Need-kind-requires
-kind-requires c κs = tt
-
-named-requires : tie.Need-named-requires
-named-requires c κs = tt
-
 present-requires : tie.Need-present-requires
 present-requires c κs = c .before .before .before .pre
 
 suited-requires : tie.Need-suited-requires
 suited-requires c κs = c .before .before .before .before .pre
-
-told-requires : tie.Need-told-requires
-told-requires c κs = tt
 
 returns : tie.Need-returns
 unfolding known
@@ -25,4 +16,4 @@ returns c = rw (← c .before .before .before .before .kind .ensures .value, ←
 pub known-spec : {M : Type 1} → statement M
 known-spec =
     tie.close
-    (tie.spec kind-requires named-requires present-requires suited-requires told-requires returns)
+    (tie.spec (λ c κs. tt) (λ c κs. tt) present-requires suited-requires (λ c κs. tt) returns)

@@ -4,12 +4,6 @@ use borrow.Author.Tests.{eq-eqb, ne-eqb}
 use Rattle.refusals.proofs.named.Statement.{statement}
 use Rattle.refusals.proofs.named.Tie as tie
 
-kind-requires : tie.Need-kind-requires
-kind-requires c κs = tt
-
-index-requires : tie.Need-index-requires
-index-requires c κs = tt
-
 returns : tie.Need-returns
 unfolding named
 returns c = rw (← c .before .before .kind .ensures .value, ← c .before .index .ensures .value, c .if1 .taken)
@@ -23,4 +17,4 @@ unfolding named
 returns-3 c = rw (← c .before .before .before .kind .ensures .value, ← c .before .before .index .ensures .value, c .before .if1 .left, ne-eqb _ _ (c .if2 .left))
 
 pub named-spec : {M : Type 1} → statement M
-named-spec = tie.close (tie.spec kind-requires index-requires returns returns-2 returns-3)
+named-spec = tie.close (tie.spec (λ c κs. tt) (λ c κs. tt) returns returns-2 returns-3)

@@ -4,32 +4,11 @@ use borrow.Author.Needs.{needs}
 use Rattle.refusals.proofs.owner.Statement.{statement}
 use Rattle.refusals.proofs.owner.Tie as tie
 
-enum-known-thing : tie.Need-enum-known-thing
-enum-known-thing c = search needs
-
-port-word-requires : tie.Need-port-word-requires
-port-word-requires c κs = tt
-
-port-owner-requires : tie.Need-port-owner-requires
-port-owner-requires c κs = tt
-
-enum-known-thing-2 : tie.Need-enum-known-thing-2
-enum-known-thing-2 c = search needs
-
 network-word-requires : tie.Need-network-word-requires
 network-word-requires c κs = c .before .before .before .before .pre
 
-network-owner-requires : tie.Need-network-owner-requires
-network-owner-requires c κs = tt
-
-enum-known-thing-3 : tie.Need-enum-known-thing-3
-enum-known-thing-3 c = search needs
-
 source-word-requires : tie.Need-source-word-requires
 source-word-requires c κs = c .before .before .before .before .pre
-
-source-owner-requires : tie.Need-source-owner-requires
-source-owner-requires c κs = tt
 
 returns : tie.Need-returns
 unfolding ownerOf
@@ -47,15 +26,15 @@ pub owner-spec : {M : Type 1} → statement M
 owner-spec =
     tie.close
     (tie.spec
-    enum-known-thing
-    port-word-requires
-    port-owner-requires
-    enum-known-thing-2
+    (λ c. search needs)
+    (λ c κs. tt)
+    (λ c κs. tt)
+    (λ c. search needs)
     network-word-requires
-    network-owner-requires
-    enum-known-thing-3
+    (λ c κs. tt)
+    (λ c. search needs)
     source-word-requires
-    source-owner-requires
+    (λ c κs. tt)
     returns
     returns-2
     returns-3)

@@ -4,15 +4,6 @@ use borrow.Author.Needs.{needs}
 use Rattle.refusals.proofs.present.Statement.{statement}
 use Rattle.refusals.proofs.present.Tie as tie
 
-enum-known-thing : tie.Need-enum-known-thing
-enum-known-thing c = search needs
-
-enum-known-thing-2 : tie.Need-enum-known-thing-2
-enum-known-thing-2 c = search needs
-
-enum-known-thing-3 : tie.Need-enum-known-thing-3
-enum-known-thing-3 c = search needs
-
 returns : tie.Need-returns
 unfolding present
 returns c = rw (c .before .thing .given .1, c .before .before .before .pre .ports .value)
@@ -28,4 +19,4 @@ returns-3 c = rw (c .before .thing3 .given .1, c .before .before .before .pre .s
 pub present-spec : {M : Type 1} → statement M
 present-spec =
     tie.close
-    (tie.spec enum-known-thing enum-known-thing-2 enum-known-thing-3 returns returns-2 returns-3)
+    (tie.spec (λ c. search needs) (λ c. search needs) (λ c. search needs) returns returns-2 returns-3)

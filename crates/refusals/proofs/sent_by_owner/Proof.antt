@@ -3,20 +3,8 @@ use Rattle.rulebook.specs.Step.{sentByOwner}
 use Rattle.refusals.proofs.sent_by_owner.Statement.{statement}
 use Rattle.refusals.proofs.sent_by_owner.Tie as tie
 
-kind-requires : tie.Need-kind-requires
-kind-requires c κs = tt
-
-owner-requires : tie.Need-owner-requires
-owner-requires c κs = tt
-
-named-requires : tie.Need-named-requires
-named-requires c κs = tt
-
 owner-requires-2 : tie.Need-owner-requires-2
 owner-requires-2 c κs = c .before .before .before .before .pre
-
-told-requires : tie.Need-told-requires
-told-requires c κs = tt
 
 returns : tie.Need-returns
 unfolding sentByOwner
@@ -25,4 +13,4 @@ returns c = rw (← c .before .before .before .before .kind .ensures .value, ←
 pub sent-by-owner-spec : {M : Type 1} → statement M
 sent-by-owner-spec =
     tie.close
-    (tie.spec kind-requires owner-requires named-requires owner-requires-2 told-requires returns)
+    (tie.spec (λ c κs. tt) (λ c κs. tt) (λ c κs. tt) owner-requires-2 (λ c κs. tt) returns)

@@ -5,18 +5,6 @@ use Rattle.refusals.proofs.Tests.{and-true}
 use Rattle.refusals.proofs.suited.Statement.{statement}
 use Rattle.refusals.proofs.suited.Tie as tie
 
-kind-requires : tie.Need-kind-requires
-kind-requires c κs = tt
-
-index-requires : tie.Need-index-requires
-index-requires c κs = tt
-
-port-word-requires : tie.Need-port-word-requires
-port-word-requires c κs = tt
-
-port-kind-requires : tie.Need-port-kind-requires
-port-kind-requires c κs = tt
-
 held-requires : tie.Need-held-requires
 held-requires c κs = c .before .before .before .before .before .before .pre
 
@@ -36,10 +24,10 @@ pub suited-spec : {M : Type 1} → statement M
 suited-spec =
     tie.close
     (tie.spec
-    kind-requires
-    index-requires
-    port-word-requires
-    port-kind-requires
+    (λ c κs. tt)
+    (λ c κs. tt)
+    (λ c κs. tt)
+    (λ c κs. tt)
     held-requires
     returns
     returns-2

@@ -4,24 +4,6 @@ use Rattle.refusals.proofs.Tests.{not-not}
 use Rattle.refusals.proofs.well_formed.Statement.{statement}
 use Rattle.refusals.proofs.well_formed.Tie as tie
 
-kind-requires : tie.Need-kind-requires
-kind-requires c κs = tt
-
-owner-requires : tie.Need-owner-requires
-owner-requires c κs = tt
-
-index-requires : tie.Need-index-requires
-index-requires c κs = tt
-
-value-requires : tie.Need-value-requires
-value-requires c κs = tt
-
-zero-requires : tie.Need-zero-requires
-zero-requires c κs = tt
-
-told-requires : tie.Need-told-requires
-told-requires c κs = tt
-
 returns : tie.Need-returns
 unfolding wellFormed
 returns c = rw (not-not, ← c .before .before .before .before .before .kind .ensures .value, ← c .before .before .before .before .owner .ensures .value, ← c .before .before .before .index .ensures .value, ← c .before .before .value .ensures .value, ← c .before .zero .ensures .value) (c .told .ensures)
@@ -30,10 +12,10 @@ pub well-formed-spec : {M : Type 1} → statement M
 well-formed-spec =
     tie.close
     (tie.spec
-    kind-requires
-    owner-requires
-    index-requires
-    value-requires
-    zero-requires
-    told-requires
+    (λ c κs. tt)
+    (λ c κs. tt)
+    (λ c κs. tt)
+    (λ c κs. tt)
+    (λ c κs. tt)
+    (λ c κs. tt)
     returns)

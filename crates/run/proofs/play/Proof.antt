@@ -7,29 +7,8 @@ use Rattle.run.proofs.Kept.{opens-lent}
 use Rattle.run.proofs.play.Statement.{statement}
 use Rattle.run.proofs.play.Tie as tie
 
-open-requires : tie.Need-open-requires
-open-requires c κs = search needs
-
-print-reason-requires : tie.Need-print-reason-requires
-print-reason-requires c κs = search needs
-
-returns : tie.Need-returns
-returns c = search needs
-
-state-words-requires : tie.Need-state-words-requires
-state-words-requires c κs = search needs
-
-trace-words-requires : tie.Need-trace-words-requires
-trace-words-requires c κs = search needs
-
-array-borrow-prefix-states : tie.Need-array-borrow-prefix-states
-array-borrow-prefix-states c = search needs
-
 slice-aggregate-s : tie.Need-slice-aggregate-s
 slice-aggregate-s c = sym (length-take-le _ _ (omega (arith, c .before .before .before .before .before .«open» .ensures .smallState, c .before .before .state-words .ensures)))
-
-array-borrow-prefix-traces : tie.Need-array-borrow-prefix-traces
-array-borrow-prefix-traces c = search needs
 
 slice-aggregate-trace : tie.Need-slice-aggregate-trace
 slice-aggregate-trace c = sym (length-take-le _ _ (omega (arith, c .before .before .before .before .before .before .«open» .ensures .smallTrace, c .before .before .trace-words .ensures)))
@@ -42,25 +21,19 @@ run-fresh-requires c κs =
           (length-take-le _ _ (omega (arith, o .smallTrace, c .before .before .before .trace-words .ensures))),
     )
 
-same-length : tie.Need-same-length
-same-length c = search needs
-
-returns-2 : tie.Need-returns-2
-returns-2 c = search needs
-
 pub play-spec : {M : Type 1} → statement M
 play-spec =
     tie.close
     (tie.spec
-    open-requires
-    print-reason-requires
-    returns
-    state-words-requires
-    trace-words-requires
-    array-borrow-prefix-states
+    (λ c κs. search needs)
+    (λ c κs. search needs)
+    (λ c. search needs)
+    (λ c κs. search needs)
+    (λ c κs. search needs)
+    (λ c. search needs)
     slice-aggregate-s
-    array-borrow-prefix-traces
+    (λ c. search needs)
     slice-aggregate-trace
     run-fresh-requires
-    same-length
-    returns-2)
+    (λ c. search needs)
+    (λ c. search needs))

@@ -31,9 +31,6 @@ Inv-loop t s₀ trace₀ fd path block₀ first out₀ n₀ turns₀ s trace blo
 abbrev μ-loop : tie.MeasureT-loop
 μ-loop t s₀ trace₀ fd path block₀ first out₀ n₀ turns₀ s trace block out n turns = turns
 
-lines-requires : tie.Need-lines-requires Inv-loop μ-loop
-lines-requires c κs = search needs
-
 loop-holds : tie.Need-loop-holds Inv-loop μ-loop
 loop-holds c =
     let p = c .before .before .before .before .before .before .pre in
@@ -41,9 +38,6 @@ loop-holds c =
 
 slice-aggregate-next-block : tie.Need-slice-aggregate-next-block Inv-loop μ-loop
 slice-aggregate-next-block c = c .before .before .before .before .before .before .loop .inv .3
-
-next-block-requires : tie.Need-next-block-requires Inv-loop μ-loop
-next-block-requires c κs = search needs
 
 same-length : tie.Need-same-length Inv-loop μ-loop
 same-length c = c .before .before .before .before .before .before .before .before .before .next-block .kept .1 .0 ∙ c .before .before .before .before .before .before .before .before .before .before .before .before .before .before .before .before .loop .inv .0
@@ -56,12 +50,6 @@ same-length-3 c = c .before .before .before .before .before .before .before .bef
 
 returns : tie.Need-returns Inv-loop μ-loop
 returns c = c .before .before .before .before .before .before .before .before .before .before .before .before .before .before .before .before .loop .inv .6 false _ (kept.stopped (c .before .before .before .before .before .before .before .before .before .next-block .ensures .1 .some))
-
-sub-turns : tie.Need-sub-turns Inv-loop μ-loop
-sub-turns c = omega arith
-
-loop-less : tie.Need-loop-less Inv-loop μ-loop
-loop-less c = omega arith
 
 loop-again : tie.Need-loop-again Inv-loop μ-loop
 loop-again c =
@@ -95,16 +83,16 @@ run-spec =
     (tie.spec
     Inv-loop
     μ-loop
-    lines-requires
+    (λ c κs. search needs)
     loop-holds
     slice-aggregate-next-block
-    next-block-requires
+    (λ c κs. search needs)
     same-length
     same-length-2
     same-length-3
     returns
-    sub-turns
-    loop-less
+    (λ c. omega arith)
+    (λ c. omega arith)
     loop-again
     same-length-4
     same-length-5

@@ -26,24 +26,15 @@ Inv-loop t s₀ trace₀ block out₀ total from₀ s trace out from =
 abbrev μ-loop : tie.MeasureT-loop
 μ-loop t s₀ trace₀ block out₀ total from₀ s trace out from = total - from
 
-word-count-requires : tie.Need-word-count-requires Inv-loop μ-loop
-word-count-requires c κs = search needs
-
 loop-holds : tie.Need-loop-holds Inv-loop μ-loop
 unfolding stateAfter
 loop-holds c = (refl, refl, refl, c .before .before .before .before .before .before .pre .0, refl)
-
-take-events-requires : tie.Need-take-events-requires Inv-loop μ-loop
-take-events-requires c κs = search needs
 
 slice-reshare-prefix-print : tie.Need-slice-reshare-prefix-print Inv-loop μ-loop
 slice-reshare-prefix-print c = omega (arith, c .before .before .before .before .before .before .take-events .ensures .inside, c .before .before .before .before .before .before .take-events .kept .1 .1 .1 .1 .1 .0)
 
 slice-aggregate-print : tie.Need-slice-aggregate-print Inv-loop μ-loop
 slice-aggregate-print c = sym (length-take-le _ _ (omega (arith, c .before .before .before .before .before .before .before .take-events .ensures .inside, c .before .before .before .before .before .before .before .take-events .kept .1 .1 .1 .1 .1 .0)))
-
-print-requires : tie.Need-print-requires Inv-loop μ-loop
-print-requires c κs = search needs
 
 same-length : tie.Need-same-length Inv-loop μ-loop
 same-length c = c .before .before .before .before .before .before .before .before .before .take-events .kept .1 .0 ∙ c .before .before .before .before .before .before .before .before .before .before .before .before .before .before .loop .inv .0
@@ -107,12 +98,12 @@ run-block-spec =
     (tie.spec
     Inv-loop
     μ-loop
-    word-count-requires
+    (λ c κs. search needs)
     loop-holds
-    take-events-requires
+    (λ c κs. search needs)
     slice-reshare-prefix-print
     slice-aggregate-print
-    print-requires
+    (λ c κs. search needs)
     same-length
     same-length-2
     same-length-3

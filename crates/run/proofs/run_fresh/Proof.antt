@@ -5,22 +5,10 @@ use Rattle.run.proofs.Kept.{ran-from}
 use Rattle.run.proofs.run_fresh.Statement.{statement}
 use Rattle.run.proofs.run_fresh.Tie as tie
 
-make-fresh-requires : tie.Need-make-fresh-requires
-make-fresh-requires c κs = search needs
-
 run-requires : tie.Need-run-requires
 run-requires c κs =
     let p = c .before .before .before .before .before .before .before .before .before .before .before .before .pre in
     (p .0, fresh-ready (p .1 .table) (made-fresh (p .1 .table) (p .1 .state) (c .before .before .before .before .before .make-fresh .ensures)) (p .1 .room))
-
-same-length : tie.Need-same-length
-same-length c = search needs
-
-same-length-2 : tie.Need-same-length-2
-same-length-2 c = search needs
-
-same-length-3 : tie.Need-same-length-3
-same-length-3 c = search needs
 
 returns : tie.Need-returns
 returns c =
@@ -30,4 +18,4 @@ returns c =
 pub run-fresh-spec : {M : Type 1} → statement M
 run-fresh-spec =
     tie.close
-    (tie.spec make-fresh-requires run-requires same-length same-length-2 same-length-3 returns)
+    (tie.spec (λ c κs. search needs) run-requires (λ c. search needs) (λ c. search needs) (λ c. search needs) returns)

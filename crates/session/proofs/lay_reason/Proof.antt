@@ -7,19 +7,10 @@ use Rattle.session.proofs.lay_reason.Tie as tie
 returns : tie.Need-returns
 returns c = reason-unlaid _ _ (c .if1 .taken)
 
-put-decimal-line-requires : tie.Need-put-decimal-line-requires
-put-decimal-line-requires c κs = search needs
-
-put-decimal-line-requires-2 : tie.Need-put-decimal-line-requires-2
-put-decimal-line-requires-2 c κs = search needs
-
-same-length : tie.Need-same-length
-same-length c = search needs
-
 returns-2 : tie.Need-returns-2
 returns-2 c = reason-laid _ _ (search needs) (search needs) (c .before .before .before .before .before .before .before .before .if1 .left) (c .before .before .before .before .before .before .put-decimal-line .ensures) (c .before .before .put-decimal-line2 .ensures)
 
 pub lay-reason-spec : {M : Type 1} → statement M
 lay-reason-spec =
     tie.close
-    (tie.spec returns put-decimal-line-requires put-decimal-line-requires-2 same-length returns-2)
+    (tie.spec returns (λ c κs. search needs) (λ c κs. search needs) (λ c. search needs) returns-2)

@@ -7,26 +7,11 @@ use borrow.Author.Needs.{needs}
 use Rattle.session.proofs.open.Statement.{statement}
 use Rattle.session.proofs.open.Tie as tie
 
-check-requires : tie.Need-check-requires
-check-requires c κs = search needs
-
-numbers-requires : tie.Need-numbers-requires
-numbers-requires c κs = search needs
-
 cast-place : tie.Need-cast-place
 cast-place c = let p = place-small (c .before .before .before .before .args .t .now) in let q = place-is _ (c .before .before .check .result) (c .before .before .check .ensures) _ _ (c .before .numbers .ensures .0) (c .before .numbers .ensures .1) in omega arith
 
-enum-known-checked : tie.Need-enum-known-checked
-enum-known-checked c = search needs
-
 returns : tie.Need-returns
 returns c = opens-none _ (c .before .before .before .check .result) (c .before .before .before .check .ensures) _ _ (c .before .before .numbers .ensures .0) (c .before .before .numbers .ensures .1) (is-refused _ (c .before .before .before .check .result) (c .match .keys2) (c .before .before .before .check .ensures))
-
-state-words-requires : tie.Need-state-words-requires
-state-words-requires c κs = search needs
-
-cast-t8 : tie.Need-cast-t8
-cast-t8 c = search needs
 
 returns-2 : tie.Need-returns-2
 returns-2 c = let ok = is-accepted _ _ _ (c .before .before .checked .given .1) (c .before .before .before .before .before .before .check .ensures) in opens _ (c .before .before .before .before .before .before .check .result) (c .before .before .before .before .before .before .check .ensures) _ _ (c .before .before .before .before .before .numbers .ensures .0) (c .before .before .before .before .before .numbers .ensures .1) _ _ ok (c .state-words .ensures) (told-bound _ _ _ (c .before .before .checked .given .1) (c .before .before .before .before .before .before .check .ensures) ok)
@@ -35,11 +20,11 @@ pub open-spec : {M : Type 1} → statement M
 open-spec =
     tie.close
     (tie.spec
-    check-requires
-    numbers-requires
+    (λ c κs. search needs)
+    (λ c κs. search needs)
     cast-place
-    enum-known-checked
+    (λ c. search needs)
     returns
-    state-words-requires
-    cast-t8
+    (λ c κs. search needs)
+    (λ c. search needs)
     returns-2)

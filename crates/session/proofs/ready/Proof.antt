@@ -7,20 +7,8 @@ use borrow.Author.Needs.{needs}
 use Rattle.session.proofs.ready.Statement.{statement}
 use Rattle.session.proofs.ready.Tie as tie
 
-check-requires : tie.Need-check-requires
-check-requires c κs = search needs
-
-enum-known-checked : tie.Need-enum-known-checked
-enum-known-checked c = search needs
-
 returns : tie.Need-returns
 returns c = no-table _ _ _ (is-refused _ (c .before .check .result) (c .match .keys2) (c .before .check .ensures))
-
-fits-requires : tie.Need-fits-requires
-fits-requires c κs = search needs
-
-cast-result : tie.Need-cast-result
-cast-result c = search needs
 
 returns-2 : tie.Need-returns-2
 returns-2 c = let ok = is-accepted _ _ _ (c .before .before .before .checked .given .1) (c .before .before .before .before .before .check .ensures) in rw (told-bound _ _ _ (c .before .before .before .checked .given .1) (c .before .before .before .before .before .check .ensures) ok) (room-decides _ _ _ ok (sym (c .before .fits2 .ensures) ∙ c .if1 .taken))
@@ -32,10 +20,10 @@ pub ready-spec : {M : Type 1} → statement M
 ready-spec =
     tie.close
     (tie.spec
-    check-requires
-    enum-known-checked
+    (λ c κs. search needs)
+    (λ c. search needs)
     returns
-    fits-requires
-    cast-result
+    (λ c κs. search needs)
+    (λ c. search needs)
     returns-2
     returns-3)

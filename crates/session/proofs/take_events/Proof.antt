@@ -18,47 +18,17 @@ Inv-loop t s₀ trace₀ bytes from out₀ h total i₀ at₀ s trace out i at =
 abbrev μ-loop : tie.MeasureT-loop
 μ-loop t s₀ trace₀ bytes from out₀ h total i₀ at₀ s trace out i at = total - i
 
-ready-requires : tie.Need-ready-requires Inv-loop μ-loop
-ready-requires c κs = search needs
-
-same-length : tie.Need-same-length Inv-loop μ-loop
-same-length c = search needs
-
 returns : tie.Need-returns Inv-loop μ-loop
 returns c = none-offered _ _ _ _ _ _ (sym (c .before .ready .ensures) ∙ not-true _ (c .if1 .taken))
 
-read-layout-requires : tie.Need-read-layout-requires Inv-loop μ-loop
-read-layout-requires c κs = search needs
-
-word-count-requires : tie.Need-word-count-requires Inv-loop μ-loop
-word-count-requires c κs = search needs
-
-past-requires : tie.Need-past-requires Inv-loop μ-loop
-past-requires c κs = search needs
-
 loop-holds : tie.Need-loop-holds Inv-loop μ-loop
 loop-holds c = begin _ _ _ _ _ (ready-from _ _ _ (sym (c .before .before .before .before .ready .ensures) ∙ not-false _ (c .before .before .before .if1 .left)))
-
-past-requires-2 : tie.Need-past-requires-2 Inv-loop μ-loop
-past-requires-2 c κs = search needs
-
-add-read-word : tie.Need-add-read-word Inv-loop μ-loop
-add-read-word c = omega arith
-
-read-word-requires : tie.Need-read-word-requires Inv-loop μ-loop
-read-word-requires c κs = search needs
 
 take-one-requires : tie.Need-take-one-requires Inv-loop μ-loop
 take-one-requires c κs =
     let l = c .before .before .before .before .before .before .before .loop in
     let free = leb-true _ (c .before .before .before .before .before .past2 .result) (c .before .before .before .before .if2 .taken) in
     (c .before .before .before .before .before .before .before .before .before .before .read-layout .ensures, l .inv .ready, omega (arith, c .before .before .before .before .before .past2 .ensures))
-
-add-i : tie.Need-add-i Inv-loop μ-loop
-add-i c = omega arith
-
-loop-less : tie.Need-loop-less Inv-loop μ-loop
-loop-less c = omega arith
 
 loop-again : tie.Need-loop-again Inv-loop μ-loop
 loop-again c =
@@ -108,19 +78,19 @@ take-events-spec =
     (tie.spec
     Inv-loop
     μ-loop
-    ready-requires
-    same-length
+    (λ c κs. search needs)
+    (λ c. search needs)
     returns
-    read-layout-requires
-    word-count-requires
-    past-requires
+    (λ c κs. search needs)
+    (λ c κs. search needs)
+    (λ c κs. search needs)
     loop-holds
-    past-requires-2
-    add-read-word
-    read-word-requires
+    (λ c κs. search needs)
+    (λ c. omega arith)
+    (λ c κs. search needs)
     take-one-requires
-    add-i
-    loop-less
+    (λ c. omega arith)
+    (λ c. omega arith)
     loop-again
     same-length-2
     same-length-3

@@ -8,23 +8,8 @@ use Rattle.session.proofs.take_one.Tie as tie
 handle-requires : tie.Need-handle-requires
 handle-requires c κs = (c .before .before .before .before .before .before .pre .0, few-rules _ _ (c .before .before .before .before .before .before .pre .1 .table) (c .before .before .before .before .before .before .pre .0 .rules .value), run-safe _ _ _ _ (c .before .before .before .before .before .before .pre .1))
 
-number-requires : tie.Need-number-requires
-number-requires c κs = search needs
-
-count-requires : tie.Need-count-requires
-count-requires c κs = search needs
-
 lay-lines-requires : tie.Need-lay-lines-requires
 lay-lines-requires c κs = let r = c .before .before .before .before .before .before .before .before .before .handle .result in let h = c .before .before .before .before .before .before .before .before .before .handle .ensures in let a = c .before .before .before .before .number .ensures in let b = c .before .before .before .count .ensures in let ok = c .before .before .before .before .before .before .before .before .before .before .before .before .before .before .before .before .pre .1 in (number-small _ _ _ _ ok r _ _ h _ _ a b, count-few _ _ _ _ ok r _ _ h _ _ a b, room-enough _ _ _ _ ok r _ _ h _ _ a b _ _ (c .before .before .before .before .before .before .before .before .before .before .before .before .before .before .before .before .pre .2))
-
-same-length : tie.Need-same-length
-same-length c = search needs
-
-same-length-2 : tie.Need-same-length-2
-same-length-2 c = search needs
-
-same-length-3 : tie.Need-same-length-3
-same-length-3 c = search needs
 
 returns : tie.Need-returns
 returns c = took _ _ _ _ (c .before .before .before .before .before .before .before .before .before .before .before .before .before .before .before .before .before .before .before .pre .1) (c .before .before .before .before .before .before .before .before .before .before .before .before .handle .result) _ _ (c .before .before .before .before .before .before .before .before .before .before .before .before .handle .ensures) _ _ (c .before .before .before .before .before .before .before .number .ensures) (c .before .before .before .before .before .before .count .ensures) _ _ _ _ (c .before .before .lay-lines .ensures)
@@ -34,10 +19,10 @@ take-one-spec =
     tie.close
     (tie.spec
     handle-requires
-    number-requires
-    count-requires
+    (λ c κs. search needs)
+    (λ c κs. search needs)
     lay-lines-requires
-    same-length
-    same-length-2
-    same-length-3
+    (λ c. search needs)
+    (λ c. search needs)
+    (λ c. search needs)
     returns)

@@ -16,9 +16,6 @@ Inv-loop t s h end i₀ i = (i ≤ end) × (State.fits t s ≡ all i (end - i) (
 abbrev μ-loop : tie.MeasureT-loop
 μ-loop t s h end i₀ i = end - i
 
-read-layout-requires : tie.Need-read-layout-requires Inv-loop μ-loop
-read-layout-requires c κs = tt
-
 state-length-requires : tie.Need-state-length-requires Inv-loop μ-loop
 state-length-requires c κs = c .read-layout .ensures
 
@@ -31,20 +28,11 @@ loop-holds c = (omega arith, right-length _ _ _ (c .before .state-length .ensure
 thing-at-requires : tie.Need-thing-at-requires Inv-loop μ-loop
 thing-at-requires c κs = (c .before .before .before .before .read-layout .ensures, omega (arith, c .before .before .before .state-length .ensures, c .loop-test .taken))
 
-word-requires : tie.Need-word-requires Inv-loop μ-loop
-word-requires c κs = tt
-
 thing-fits-requires : tie.Need-thing-fits-requires Inv-loop μ-loop
 thing-fits-requires c κs = c .before .before .before .before .before .before .read-layout .ensures
 
 returns-2 : tie.Need-returns-2 Inv-loop μ-loop
 returns-2 c = sym (c .before .before .before .before .before .loop .inv .1 ∙ all-fails _ _ _ (c .before .before .before .before .loop-test .taken) (fits-here _ _ _ _ _ _ (c .before .thing-fits .ensures) (c .before .before .before .thing-at .ensures) (c .before .before .word .ensures) ∙ not-true _ (c .if2 .taken)))
-
-add-i : tie.Need-add-i Inv-loop μ-loop
-add-i c = omega arith
-
-loop-less : tie.Need-loop-less Inv-loop μ-loop
-loop-less c = omega arith
 
 loop-again : tie.Need-loop-again Inv-loop μ-loop
 loop-again c = (omega arith, c .before .before .before .before .before .loop .inv .1 ∙ all-turn _ _ _ (c .before .before .before .before .loop-test .taken) (fits-here _ _ _ _ _ _ (c .before .thing-fits .ensures) (c .before .before .before .thing-at .ensures) (c .before .before .word .ensures) ∙ not-false _ (c .if2 .left)))
@@ -58,15 +46,15 @@ fits-spec =
     (tie.spec
     Inv-loop
     μ-loop
-    read-layout-requires
+    (λ c κs. tt)
     state-length-requires
     returns
     loop-holds
     thing-at-requires
-    word-requires
+    (λ c κs. tt)
     thing-fits-requires
     returns-2
-    add-i
-    loop-less
+    (λ c. omega arith)
+    (λ c. omega arith)
     loop-again
     returns-3)

@@ -5,32 +5,11 @@ use borrow.Author.Needs.{needs}
 use Rattle.states.proofs.fresh_port.Statement.{statement}
 use Rattle.states.proofs.fresh_port.Tie as tie
 
-port-word-requires : tie.Need-port-word-requires
-port-word-requires c κs = search needs
-
-port-kind-requires : tie.Need-port-kind-requires
-port-kind-requires c κs = search needs
-
-port-has-initial-requires : tie.Need-port-has-initial-requires
-port-has-initial-requires c κs = search needs
-
-port-initial-requires : tie.Need-port-initial-requires
-port-initial-requires c κs = search needs
-
-pack-port-requires : tie.Need-pack-port-requires
-pack-port-requires c κs = search needs
-
 returns : tie.Need-returns
 returns c = c .pack-port .ensures ∙ port-initial _ _ _ _ _ _ (c .before .before .before .before .before .port-word .ensures) (c .before .before .before .before .port-kind .ensures .value) (c .before .before .before .port-has-initial .ensures .value) (c .before .before .port-initial .ensures .value) (c .before .if1 .taken)
 
-pack-port-requires-2 : tie.Need-pack-port-requires-2
-pack-port-requires-2 c κs = search needs
-
 returns-2 : tie.Need-returns-2
 returns-2 c = c .pack-port2 .ensures ∙ port-undefined _ _ _ _ _ _ (c .before .before .before .before .before .before .port-word .ensures) (c .before .before .before .before .before .port-kind .ensures .value) (c .before .before .before .before .port-has-initial .ensures .value) (c .before .before .before .port-initial .ensures .value) (c .before .before .if1 .left) (c .before .if2 .taken)
-
-pack-port-requires-3 : tie.Need-pack-port-requires-3
-pack-port-requires-3 c κs = search needs
 
 returns-3 : tie.Need-returns-3
 returns-3 c = c .pack-port3 .ensures ∙ port-defined _ _ _ _ _ _ (c .before .before .before .before .before .before .port-word .ensures) (c .before .before .before .before .before .port-kind .ensures .value) (c .before .before .before .before .port-has-initial .ensures .value) (c .before .before .before .port-initial .ensures .value) (c .before .before .if1 .left) (c .before .if2 .left)
@@ -39,13 +18,13 @@ pub fresh-port-spec : {M : Type 1} → statement M
 fresh-port-spec =
     tie.close
     (tie.spec
-    port-word-requires
-    port-kind-requires
-    port-has-initial-requires
-    port-initial-requires
-    pack-port-requires
+    (λ c κs. search needs)
+    (λ c κs. search needs)
+    (λ c κs. search needs)
+    (λ c κs. search needs)
+    (λ c κs. search needs)
     returns
-    pack-port-requires-2
+    (λ c κs. search needs)
     returns-2
-    pack-port-requires-3
+    (λ c κs. search needs)
     returns-3)

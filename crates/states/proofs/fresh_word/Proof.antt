@@ -4,24 +4,6 @@ use borrow.Author.Needs.{needs}
 use Rattle.states.proofs.fresh_word.Statement.{statement}
 use Rattle.states.proofs.fresh_word.Tie as tie
 
-enum-known-thing : tie.Need-enum-known-thing
-enum-known-thing c = search needs
-
-fresh-port-requires : tie.Need-fresh-port-requires
-fresh-port-requires c κs = search needs
-
-enum-known-thing-2 : tie.Need-enum-known-thing-2
-enum-known-thing-2 c = search needs
-
-fresh-rule-requires : tie.Need-fresh-rule-requires
-fresh-rule-requires c κs = search needs
-
-enum-told : tie.Need-enum-told
-enum-told c = search needs
-
-enum-told-2 : tie.Need-enum-told-2
-enum-told-2 c = search needs
-
 returns : tie.Need-returns
 unfolding freshThing
 returns c = rw (c .before .before .thing .given .1) (c .fresh-port .ensures)
@@ -42,12 +24,12 @@ pub fresh-word-spec : {M : Type 1} → statement M
 fresh-word-spec =
     tie.close
     (tie.spec
-    enum-known-thing
-    fresh-port-requires
-    enum-known-thing-2
-    fresh-rule-requires
-    enum-told
-    enum-told-2
+    (λ c. search needs)
+    (λ c κs. search needs)
+    (λ c. search needs)
+    (λ c κs. search needs)
+    (λ c. search needs)
+    (λ c. search needs)
     returns
     returns-2
     returns-3

@@ -4,15 +4,9 @@ use borrow.Author.Needs.{needs}
 use Rattle.states.proofs.rule_fits.Statement.{statement}
 use Rattle.states.proofs.rule_fits.Tie as tie
 
-state-rule-zero-requires : tie.Need-state-rule-zero-requires
-state-rule-zero-requires c κs = search needs
-
-result-requires : tie.Need-result-requires
-result-requires c κs = search needs
-
 returns : tie.Need-returns
 unfolding ruleFits
 returns c = rw (c .before .state-rule-zero .ensures .value, c .result .ensures .value)
 
 pub rule-fits-spec : {M : Type 1} → statement M
-rule-fits-spec = tie.close (tie.spec state-rule-zero-requires result-requires returns)
+rule-fits-spec = tie.close (tie.spec (λ c κs. search needs) (λ c κs. search needs) returns)

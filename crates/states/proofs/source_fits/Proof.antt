@@ -5,21 +5,6 @@ use Rattle.walks.proofs.Walks.{either}
 use Rattle.states.proofs.source_fits.Statement.{statement}
 use Rattle.states.proofs.source_fits.Tie as tie
 
-source-word-requires : tie.Need-source-word-requires
-source-word-requires c κs = search needs
-
-source-timeout-requires : tie.Need-source-timeout-requires
-source-timeout-requires c κs = search needs
-
-state-source-zero-requires : tie.Need-state-source-zero-requires
-state-source-zero-requires c κs = search needs
-
-status-requires : tie.Need-status-requires
-status-requires c κs = search needs
-
-remaining-requires : tie.Need-remaining-requires
-remaining-requires c κs = search needs
-
 returns : tie.Need-returns
 unfolding sourceFits
 returns c = rw (c .before .before .before .source-timeout .ensures .value, c .before .before .state-source-zero .ensures .value, c .before .status .ensures .value, c .remaining .ensures .value, c .before .before .before .before .source-word .ensures, either)
@@ -28,9 +13,9 @@ pub source-fits-spec : {M : Type 1} → statement M
 source-fits-spec =
     tie.close
     (tie.spec
-    source-word-requires
-    source-timeout-requires
-    state-source-zero-requires
-    status-requires
-    remaining-requires
+    (λ c κs. search needs)
+    (λ c κs. search needs)
+    (λ c κs. search needs)
+    (λ c κs. search needs)
+    (λ c κs. search needs)
     returns)

@@ -4,30 +4,6 @@ use borrow.Author.Needs.{needs}
 use Rattle.states.proofs.thing_fits.Statement.{statement}
 use Rattle.states.proofs.thing_fits.Tie as tie
 
-enum-known-thing : tie.Need-enum-known-thing
-enum-known-thing c = search needs
-
-port-fits-requires : tie.Need-port-fits-requires
-port-fits-requires c κs = search needs
-
-enum-told : tie.Need-enum-told
-enum-told c = search needs
-
-rule-fits-requires : tie.Need-rule-fits-requires
-rule-fits-requires c κs = search needs
-
-enum-known-thing-2 : tie.Need-enum-known-thing-2
-enum-known-thing-2 c = search needs
-
-network-fits-requires : tie.Need-network-fits-requires
-network-fits-requires c κs = search needs
-
-enum-known-thing-3 : tie.Need-enum-known-thing-3
-enum-known-thing-3 c = search needs
-
-source-fits-requires : tie.Need-source-fits-requires
-source-fits-requires c κs = search needs
-
 returns : tie.Need-returns
 unfolding thingFits
 returns c = rw (c .before .before .thing .given .1) (c .port-fits .ensures)
@@ -48,14 +24,14 @@ pub thing-fits-spec : {M : Type 1} → statement M
 thing-fits-spec =
     tie.close
     (tie.spec
-    enum-known-thing
-    port-fits-requires
-    enum-told
-    rule-fits-requires
-    enum-known-thing-2
-    network-fits-requires
-    enum-known-thing-3
-    source-fits-requires
+    (λ c. search needs)
+    (λ c κs. search needs)
+    (λ c. search needs)
+    (λ c κs. search needs)
+    (λ c. search needs)
+    (λ c κs. search needs)
+    (λ c. search needs)
+    (λ c κs. search needs)
     returns
     returns-2
     returns-3

@@ -1,6 +1,6 @@
 -- `states::write_fresh` meets its contract. The loop's invariant: the words passed are the fresh state's. Assumes nothing.
 use Prim.Native.Nat.{ℕ, _-_, _≤_, _<_}
-use mathlib.Core.Path.{_≡_, refl, sym, ap, _∙_}
+use mathlib.Core.Path.{_≡_, refl, ap, _∙_}
 use native.Mathlib.Omega.{arith}
 use lib.ListN.{length, length-set, getD}
 use Rattle.rulebook.specs.State.{freshAt}
@@ -24,15 +24,6 @@ thing-at-requires c κs = (c .before .before .before .before .pre .0, omega (ari
 fresh-word-requires : tie.Need-fresh-word-requires Inv-loop μ-loop
 fresh-word-requires c κs = c .before .before .before .before .before .pre .0
 
-put-requires : tie.Need-put-requires Inv-loop μ-loop
-put-requires c κs = tt
-
-add-i : tie.Need-add-i Inv-loop μ-loop
-add-i c = omega arith
-
-loop-less : tie.Need-loop-less Inv-loop μ-loop
-loop-less c = omega arith
-
 loop-again : tie.Need-loop-again Inv-loop μ-loop
 loop-again c = (
   omega arith,
@@ -55,9 +46,9 @@ write-fresh-spec =
     loop-holds
     thing-at-requires
     fresh-word-requires
-    put-requires
-    add-i
-    loop-less
+    (λ c κs. tt)
+    (λ c. omega arith)
+    (λ c. omega arith)
     loop-again
     same-length
     returns)

@@ -52,21 +52,9 @@ returns : tie.Need-returns
 unfolding hasHeader
 returns c = refuses _ 1 0 refl (from1 _ ∙ broken 1 _ _ (lt-leb 3 _ (c .if1 .taken)))
 
-read-layout-requires : tie.Need-read-layout-requires
-read-layout-requires c κs = search needs
-
-word-requires : tie.Need-word-requires
-word-requires c κs = search needs
-
-edition-requires : tie.Need-edition-requires
-edition-requires c κs = search needs
-
 returns-2 : tie.Need-returns-2
 unfolding knownEdition
 returns-2 c = refuses _ 2 0 refl (past1 (c .before .before .before .before) ∙ broken 2 _ _ (ne-eqb _ 1 (λ e. c .if2 .taken (c .before .edition .ensures .value ∙ ap (field 0 8) (c .before .before .word .ensures) ∙ e))))
-
-counts-inside-requires : tie.Need-counts-inside-requires
-counts-inside-requires c κs = search needs
 
 returns-3 : tie.Need-returns-3
 returns-3 c = refuses _ 3 0 refl (past2 (c .before .before) ∙ broken 3 _ _ (sym (c .before .counts-inside .ensures) ∙ not-true _ (c .if3 .taken)))
@@ -75,41 +63,20 @@ returns-4 : tie.Need-returns-4
 unfolding exactLength
 returns-4 c = refuses _ 4 0 refl (past3 (c .before) ∙ broken 4 _ _ (ne-eqb _ _ (λ e. c .if4 .taken (e ∙ sym (c .before .before .before .before .before .before .read-layout .ensures .length)))))
 
-first-misfit-requires : tie.Need-first-misfit-requires
-first-misfit-requires c κs = search needs
-
 returns-5 : tie.Need-returns-5
 returns-5 c = refuses _ 5 _ refl (past4 (c .before .before) ∙ broken-at 5 ownFields _ _ _ _ (c .before .before .if4 .left) (c .before .first-misfit .ensures) (c .if5 .taken))
-
-first-misnamed-requires : tie.Need-first-misnamed-requires
-first-misnamed-requires c κs = search needs
 
 returns-6 : tie.Need-returns-6
 returns-6 c = refuses _ 6 _ refl (past5 (c .before .before) ∙ broken-at 6 names _ _ _ _ (c .before .before .before .before .if4 .left) (c .before .first-misnamed .ensures) (c .if6 .taken))
 
-slice-aggregate-find-depths : tie.Need-slice-aggregate-find-depths
-slice-aggregate-find-depths c = search needs
-
 find-depths-requires : tie.Need-find-depths-requires
 find-depths-requires c κs = (c .before .before .before .before .before .before .before .before .before .before .before .read-layout .ensures, few (c .before .before .before .before .before .before), no-round (c .before .before .before .before .before .before .before .before .before .before .before .before .before .before .args .t .now))
-
-slice-aggregate-first-deep : tie.Need-slice-aggregate-first-deep
-slice-aggregate-first-deep c = search needs
-
-first-deep-requires : tie.Need-first-deep-requires
-first-deep-requires c κs = search needs
 
 returns-7 : tie.Need-returns-7
 returns-7 c = refuses _ 7 _ refl (past6 (c .before .before .before .before .before .before) ∙ broken-at 7 nesting _ _ _ _ (c .before .before .before .before .before .before .before .before .before .before .if4 .left) (c .before .first-deep .ensures) (c .if7 .taken))
 
-first-clash-requires : tie.Need-first-clash-requires
-first-clash-requires c κs = search needs
-
 returns-8 : tie.Need-returns-8
 returns-8 c = refuses _ 8 _ refl (past7 (c .before .before) ∙ broken-at 8 owners _ _ _ _ (c .before .before .before .before .before .before .before .before .before .before .before .before .if4 .left) (c .before .first-clash .ensures) (c .if8 .taken))
-
-slice-aggregate-bound : tie.Need-slice-aggregate-bound
-slice-aggregate-bound c = search needs
 
 bound-requires : tie.Need-bound-requires
 bound-requires c κs = (c .before .before .before .before .before .before .before .before .before .before .before .before .before .before .before .before .before .before .before .read-layout .ensures, few (c .before .before .before .before .before .before .before .before .before .before .before .before .before .before), c .before .before .before .before .before .before .before .find-depths .ensures, no-deep-list _ _ _ (c .before .before .before .before .before .before .before .before .before .before .before .before .before .if4 .left) (c .before .before .before .before .before .before .before .before .before .before .before .before .before .before .before .before .before .before .before .read-layout .ensures .length) (c .before .before .before .before .first-deep .ensures) (c .before .before .before .if7 .left))
@@ -125,25 +92,25 @@ check-spec =
     tie.close
     (tie.spec
     returns
-    read-layout-requires
-    word-requires
-    edition-requires
+    (λ c κs. search needs)
+    (λ c κs. search needs)
+    (λ c κs. search needs)
     returns-2
-    counts-inside-requires
+    (λ c κs. search needs)
     returns-3
     returns-4
-    first-misfit-requires
+    (λ c κs. search needs)
     returns-5
-    first-misnamed-requires
+    (λ c κs. search needs)
     returns-6
-    slice-aggregate-find-depths
+    (λ c. search needs)
     find-depths-requires
-    slice-aggregate-first-deep
-    first-deep-requires
+    (λ c. search needs)
+    (λ c κs. search needs)
     returns-7
-    first-clash-requires
+    (λ c κs. search needs)
     returns-8
-    slice-aggregate-bound
+    (λ c. search needs)
     bound-requires
     returns-9
     returns-10)

@@ -17,29 +17,17 @@ bus-off-requires c κs = c .before .before .before .before .pre
 clear-requires : tie.Need-clear-requires
 clear-requires c κs = c .before .before .before .before .pre
 
-same-length : tie.Need-same-length
-same-length c = search needs
-
 returns : tie.Need-returns
 unfolding changed
 returns c = rw (c .before .before .before .before .match .keys1) (c .before .before .wake .ensures)
-
-same-length-2 : tie.Need-same-length-2
-same-length-2 c = search needs
 
 returns-2 : tie.Need-returns-2
 unfolding changed
 returns-2 c = rw (c .before .before .before .before .match .keys2) (c .before .before .validate .ensures)
 
-same-length-3 : tie.Need-same-length-3
-same-length-3 c = search needs
-
 returns-3 : tie.Need-returns-3
 unfolding changed
 returns-3 c = rw (c .before .before .before .before .match .keys3) (c .before .before .bus-off .ensures)
-
-same-length-4 : tie.Need-same-length-4
-same-length-4 c = search needs
 
 returns-4 : tie.Need-returns-4
 unfolding changed
@@ -53,11 +41,11 @@ change-spec =
     validate-requires
     bus-off-requires
     clear-requires
-    same-length
+    (λ c. search needs)
     returns
-    same-length-2
+    (λ c. search needs)
     returns-2
-    same-length-3
+    (λ c. search needs)
     returns-3
-    same-length-4
+    (λ c. search needs)
     returns-4)

@@ -22,12 +22,6 @@ loop-holds c = (omega arith, refl, rw sub-zero)
 tick-network-requires : tie.Need-tick-network-requires Inv-loop μ-loop
 tick-network-requires c κs = c .before .before .before .before .before .pre
 
-add-n : tie.Need-add-n Inv-loop μ-loop
-add-n c = omega arith
-
-loop-less : tie.Need-loop-less Inv-loop μ-loop
-loop-less c = omega arith
-
 loop-again : tie.Need-loop-again Inv-loop μ-loop
 loop-again c = (
   omega arith,
@@ -49,8 +43,8 @@ tick-networks-spec =
     μ-loop
     loop-holds
     tick-network-requires
-    add-n
-    loop-less
+    (λ c. omega arith)
+    (λ c. omega arith)
     loop-again
     same-length
     returns)

@@ -22,12 +22,6 @@ loop-holds c = (omega arith, refl, rw sub-zero)
 tick-source-requires : tie.Need-tick-source-requires Inv-loop μ-loop
 tick-source-requires c κs = c .before .before .before .before .before .pre
 
-add-k : tie.Need-add-k Inv-loop μ-loop
-add-k c = omega arith
-
-loop-less : tie.Need-loop-less Inv-loop μ-loop
-loop-less c = omega arith
-
 loop-again : tie.Need-loop-again Inv-loop μ-loop
 loop-again c = (
   omega arith,
@@ -49,8 +43,8 @@ tick-sources-spec =
     μ-loop
     loop-holds
     tick-source-requires
-    add-k
-    loop-less
+    (λ c. omega arith)
+    (λ c. omega arith)
     loop-again
     same-length
     returns)

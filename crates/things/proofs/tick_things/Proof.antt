@@ -13,9 +13,6 @@ tick-sources-requires c κs = c .before .before .before .before .before .before 
 tick-timers-requires : tie.Need-tick-timers-requires
 tick-timers-requires c κs = c .before .before .before .before .before .before .before .before .before .before .before .pre
 
-same-length : tie.Need-same-length
-same-length c = search needs
-
 returns : tie.Need-returns
 unfolding tickThings
 returns c = rw (← c .before .before .before .before .before .before .before .before .before .before .tick-networks .ensures, ← c .before .before .before .before .before .before .tick-sources .ensures) (c .before .before .tick-timers .ensures)
@@ -27,5 +24,5 @@ tick-things-spec =
     tick-networks-requires
     tick-sources-requires
     tick-timers-requires
-    same-length
+    (λ c. search needs)
     returns)

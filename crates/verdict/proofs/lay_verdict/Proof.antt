@@ -7,26 +7,8 @@ use Rattle.verdict.proofs.lay_verdict.Tie as tie
 returns : tie.Need-returns
 returns c = unlaid _ _ (c .if1 .taken)
 
-check-requires : tie.Need-check-requires
-check-requires c κs = search needs
-
-numbers-requires : tie.Need-numbers-requires
-numbers-requires c κs = search needs
-
 cast-place : tie.Need-cast-place
 cast-place c = let p = place-fits _ (c .before .before .check .result) (c .before .before .check .ensures) _ _ (c .before .numbers .ensures .0) (c .before .numbers .ensures .1) in search needs
-
-put-decimal-line-requires : tie.Need-put-decimal-line-requires
-put-decimal-line-requires c κs = search needs
-
-put-decimal-line-requires-2 : tie.Need-put-decimal-line-requires-2
-put-decimal-line-requires-2 c κs = search needs
-
-put-decimal-line-requires-3 : tie.Need-put-decimal-line-requires-3
-put-decimal-line-requires-3 c κs = search needs
-
-same-length : tie.Need-same-length
-same-length c = search needs
 
 returns-2 : tie.Need-returns-2
 returns-2 c =
@@ -38,11 +20,11 @@ lay-verdict-spec =
     tie.close
     (tie.spec
     returns
-    check-requires
-    numbers-requires
+    (λ c κs. search needs)
+    (λ c κs. search needs)
     cast-place
-    put-decimal-line-requires
-    put-decimal-line-requires-2
-    put-decimal-line-requires-3
-    same-length
+    (λ c κs. search needs)
+    (λ c κs. search needs)
+    (λ c κs. search needs)
+    (λ c. search needs)
     returns-2)

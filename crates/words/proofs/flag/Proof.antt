@@ -4,12 +4,9 @@ use borrow.Author.Needs.{needs}
 use Rattle.words.proofs.flag.Statement.{statement}
 use Rattle.words.proofs.flag.Tie as tie
 
-word-requires : tie.Need-word-requires
-word-requires c κs = search needs
-
 returns : tie.Need-returns
 unfolding flagged
 returns c = rw (← c .word .ensures)
 
 pub flag-spec : {M : Type 1} → statement M
-flag-spec = tie.close (tie.spec word-requires returns)
+flag-spec = tie.close (tie.spec (λ c κs. search needs) returns)

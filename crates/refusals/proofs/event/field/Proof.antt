@@ -6,15 +6,9 @@ use borrow.Author.Needs.{needs}
 use Rattle.refusals.proofs.event.field.Statement.{statement}
 use Rattle.refusals.proofs.event.field.Tie as tie
 
-div-result : tie.Need-div-result
-div-result c = search needs
-
-rem-result : tie.Need-rem-result
-rem-result c = search needs
-
 returns : tie.Need-returns
 unfolding digit
 returns c = record { value = refl; small = mod-lt _ (c .pre .1) }
 
 pub field-spec : {M : Type 1} → statement M
-field-spec = tie.close (tie.spec div-result rem-result returns)
+field-spec = tie.close (tie.spec (λ c. search needs) (λ c. search needs) returns)

@@ -5,15 +5,6 @@ use borrow.Author.Needs.{needs}
 use Rattle.text.proofs.output.digit.Statement.{statement}
 use Rattle.text.proofs.output.digit.Tie as tie
 
-cast-d : tie.Need-cast-d
-cast-d c = search needs
-
-add-result : tie.Need-add-result
-add-result c = search needs
-
-add-result-2 : tie.Need-add-result-2
-add-result-2 c = search needs
-
 returns : tie.Need-returns
 unfolding hexDigit
 returns c = rw (lt-ltb _ 10 (c .if1 .taken))
@@ -23,4 +14,4 @@ unfolding hexDigit
 returns-2 c = rw (le-ltb _ 10 (c .if1 .left))
 
 pub digit-spec : {M : Type 1} → statement M
-digit-spec = tie.close (tie.spec cast-d add-result add-result-2 returns returns-2)
+digit-spec = tie.close (tie.spec (λ c. search needs) (λ c. search needs) (λ c. search needs) returns returns-2)

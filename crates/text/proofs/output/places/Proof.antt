@@ -14,15 +14,6 @@ Inv-loop n k₀ rest₀ k rest = (places n + 1 ≡ k + places rest) × (k + rest
 abbrev μ-loop : tie.MeasureT-loop
 μ-loop n k₀ rest₀ k rest = rest
 
-loop-holds : tie.Need-loop-holds Inv-loop μ-loop
-loop-holds c = omega arith
-
-add-k : tie.Need-add-k Inv-loop μ-loop
-add-k c = omega arith
-
-loop-less : tie.Need-loop-less Inv-loop μ-loop
-loop-less c = omega arith
-
 loop-again : tie.Need-loop-again Inv-loop μ-loop
 loop-again c = omega (arith, places-more (c .before .loop .rest) (c .loop-test .taken))
 
@@ -30,4 +21,4 @@ returns : tie.Need-returns Inv-loop μ-loop
 returns c = omega (arith, places-one (c .before .loop .rest) (c .loop-test .left))
 
 pub places-spec : {M : Type 1} → statement M
-places-spec = tie.close (tie.spec Inv-loop μ-loop loop-holds add-k loop-less loop-again returns)
+places-spec = tie.close (tie.spec Inv-loop μ-loop (λ c. omega arith) (λ c. omega arith) (λ c. omega arith) loop-again returns)

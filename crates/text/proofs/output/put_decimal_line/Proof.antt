@@ -4,18 +4,9 @@ use borrow.Author.Needs.{needs}
 use Rattle.text.proofs.output.put_decimal_line.Statement.{statement}
 use Rattle.text.proofs.output.put_decimal_line.Tie as tie
 
-places-requires : tie.Need-places-requires
-places-requires c κs = search needs
-
-put-digits-requires : tie.Need-put-digits-requires
-put-digits-requires c κs = search needs
-
-same-length : tie.Need-same-length
-same-length c = search needs
-
 returns : tie.Need-returns
 unfolding decimal
 returns c = rw (c .before .before .before .places .ensures) at (c .before .before .put-digits .ensures)
 
 pub put-decimal-line-spec : {M : Type 1} → statement M
-put-decimal-line-spec = tie.close (tie.spec places-requires put-digits-requires same-length returns)
+put-decimal-line-spec = tie.close (tie.spec (λ c κs. search needs) (λ c κs. search needs) (λ c. search needs) returns)

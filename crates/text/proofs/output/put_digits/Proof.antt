@@ -18,43 +18,13 @@ Inv-loop out₀ at n base k end last i₀ rest₀ out i rest =
 abbrev μ-loop : tie.MeasureT-loop
 μ-loop out₀ at n base k end last i₀ rest₀ out i rest = i
 
-past-requires : tie.Need-past-requires Inv-loop μ-loop
-past-requires c κs = search needs
-
 returns : tie.Need-returns Inv-loop μ-loop
 returns c =
     let a = c .before .before .before .args in
     digits-full (a .at) (a .base) (a .out .now) (a .k) (a .n) (a .end) (omega arith)
 
-add-last : tie.Need-add-last Inv-loop μ-loop
-add-last c = omega arith
-
-slice-write-out : tie.Need-slice-write-out Inv-loop μ-loop
-slice-write-out c = omega arith
-
-loop-holds : tie.Need-loop-holds Inv-loop μ-loop
-loop-holds c = search needs
-
-sub-i : tie.Need-sub-i Inv-loop μ-loop
-sub-i c = omega arith
-
-rem-digit : tie.Need-rem-digit Inv-loop μ-loop
-rem-digit c = search needs
-
-digit-requires : tie.Need-digit-requires Inv-loop μ-loop
-digit-requires c κs = search needs
-
-add-out : tie.Need-add-out Inv-loop μ-loop
-add-out c = omega arith
-
 slice-write-out-2 : tie.Need-slice-write-out-2 Inv-loop μ-loop
 slice-write-out-2 c = omega (arith, simp length-set at (c .before .before .loop .inv .1))
-
-div-rest : tie.Need-div-rest Inv-loop μ-loop
-div-rest c = search needs
-
-loop-less : tie.Need-loop-less Inv-loop μ-loop
-loop-less c = omega arith
 
 loop-again : tie.Need-loop-again Inv-loop μ-loop
 loop-again c =
@@ -66,9 +36,6 @@ loop-again c =
     (c .before .loop-test .taken) (omega arith) (s .pre .0) (s .pre .1) (c .digit .ensures)
     in
     (omega arith, simp length-set same, turn ∙ l .inv .2)
-
-add-result : tie.Need-add-result Inv-loop μ-loop
-add-result c = omega arith
 
 same-length : tie.Need-same-length Inv-loop μ-loop
 same-length c = simp length-set at (c .before .loop .inv .1)
@@ -85,19 +52,19 @@ put-digits-spec =
     (tie.spec
     Inv-loop
     μ-loop
-    past-requires
+    (λ c κs. search needs)
     returns
-    add-last
-    slice-write-out
-    loop-holds
-    sub-i
-    rem-digit
-    digit-requires
-    add-out
+    (λ c. omega arith)
+    (λ c. omega arith)
+    (λ c. search needs)
+    (λ c. omega arith)
+    (λ c. search needs)
+    (λ c κs. search needs)
+    (λ c. omega arith)
     slice-write-out-2
-    div-rest
-    loop-less
+    (λ c. search needs)
+    (λ c. omega arith)
     loop-again
-    add-result
+    (λ c. omega arith)
     same-length
     returns-2)

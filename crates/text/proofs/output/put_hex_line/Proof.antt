@@ -4,12 +4,6 @@ use borrow.Author.Needs.{needs}
 use Rattle.text.proofs.output.put_hex_line.Statement.{statement}
 use Rattle.text.proofs.output.put_hex_line.Tie as tie
 
-put-digits-requires : tie.Need-put-digits-requires
-put-digits-requires c κs = search needs
-
-same-length : tie.Need-same-length
-same-length c = search needs
-
 returns : tie.Need-returns
 unfolding hexLine
 returns c =
@@ -17,4 +11,4 @@ returns c =
     record { place = e .place; bytes = e .bytes; within = e .within }
 
 pub put-hex-line-spec : {M : Type 1} → statement M
-put-hex-line-spec = tie.close (tie.spec put-digits-requires same-length returns)
+put-hex-line-spec = tie.close (tie.spec (λ c κs. search needs) (λ c. search needs) returns)

@@ -18,40 +18,10 @@ Inv-loop out₀ at words from to n next₀ i₀ out next i =
 abbrev μ-loop : tie.MeasureT-loop
 μ-loop out₀ at words from to n next₀ i₀ out next i = n - i
 
-least-requires : tie.Need-least-requires Inv-loop μ-loop
-least-requires c κs = search needs
-
-past-requires : tie.Need-past-requires Inv-loop μ-loop
-past-requires c κs = search needs
-
-past-requires-2 : tie.Need-past-requires-2 Inv-loop μ-loop
-past-requires-2 c κs = search needs
-
-least-requires-2 : tie.Need-least-requires-2 Inv-loop μ-loop
-least-requires-2 c κs = search needs
-
 loop-holds : tie.Need-loop-holds Inv-loop μ-loop
 loop-holds c =
     let a = c .before .before .before .before .before .before .args in
     (omega arith, refl, omega arith, none-laid (a .out .now) (a .at) (run (a .words .now) (a .from) (a .to)))
-
-add-put-hex-line : tie.Need-add-put-hex-line Inv-loop μ-loop
-add-put-hex-line c = omega arith
-
-mul-put-hex-line : tie.Need-mul-put-hex-line Inv-loop μ-loop
-mul-put-hex-line c = omega arith
-
-shared-slice-read-put-hex-line : tie.Need-shared-slice-read-put-hex-line Inv-loop μ-loop
-shared-slice-read-put-hex-line c = omega arith
-
-put-hex-line-requires : tie.Need-put-hex-line-requires Inv-loop μ-loop
-put-hex-line-requires c κs = search needs
-
-add-i : tie.Need-add-i Inv-loop μ-loop
-add-i c = omega arith
-
-loop-less : tie.Need-loop-less Inv-loop μ-loop
-loop-less c = omega arith
 
 loop-again : tie.Need-loop-again Inv-loop μ-loop
 loop-again c =
@@ -84,17 +54,17 @@ put-words-spec =
     (tie.spec
     Inv-loop
     μ-loop
-    least-requires
-    past-requires
-    past-requires-2
-    least-requires-2
+    (λ c κs. search needs)
+    (λ c κs. search needs)
+    (λ c κs. search needs)
+    (λ c κs. search needs)
     loop-holds
-    add-put-hex-line
-    mul-put-hex-line
-    shared-slice-read-put-hex-line
-    put-hex-line-requires
-    add-i
-    loop-less
+    (λ c. omega arith)
+    (λ c. omega arith)
+    (λ c. omega arith)
+    (λ c κs. search needs)
+    (λ c. omega arith)
+    (λ c. omega arith)
     loop-again
     same-length
     returns)

@@ -8,27 +8,15 @@ use Rattle.things.proofs.networks.bus_off.Tie as tie
 network-in-requires : tie.Need-network-in-requires
 network-in-requires c κs = c .before .before .before .pre
 
-takes-requires : tie.Need-takes-requires
-takes-requires c κs = tt
-
-counted-up-requires : tie.Need-counted-up-requires
-counted-up-requires c κs = tt
-
 off-bus-requires : tie.Need-off-bus-requires
 off-bus-requires c κs = c .before .before .before .before .before .before .before .pre
 
 move-network-requires : tie.Need-move-network-requires
 move-network-requires c κs = c .before .before .before .before .before .before .before .before .before .pre
 
-same-length : tie.Need-same-length
-same-length c = search needs
-
 returns : tie.Need-returns
 unfolding busOff
 returns c = rw (← c .before .before .before .before .before .before .before .before .network-in .ensures, ← same-counter (c .before .before .before .before .before .before .before .before .network-in .ensures), ← c .before .before .before .before .before .before .before .takes .ensures, c .before .before .before .before .before .before .if1 .taken, ← c .before .before .before .before .before .counted-up .ensures, ← c .before .before .before .before .off-bus .ensures) (c .before .before .move-network .ensures)
-
-same-length-2 : tie.Need-same-length-2
-same-length-2 c = search needs
 
 returns-2 : tie.Need-returns-2
 unfolding busOff
@@ -39,11 +27,11 @@ bus-off-spec =
     tie.close
     (tie.spec
     network-in-requires
-    takes-requires
-    counted-up-requires
+    (λ c κs. tt)
+    (λ c κs. tt)
     off-bus-requires
     move-network-requires
-    same-length
+    (λ c. search needs)
     returns
-    same-length-2
+    (λ c. search needs)
     returns-2)

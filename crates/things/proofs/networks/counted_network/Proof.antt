@@ -8,38 +8,17 @@ use Rattle.things.proofs.networks.counted_network.Tie as tie
 waits-word-requires : tie.Need-waits-word-requires
 waits-word-requires c κs = c .before .before .before .pre
 
-e-ticks-requires : tie.Need-e-ticks-requires
-e-ticks-requires c κs = tt
-
-moved-requires : tie.Need-moved-requires
-moved-requires c κs = tt
-
 returns : tie.Need-returns
 unfolding countedNetwork
 returns c = rw (eq-eqb _ _ (c .before .before .before .before .if1 .taken), le-leb _ _ (c .before .before .before .if2 .taken), ← c .before .before .waits-word .ensures, ← c .before .e-ticks .ensures .value) (c .moved .ensures)
-
-sub-moved : tie.Need-sub-moved
-sub-moved c = search needs
-
-moved-requires-2 : tie.Need-moved-requires-2
-moved-requires-2 c κs = tt
 
 returns-2 : tie.Need-returns-2
 unfolding countedNetwork
 returns-2 c = rw (eq-eqb _ _ (c .before .before .if1 .taken), lt-leb _ _ (c .before .if2 .left)) (c .moved2 .ensures)
 
-moved-requires-3 : tie.Need-moved-requires-3
-moved-requires-3 c κs = tt
-
 returns-3 : tie.Need-returns-3
 unfolding countedNetwork
 returns-3 c = rw (ne-eqb _ _ (c .before .before .before .if1 .left), eq-eqb _ _ (c .before .before .if3 .taken), le-leb _ _ (c .before .if4 .taken)) (c .moved3 .ensures)
-
-sub-moved-2 : tie.Need-sub-moved-2
-sub-moved-2 c = search needs
-
-moved-requires-4 : tie.Need-moved-requires-4
-moved-requires-4 c κs = tt
 
 returns-4 : tie.Need-returns-4
 unfolding countedNetwork
@@ -54,15 +33,15 @@ counted-network-spec =
     tie.close
     (tie.spec
     waits-word-requires
-    e-ticks-requires
-    moved-requires
+    (λ c κs. tt)
+    (λ c κs. tt)
     returns
-    sub-moved
-    moved-requires-2
+    (λ c. search needs)
+    (λ c κs. tt)
     returns-2
-    moved-requires-3
+    (λ c κs. tt)
     returns-3
-    sub-moved-2
-    moved-requires-4
+    (λ c. search needs)
+    (λ c κs. tt)
     returns-4
     returns-5)

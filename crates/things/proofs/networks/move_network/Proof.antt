@@ -9,17 +9,8 @@ use Rattle.things.proofs.networks.move_network.Tie as tie
 network-in-requires : tie.Need-network-in-requires
 network-in-requires c κs = c .before .before .before .pre
 
-shown-requires : tie.Need-shown-requires
-shown-requires c κs = tt
-
-shown-requires-2 : tie.Need-shown-requires-2
-shown-requires-2 c κs = tt
-
 set-network-requires : tie.Need-set-network-requires
 set-network-requires c κs = c .before .before .before .before .before .before .before .pre
-
-same-length : tie.Need-same-length
-same-length c = search needs
 
 returns : tie.Need-returns
 unfolding moveNetwork
@@ -27,15 +18,6 @@ returns c = rw (← same-state (c .before .before .before .before .before .befor
 
 network-word-requires : tie.Need-network-word-requires
 network-word-requires c κs = c .before .before .before .before .before .before .before .before .before .before .before .pre
-
-network-port-requires : tie.Need-network-port-requires
-network-port-requires c κs = tt
-
-set-port-requires : tie.Need-set-port-requires
-set-port-requires c κs = tt
-
-same-length-2 : tie.Need-same-length-2
-same-length-2 c = search needs
 
 returns-2 : tie.Need-returns-2
 unfolding moveNetwork
@@ -46,13 +28,13 @@ move-network-spec =
     tie.close
     (tie.spec
     network-in-requires
-    shown-requires
-    shown-requires-2
+    (λ c κs. tt)
+    (λ c κs. tt)
     set-network-requires
-    same-length
+    (λ c. search needs)
     returns
     network-word-requires
-    network-port-requires
-    set-port-requires
-    same-length-2
+    (λ c κs. tt)
+    (λ c κs. tt)
+    (λ c. search needs)
     returns-2)

@@ -5,21 +5,6 @@ use Rattle.things.proofs.networks.network_in.Tie as tie
 network-index-requires : tie.Need-network-index-requires
 network-index-requires c κs = c .before .before .pre
 
-word-requires : tie.Need-word-requires
-word-requires c κs = tt
-
-asked-requires : tie.Need-asked-requires
-asked-requires c κs = tt
-
-network-state-requires : tie.Need-network-state-requires
-network-state-requires c κs = tt
-
-counter-requires : tie.Need-counter-requires
-counter-requires c κs = tt
-
-remaining-requires : tie.Need-remaining-requires
-remaining-requires c κs = tt
-
 returns : tie.Need-returns
 returns c = rw (← c .before .before .before .before .before .network-index .ensures, ← c .before .before .before .before .word .ensures, ← c .before .before .before .asked .ensures .value, ← c .before .before .network-state .ensures .value, ← c .before .counter .ensures .value, ← c .remaining .ensures .value)
 
@@ -28,9 +13,9 @@ network-in-spec =
     tie.close
     (tie.spec
     network-index-requires
-    word-requires
-    asked-requires
-    network-state-requires
-    counter-requires
-    remaining-requires
+    (λ c κs. tt)
+    (λ c κs. tt)
+    (λ c κs. tt)
+    (λ c κs. tt)
+    (λ c κs. tt)
     returns)

@@ -7,15 +7,6 @@ use Rattle.things.proofs.networks.set_network.Tie as tie
 network-index-requires : tie.Need-network-index-requires
 network-index-requires c κs = c .before .before .pre
 
-pack-network-requires : tie.Need-pack-network-requires
-pack-network-requires c κs = tt
-
-put-requires : tie.Need-put-requires
-put-requires c κs = tt
-
-same-length : tie.Need-same-length
-same-length c = search needs
-
 returns : tie.Need-returns
 unfolding setNetwork
 returns c = rw (← c .before .before .before .before .before .network-index .ensures, ← c .before .before .before .before .pack-network .ensures) (c .before .before .put .ensures)
@@ -23,4 +14,4 @@ returns c = rw (← c .before .before .before .before .before .network-index .en
 pub set-network-spec : {M : Type 1} → statement M
 set-network-spec =
     tie.close
-    (tie.spec network-index-requires pack-network-requires put-requires same-length returns)
+    (tie.spec network-index-requires (λ c κs. tt) (λ c κs. tt) (λ c. search needs) returns)

@@ -13,9 +13,6 @@ ticked-network-requires c κs = c .before .before .before .before .pre
 move-network-requires : tie.Need-move-network-requires
 move-network-requires c κs = c .before .before .before .before .before .before .pre
 
-same-length : tie.Need-same-length
-same-length c = search needs
-
 returns : tie.Need-returns
 unfolding tickNetwork
 returns c = rw (← c .before .before .before .before .before .network-in .ensures, ← c .before .before .before .before .ticked-network .ensures) (c .before .before .move-network .ensures)
@@ -27,5 +24,5 @@ tick-network-spec =
     network-in-requires
     ticked-network-requires
     move-network-requires
-    same-length
+    (λ c. search needs)
     returns)

@@ -4,15 +4,9 @@ use borrow.Author.Tests.{eq-eqb, ne-eqb}
 use Rattle.things.proofs.networks.ticked_network.Statement.{statement}
 use Rattle.things.proofs.networks.ticked_network.Tie as tie
 
-moved-requires : tie.Need-moved-requires
-moved-requires c κs = tt
-
 returns : tie.Need-returns
 unfolding tickedNetwork
 returns c = rw (eq-eqb _ _ (c .before .if1 .taken)) (c .moved .ensures)
-
-moved-requires-2 : tie.Need-moved-requires-2
-moved-requires-2 c κs = tt
 
 returns-2 : tie.Need-returns-2
 unfolding tickedNetwork
@@ -20,12 +14,6 @@ returns-2 c = rw (ne-eqb _ _ (c .before .before .if1 .left), c .before .if2 .tak
 
 waits-word-requires : tie.Need-waits-word-requires
 waits-word-requires c κs = c .before .before .before .before .pre
-
-e-ticks-requires : tie.Need-e-ticks-requires
-e-ticks-requires c κs = tt
-
-moved-requires-3 : tie.Need-moved-requires-3
-moved-requires-3 c κs = tt
 
 returns-3 : tie.Need-returns-3
 unfolding tickedNetwork
@@ -42,13 +30,13 @@ pub ticked-network-spec : {M : Type 1} → statement M
 ticked-network-spec =
     tie.close
     (tie.spec
-    moved-requires
+    (λ c κs. tt)
     returns
-    moved-requires-2
+    (λ c κs. tt)
     returns-2
     waits-word-requires
-    e-ticks-requires
-    moved-requires-3
+    (λ c κs. tt)
+    (λ c κs. tt)
     returns-3
     counted-network-requires
     returns-4)

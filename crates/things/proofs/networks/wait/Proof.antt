@@ -7,17 +7,8 @@ use Rattle.things.proofs.networks.wait.Tie as tie
 network-word-requires : tie.Need-network-word-requires
 network-word-requires c κs = c .before .pre
 
-network-threshold-requires : tie.Need-network-threshold-requires
-network-threshold-requires c κs = tt
-
 waits-word-requires : tie.Need-waits-word-requires
 waits-word-requires c κs = c .before .before .before .pre
-
-l1-requires : tie.Need-l1-requires
-l1-requires c κs = tt
-
-l2-requires : tie.Need-l2-requires
-l2-requires c κs = tt
 
 returns : tie.Need-returns
 unfolding wait
@@ -32,9 +23,9 @@ wait-spec =
     tie.close
     (tie.spec
     network-word-requires
-    network-threshold-requires
+    (λ c κs. tt)
     waits-word-requires
-    l1-requires
-    l2-requires
+    (λ c κs. tt)
+    (λ c κs. tt)
     returns
     returns-2)

@@ -4,18 +4,9 @@ use borrow.Author.Needs.{needs}
 use Rattle.things.proofs.ports.set_port.Statement.{statement}
 use Rattle.things.proofs.ports.set_port.Tie as tie
 
-pack-port-requires : tie.Need-pack-port-requires
-pack-port-requires c κs = tt
-
-put-requires : tie.Need-put-requires
-put-requires c κs = tt
-
-same-length : tie.Need-same-length
-same-length c = search needs
-
 returns : tie.Need-returns
 unfolding setPort
 returns c = rw (c .before .before .put .ensures, c .before .before .before .before .pack-port .ensures)
 
 pub set-port-spec : {M : Type 1} → statement M
-set-port-spec = tie.close (tie.spec pack-port-requires put-requires same-length returns)
+set-port-spec = tie.close (tie.spec (λ c κs. tt) (λ c κs. tt) (λ c. search needs) returns)

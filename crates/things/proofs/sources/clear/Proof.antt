@@ -7,12 +7,9 @@ use Rattle.things.proofs.sources.clear.Tie as tie
 move-source-requires : tie.Need-move-source-requires
 move-source-requires c κs = c .before .before .before .pre
 
-same-length : tie.Need-same-length
-same-length c = search needs
-
 returns : tie.Need-returns
 unfolding clear
 returns c = c .before .before .move-source .ensures
 
 pub clear-spec : {M : Type 1} → statement M
-clear-spec = tie.close (tie.spec move-source-requires same-length returns)
+clear-spec = tie.close (tie.spec move-source-requires (λ c. search needs) returns)

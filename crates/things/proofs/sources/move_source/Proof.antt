@@ -11,24 +11,12 @@ source-status-requires c κs = c .before .before .before .pre
 set-source-requires : tie.Need-set-source-requires
 set-source-requires c κs = c .before .before .before .before .before .pre
 
-same-length : tie.Need-same-length
-same-length c = search needs
-
 returns : tie.Need-returns
 unfolding moveSource
 returns c = rw (← c .before .before .before .before .before .source-status .ensures .value, eq-eqb _ _ (c .if1 .taken)) (c .before .before .before .set-source .ensures)
 
 source-word-requires : tie.Need-source-word-requires
 source-word-requires c κs = c .before .before .before .before .before .before .before .before .before .pre
-
-source-port-requires : tie.Need-source-port-requires
-source-port-requires c κs = tt
-
-set-port-requires : tie.Need-set-port-requires
-set-port-requires c κs = tt
-
-same-length-2 : tie.Need-same-length-2
-same-length-2 c = search needs
 
 returns-2 : tie.Need-returns-2
 unfolding moveSource
@@ -40,10 +28,10 @@ move-source-spec =
     (tie.spec
     source-status-requires
     set-source-requires
-    same-length
+    (λ c. search needs)
     returns
     source-word-requires
-    source-port-requires
-    set-port-requires
-    same-length-2
+    (λ c κs. tt)
+    (λ c κs. tt)
+    (λ c. search needs)
     returns-2)

@@ -7,15 +7,6 @@ use Rattle.things.proofs.sources.set_source.Tie as tie
 source-index-requires : tie.Need-source-index-requires
 source-index-requires c κs = c .before .before .pre
 
-pack-source-requires : tie.Need-pack-source-requires
-pack-source-requires c κs = tt
-
-put-requires : tie.Need-put-requires
-put-requires c κs = tt
-
-same-length : tie.Need-same-length
-same-length c = search needs
-
 returns : tie.Need-returns
 unfolding setSource
 returns c = rw (← c .before .before .before .before .before .source-index .ensures, ← c .before .before .before .before .pack-source .ensures) (c .before .before .put .ensures)
@@ -23,4 +14,4 @@ returns c = rw (← c .before .before .before .before .before .source-index .ens
 pub set-source-spec : {M : Type 1} → statement M
 set-source-spec =
     tie.close
-    (tie.spec source-index-requires pack-source-requires put-requires same-length returns)
+    (tie.spec source-index-requires (λ c κs. tt) (λ c κs. tt) (λ c. search needs) returns)

@@ -5,15 +5,9 @@ use Rattle.things.proofs.sources.source_status.Tie as tie
 source-index-requires : tie.Need-source-index-requires
 source-index-requires c κs = c .before .before .pre
 
-word-requires : tie.Need-word-requires
-word-requires c κs = tt
-
-status-requires : tie.Need-status-requires
-status-requires c κs = tt
-
 returns : tie.Need-returns
 returns c = rw (← c .before .before .source-index .ensures, ← c .before .word .ensures) (c .status .ensures)
 
 pub source-status-spec : {M : Type 1} → statement M
 source-status-spec =
-    tie.close (tie.spec source-index-requires word-requires status-requires returns)
+    tie.close (tie.spec source-index-requires (λ c κs. tt) (λ c κs. tt) returns)

@@ -8,40 +8,19 @@ use Rattle.things.proofs.sources.tick_source.Tie as tie
 source-index-requires : tie.Need-source-index-requires
 source-index-requires c κs = c .before .before .pre
 
-word-requires : tie.Need-word-requires
-word-requires c κs = tt
-
-status-requires : tie.Need-status-requires
-status-requires c κs = tt
-
-remaining-requires : tie.Need-remaining-requires
-remaining-requires c κs = tt
-
 move-source-requires : tie.Need-move-source-requires
 move-source-requires c κs = c .before .before .before .before .before .before .before .before .before .before .pre
 
-sub-move-source : tie.Need-sub-move-source
-sub-move-source c = search needs
-
 move-source-requires-2 : tie.Need-move-source-requires-2
 move-source-requires-2 c κs = c .before .before .before .before .before .before .before .before .before .before .pre
-
-same-length : tie.Need-same-length
-same-length c = search needs
 
 returns : tie.Need-returns
 unfolding tickSource
 returns c = rw (← c .before .before .before .before .before .before .before .before .before .before .source-index .ensures, ← c .before .before .before .before .before .before .before .before .word .ensures, ← c .before .before .before .before .before .before .before .status .ensures .value, ← c .before .before .before .before .before .before .remaining .ensures .value, eq-eqb _ _ (c .before .before .before .before .before .if1 .taken), le-leb _ _ (c .before .before .before .before .if2 .taken)) (c .before .before .move-source .ensures)
 
-same-length-2 : tie.Need-same-length-2
-same-length-2 c = search needs
-
 returns-2 : tie.Need-returns-2
 unfolding tickSource
 returns-2 c = rw (← c .before .before .before .before .before .before .before .before .before .before .source-index .ensures, ← c .before .before .before .before .before .before .before .before .word .ensures, ← c .before .before .before .before .before .before .before .status .ensures .value, ← c .before .before .before .before .before .before .remaining .ensures .value, eq-eqb _ _ (c .before .before .before .before .before .if1 .taken), lt-leb _ _ (c .before .before .before .before .if2 .left)) (c .before .before .move-source2 .ensures)
-
-same-length-3 : tie.Need-same-length-3
-same-length-3 c = search needs
 
 returns-3 : tie.Need-returns-3
 unfolding tickSource
@@ -52,15 +31,15 @@ tick-source-spec =
     tie.close
     (tie.spec
     source-index-requires
-    word-requires
-    status-requires
-    remaining-requires
+    (λ c κs. tt)
+    (λ c κs. tt)
+    (λ c κs. tt)
     move-source-requires
-    sub-move-source
+    (λ c. search needs)
     move-source-requires-2
-    same-length
+    (λ c. search needs)
     returns
-    same-length-2
+    (λ c. search needs)
     returns-2
-    same-length-3
+    (λ c. search needs)
     returns-3)

@@ -11,15 +11,9 @@ source-status-requires c κs = c .before .before .before .pre
 move-source-requires : tie.Need-move-source-requires
 move-source-requires c κs = c .before .before .before .before .before .before .pre
 
-same-length : tie.Need-same-length
-same-length c = search needs
-
 returns : tie.Need-returns
 unfolding validate
 returns c = rw (← c .before .before .before .before .before .source-status .ensures .value, eq-eqb _ _ (c .before .before .before .before .if1 .taken)) (c .before .before .move-source .ensures)
-
-same-length-2 : tie.Need-same-length-2
-same-length-2 c = search needs
 
 returns-2 : tie.Need-returns-2
 unfolding validate
@@ -31,7 +25,7 @@ validate-spec =
     (tie.spec
     source-status-requires
     move-source-requires
-    same-length
+    (λ c. search needs)
     returns
-    same-length-2
+    (λ c. search needs)
     returns-2)

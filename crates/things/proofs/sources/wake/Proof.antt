@@ -10,24 +10,12 @@ source-status-requires c κs = c .before .before .before .pre
 source-word-requires : tie.Need-source-word-requires
 source-word-requires c κs = c .before .before .before .before .before .pre
 
-source-timeout-requires : tie.Need-source-timeout-requires
-source-timeout-requires c κs = tt
-
-woken-requires : tie.Need-woken-requires
-woken-requires c κs = tt
-
 move-source-requires : tie.Need-move-source-requires
 move-source-requires c κs = c .before .before .before .before .before .before .before .before .before .pre
-
-same-length : tie.Need-same-length
-same-length c = search needs
 
 returns : tie.Need-returns
 unfolding wake
 returns c = rw (← c .before .before .before .before .before .before .before .before .source-status .ensures .value, c .before .before .before .before .before .before .before .if1 .taken, ← c .before .before .before .before .before .before .source-word .ensures, ← c .before .before .before .before .before .source-timeout .ensures .value, ← c .before .before .before .before .woken .ensures) (c .before .before .move-source .ensures)
-
-same-length-2 : tie.Need-same-length-2
-same-length-2 c = search needs
 
 returns-2 : tie.Need-returns-2
 unfolding wake
@@ -39,10 +27,10 @@ wake-spec =
     (tie.spec
     source-status-requires
     source-word-requires
-    source-timeout-requires
-    woken-requires
+    (λ c κs. tt)
+    (λ c κs. tt)
     move-source-requires
-    same-length
+    (λ c. search needs)
     returns
-    same-length-2
+    (λ c. search needs)
     returns-2)

@@ -4,50 +4,26 @@ use borrow.Author.Needs.{needs}
 use Rattle.words.proofs.parts.part_at.Statement.{statement}
 use Rattle.words.proofs.parts.part_at.Tie as tie
 
-cast-t13 : tie.Need-cast-t13
-cast-t13 c = search needs
-
 returns : tie.Need-returns
 returns c = item-part _ _ (c .before .pre .0) _ (c .if1 .taken)
-
-cast-t15 : tie.Need-cast-t15
-cast-t15 c = search needs
 
 returns-2 : tie.Need-returns-2
 returns-2 c = list-part _ _ (c .before .before .pre .0) _ (c .if2 .taken) (c .before .if1 .left)
 
-cast-t17 : tie.Need-cast-t17
-cast-t17 c = search needs
-
 returns-3 : tie.Need-returns-3
 returns-3 c = rule-part _ _ (c .before .before .before .pre .0) _ (c .if3 .taken) (c .before .if2 .left)
-
-cast-t19 : tie.Need-cast-t19
-cast-t19 c = search needs
 
 returns-4 : tie.Need-returns-4
 returns-4 c = expression-part _ _ (c .before .before .before .before .pre .0) _ (c .if4 .taken) (c .before .if3 .left)
 
-cast-t21 : tie.Need-cast-t21
-cast-t21 c = search needs
-
 returns-5 : tie.Need-returns-5
 returns-5 c = source-part _ _ (c .before .before .before .before .before .pre .0) _ (c .if5 .taken) (c .before .if4 .left)
-
-cast-t25 : tie.Need-cast-t25
-cast-t25 c = search needs
 
 returns-6 : tie.Need-returns-6
 returns-6 c = network-part _ _ (c .before .before .before .before .before .before .before .pre .0) _ (c .before .if6 .taken) (c .before .before .if5 .left) (c .if7 .taken)
 
-cast-t26 : tie.Need-cast-t26
-cast-t26 c = search needs
-
 returns-7 : tie.Need-returns-7
 returns-7 c = waits-part _ _ (c .before .before .before .before .before .before .before .pre .0) _ (c .before .if6 .taken) (c .before .before .if5 .left) (c .if7 .left)
-
-cast-t28 : tie.Need-cast-t28
-cast-t28 c = search needs
 
 returns-8 : tie.Need-returns-8
 returns-8 c = port-part _ _ (c .before .before .before .before .before .before .before .pre .0) _ (c .if8 .taken) (c .before .if6 .left)
@@ -59,20 +35,20 @@ pub part-at-spec : {M : Type 1} → statement M
 part-at-spec =
     tie.close
     (tie.spec
-    cast-t13
+    (λ c. search needs)
     returns
-    cast-t15
+    (λ c. search needs)
     returns-2
-    cast-t17
+    (λ c. search needs)
     returns-3
-    cast-t19
+    (λ c. search needs)
     returns-4
-    cast-t21
+    (λ c. search needs)
     returns-5
-    cast-t25
+    (λ c. search needs)
     returns-6
-    cast-t26
+    (λ c. search needs)
     returns-7
-    cast-t28
+    (λ c. search needs)
     returns-8
     returns-9)

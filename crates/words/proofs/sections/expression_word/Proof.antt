@@ -8,11 +8,8 @@ use Rattle.words.proofs.sections.expression_word.Tie as tie
 add-word : tie.Need-add-word
 add-word c = let near = expressions-near (c .before .args .t .now) in omega (arith, c .before .pre)
 
-word-requires : tie.Need-word-requires
-word-requires c κs = search needs
-
 returns : tie.Need-returns
 returns c = rw (← c .before .before .pre) (c .word .ensures)
 
 pub expression-word-spec : {M : Type 1} → statement M
-expression-word-spec = tie.close (tie.spec add-word word-requires returns)
+expression-word-spec = tie.close (tie.spec add-word (λ c κs. search needs) returns)

@@ -5,24 +5,6 @@ use borrow.Author.Needs.{needs}
 use Rattle.words.proofs.state.pack_port.Statement.{statement}
 use Rattle.words.proofs.state.pack_port.Tie as tie
 
-mul-result : tie.Need-mul-result
-mul-result c = search needs
-
-mul-result-2 : tie.Need-mul-result-2
-mul-result-2 c = search needs
-
-add-result : tie.Need-add-result
-add-result c = search needs
-
-mul-result-3 : tie.Need-mul-result-3
-mul-result-3 c = search needs
-
-add-result-2 : tie.Need-add-result-2
-add-result-2 c = search needs
-
-add-result-3 : tie.Need-add-result-3
-add-result-3 c = search needs
-
 returns : tie.Need-returns
 unfolding packPort
 returns c = omega arith
@@ -30,4 +12,4 @@ returns c = omega arith
 pub pack-port-spec : {M : Type 1} → statement M
 pack-port-spec =
     tie.close
-    (tie.spec mul-result mul-result-2 add-result mul-result-3 add-result-2 add-result-3 returns)
+    (tie.spec (λ c. search needs) (λ c. search needs) (λ c. search needs) (λ c. search needs) (λ c. search needs) (λ c. search needs) returns)

@@ -5,12 +5,9 @@ use borrow.Author.Needs.{needs}
 use Rattle.words.proofs.state.pack_rule.Statement.{statement}
 use Rattle.words.proofs.state.pack_rule.Tie as tie
 
-mul-result : tie.Need-mul-result
-mul-result c = search needs
-
 returns : tie.Need-returns
 unfolding packRule
 returns c = omega arith
 
 pub pack-rule-spec : {M : Type 1} → statement M
-pack-rule-spec = tie.close (tie.spec mul-result returns)
+pack-rule-spec = tie.close (tie.spec (λ c. search needs) returns)
