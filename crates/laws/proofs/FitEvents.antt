@@ -19,7 +19,7 @@ use Rattle.laws.proofs.Walks.{each-keeps}
 use Rattle.laws.proofs.Fields.{digit-small}
 use Rattle.laws.proofs.Fit.{NetworkOk, SourceOk}
 use Rattle.laws.proofs.FitKept.{Fits, port-in, network-in, source-in, port-put, network-put, source-put, timer-deferred, plain-ok, timer-ok, arbitrate-fits}
-use Rattle.laws.proofs.Happen.{Taken, happen-cases, mode-index, mode-kind, request-index, request-kind, bus-off-index, source-index}
+use Rattle.laws.proofs.Happen.{Taken, Event, aTick, aMode, aRequest, aWakeup, aValid, aBusOff, aClear, event}
 
 -- The port of a network or a source.
 
@@ -200,13 +200,13 @@ module _ (t : List ℕ) (f : Facts t) where
   request-fits p v s b nt v₈ ev h = request-cases (λ x. Fits t (x .state)) p v s b nt v₈ ev h (λ fit. fit) (λ fit. arbitrate-fits t f (only p) _ fit)
 
   pub happen-fits : (e : ℕ) (s : List ℕ) → Taken t e → Fits t s → Fits t (happen t e s .state)
-  unfolding tick arbitrateMarked
-  happen-fits e s w h =
-      happen-cases (λ x. Fits t (x .state)) t e s
-      (λ k. arbitrate-fits t f _ _ (things-fit s h))
-      (λ k. let m = mode-kind t e w k in request-fits (eventIndex e) (eventValue e) s (mode-index t e w k) (λ z. omega arith) (digit-small _ 256 _ (omega arith)) (λ z. absurd (omega arith)) h)
-      (λ k. let m = request-kind t e w k in request-fits (eventIndex e) 1 s (request-index t e w k) (λ z. omega arith) (omega arith) (λ z. omega arith) h)
-      (λ k. wake-fits (eventIndex e) s (source-index t e w (λ z. omega arith) (λ z. omega arith) (λ z. omega arith) (λ z. omega arith)) h)
-      (λ k. validate-fits (eventIndex e) s (source-index t e w (λ z. omega arith) (λ z. omega arith) (λ z. omega arith) (λ z. omega arith)) h)
-      (λ k. bus-off-fits (eventIndex e) s (bus-off-index t e w k) h)
-      (λ k. clear-fits (eventIndex e) s (source-index t e w (λ z. k (omega arith)) (λ z. k (omega arith)) (λ z. k (omega arith)) (λ z. k (omega arith))) h)
+  happen-fits e s w h = go (happen t e) (event t e w)
+    where
+      go : (g : List ℕ → Run) → Event t e g → Fits t (g s .state)
+      go g (aTick k o) = unfold tick arbitrateMarked in arbitrate-fits t f _ _ (things-fit s h)
+      go g (aMode k p m u) = request-fits (eventIndex e) (eventValue e) s (p .there) (λ z. omega arith) (digit-small _ 256 _ (omega arith)) (λ z. absurd (omega arith)) h
+      go g (aRequest k p m) = request-fits (eventIndex e) 1 s (p .there) (λ z. omega arith) (omega arith) (λ z. omega arith) h
+      go g (aWakeup k p) = wake-fits (eventIndex e) s (p .there) h
+      go g (aValid k p) = validate-fits (eventIndex e) s (p .there) h
+      go g (aBusOff k p) = bus-off-fits (eventIndex e) s (p .there) h
+      go g (aClear k p) = clear-fits (eventIndex e) s (p .there) h

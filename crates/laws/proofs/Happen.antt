@@ -1,19 +1,20 @@
 -- The dispatch on events, once: a statement of runs holds of what an event does if it holds of each kind's; and what an event that
 -- is not refused says of its kind, its index and its owner. Assumes nothing.
-use mathlib.Core.Path.{_≡_}
-use mathlib.Core.Bool.{true, false, _&&_, not, and-false}
+use mathlib.Core.Path.{_≡_, _∙_, ap}
+use mathlib.Core.Bool.{true, false, _&&_, _||_, not, and-false}
+use mathlib.Core.Logic.{⊎-elim}
 use mathlib.Core.List.{List}
 use Prim.Native.Nat.{ℕ, _≤_, _<_}
 use native.Mathlib.Omega.{arith}
 use lib.Dec.{eqb}
 use borrow.Author.Tests.{ltb-true, leb-true, eqb-true, eqb-false, eq-eqb, ne-eqb, not-true}
-use Rattle.rulebook.specs.Table.{ports, networks, sources, portKind, portMode, portEvent}
+use Rattle.rulebook.specs.Table.{ports, networks, sources, portKind, portMode, portEvent, portOwner, networkOwner, sourceOwner, platform}
 use Rattle.rulebook.specs.Reasons.{held}
 use Rattle.rulebook.specs.State.{aPort, aNetwork, aSource, ownerOf}
 use Rattle.rulebook.specs.Lists.{Run, start}
-use Rattle.rulebook.specs.Events.{eventKind, eventOwner, eventIndex, eventValue, eventTick, eventMode, eventRequest, eventWakeup, eventValid, eventBusOff, highestKind, request, wake, validate, clear, busOff, tick, happen}
+use Rattle.rulebook.specs.Events.{eventKind, eventOwner, eventIndex, eventValue, eventTick, eventMode, eventRequest, eventWakeup, eventValid, eventBusOff, eventClear, highestKind, request, wake, validate, clear, busOff, tick, happen}
 use Rattle.rulebook.specs.Step.{wellFormed, named, present, suited, known, sentByOwner, refusedEvent}
-use Rattle.laws.proofs.Tests.{split, part-of, and-left, and-right, implies-elim, or-elim}
+use Rattle.laws.proofs.Tests.{split, part-of, and-left, and-right, implies-elim, or-some, or-elim}
 
 pub happen-cases : (P : Run → Type 0) (t : List ℕ) (e : ℕ) (s : List ℕ)
     → (eventKind e ≡ eventTick → P (tick t s))
@@ -119,3 +120,74 @@ module _ (t : List ℕ) (e : ℕ) (w : Taken t e) where
   pub source-index : (eventKind e ≡ eventTick → ⊥) → (eventKind e ≡ eventMode → ⊥) → (eventKind e ≡ eventRequest → ⊥) → (eventKind e ≡ eventBusOff → ⊥) → eventIndex e < sources t
   unfolding present
   source-index a b c d = ltb-true _ _ (rw (named-source b c d) at (there a))
+
+-- The event as a view: a case a kind, what it does, and what is known of its index and its owner.
+
+pub record OfPort (t : List ℕ) (e : ℕ) : Type 0 where
+  pub there : eventIndex e < ports t
+  pub owner : eventOwner e ≡ portOwner t (eventIndex e)
+
+pub record OfNetwork (t : List ℕ) (e : ℕ) : Type 0 where
+  pub there : eventIndex e < networks t
+  pub owner : eventOwner e ≡ networkOwner t (eventIndex e)
+
+pub record OfSource (t : List ℕ) (e : ℕ) : Type 0 where
+  pub there : eventIndex e < sources t
+  pub owner : eventOwner e ≡ sourceOwner t (eventIndex e)
+
+pub data Event (t : List ℕ) (e : ℕ) : (List ℕ → Run) → Type 0 where
+  aTick : eventKind e ≡ eventTick → eventOwner e ≡ platform → Event t e (λ s. tick t s)
+  aMode : eventKind e ≡ eventMode → OfPort t e → portKind t (eventIndex e) ≡ portMode → held t (eventIndex e) (networks t) (sources t) ≡ false
+      → Event t e (λ s. request t (eventIndex e) (eventValue e) s)
+  aRequest : eventKind e ≡ eventRequest → OfPort t e → portKind t (eventIndex e) ≡ portEvent → Event t e (λ s. request t (eventIndex e) 1 s)
+  aWakeup : eventKind e ≡ eventWakeup → OfSource t e → Event t e (λ s. start (wake t (eventIndex e) s))
+  aValid : eventKind e ≡ eventValid → OfSource t e → Event t e (λ s. start (validate t (eventIndex e) s))
+  aBusOff : eventKind e ≡ eventBusOff → OfNetwork t e → Event t e (λ s. start (busOff t (eventIndex e) s))
+  aClear : eventKind e ≡ eventClear → OfSource t e → Event t e (λ s. start (clear t (eventIndex e) s))
+
+module _ (t : List ℕ) (e : ℕ) (w : Taken t e) where
+  pub tick-owner : eventKind e ≡ eventTick → eventOwner e ≡ platform
+  unfolding wellFormed
+  tick-owner k =
+      eqb-true _ _ (and-left _ (eqb (eventIndex e) 0)
+      (implies-elim (eqb (eventKind e) eventTick) _ (part-of _ (λ d. rw (wellFormed, d, and-false) at (w .wellFormed))) (eq-eqb _ _ k)))
+
+  of-port : eventIndex e < ports t → (eventKind e ≡ eventTick → ⊥) → named e ≡ aPort (eventIndex e) → OfPort t e
+  unfolding ownerOf
+  of-port b n is = record { there = b; owner = owner-is t e w n ∙ ap (ownerOf t) is }
+
+  pub of-network : eventKind e ≡ eventBusOff → OfNetwork t e
+  unfolding ownerOf
+  of-network k = record { there = bus-off-index t e w k; owner = owner-is t e w (λ z. omega arith) ∙ ap (ownerOf t) (named-network t e w k) }
+
+  of-source : (eventKind e ≡ eventTick → ⊥) → (eventKind e ≡ eventMode → ⊥) → (eventKind e ≡ eventRequest → ⊥) → (eventKind e ≡ eventBusOff → ⊥) → OfSource t e
+  unfolding ownerOf
+  of-source a b c d = record { there = source-index t e w a b c d; owner = owner-is t e w a ∙ ap (ownerOf t) (named-source t e w b c d) }
+
+  pub of-wakeup : eventKind e ≡ eventWakeup → OfSource t e
+  of-wakeup k = of-source (λ z. omega arith) (λ z. omega arith) (λ z. omega arith) (λ z. omega arith)
+
+  -- of a source's event that ends its waiting
+  pub of-ending : (eqb (eventKind e) eventValid || eqb (eventKind e) eventClear) ≡ true → OfSource t e
+  of-ending h =
+      ⊎-elim (λ d. let k : eventKind e ≡ eventValid = eqb-true _ _ d in of-source (λ z. omega arith) (λ z. omega arith) (λ z. omega arith) (λ z. omega arith))
+      (λ d. let k : eventKind e ≡ eventClear = eqb-true _ _ d in of-source (λ z. omega arith) (λ z. omega arith) (λ z. omega arith) (λ z. omega arith))
+      (or-some (eqb (eventKind e) eventValid) (eqb (eventKind e) eventClear) h)
+
+  pub event : Event t e (λ s. happen t e s)
+  unfolding happen
+  event =
+      split (eqb (eventKind e) eventTick) (λ a. let k = eqb-true (eventKind e) eventTick a in rw a (aTick k (tick-owner k)))
+      (λ a. split (eqb (eventKind e) eventMode)
+      (λ b. let k = eqb-true (eventKind e) eventMode b in rw (a, b) (aMode k (of-port (mode-index t e w k) (λ z. omega arith) (named-port t e w k)) (mode-kind t e w k) (mode-unheld t e w k)))
+      (λ b. split (eqb (eventKind e) eventRequest)
+      (λ c. let k = eqb-true (eventKind e) eventRequest c in rw (a, b, c) (aRequest k (of-port (request-index t e w k) (λ z. omega arith) (named-event t e w k)) (request-kind t e w k)))
+      (λ c. split (eqb (eventKind e) eventBusOff)
+      (λ h. let k = eqb-true (eventKind e) eventBusOff h in rw k (aBusOff k (of-network k)))
+      (λ h. let s : OfSource t e = of-source (eqb-false _ _ a) (eqb-false _ _ b) (eqb-false _ _ c) (eqb-false _ _ h) in
+      split (eqb (eventKind e) eventWakeup) (λ d. rw (a, b, c, d) (aWakeup (eqb-true _ _ d) s))
+      (λ d. split (eqb (eventKind e) eventValid) (λ g. rw (a, b, c, d, g) (aValid (eqb-true _ _ g) s))
+      (λ g. rw (a, b, c, d, g, h) (aClear (only-clear (eventKind e) (eqb-false _ _ a) (eqb-false _ _ b) (eqb-false _ _ c) (eqb-false _ _ d) (eqb-false _ _ g) (eqb-false _ _ h) (kind-small t e w)) s)))))))
+    where
+      only-clear : (k : ℕ) → (k ≡ 0 → ⊥) → (k ≡ 1 → ⊥) → (k ≡ 2 → ⊥) → (k ≡ 3 → ⊥) → (k ≡ 4 → ⊥) → (k ≡ 5 → ⊥) → k ≤ 6 → k ≡ 6
+      only-clear k a b c d g h small = omega arith

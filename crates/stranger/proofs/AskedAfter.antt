@@ -24,7 +24,7 @@ use Rattle.laws.proofs.Fields.{digit-small}
 use Rattle.laws.proofs.Fit.{NetworkOk, network-again, network-small, fits-length}
 use Rattle.laws.proofs.FitKept.{Fits, network-in}
 use Rattle.laws.proofs.FitEvents.{may-show, things-fit, ticked-ok, off-bus-ok, tick-network-fits, request-cases}
-use Rattle.laws.proofs.Happen.{Taken, happen-cases, mode-index, mode-kind, request-index, request-kind, bus-off-index, source-index}
+use Rattle.laws.proofs.Happen.{Taken, Event, aTick, aMode, aRequest, aWakeup, aValid, aBusOff, aClear, event}
 use Rattle.stranger.specs.Logs.{Entry, Log, stateAfter}
 use Rattle.stranger.specs.Demand.{lastAsked, lastAskedIn}
 use Rattle.stranger.proofs.Logs.{taken, entry-fits}
@@ -104,32 +104,36 @@ module _ (t : List ℕ) (f : Facts t) (n : ℕ) (b : n < networks t) where
       (each-keeps (λ x. Fits t x × Asks a x) (tickNetwork t) 0 (networks t) s
       (λ m x u v w. (tick-network-fits t f m x (omega arith) (w .0), asks-ticked a m x (omega arith) (w .0) (w .1))) (fit, h) .1))
 
+  -- after a run from s it is asked for what the run's words last asked for
+  abbrev AskedBy : List ℕ → Run → Type 0
+  AskedBy s x = networkIn t n (x .state) .asked ≡ lastAsked n (networkIn t n s .asked) (x .words)
+
   -- one event
   pub asked-after : (e : ℕ) (s : List ℕ) → Taken t e → Fits t s → networkIn t n (happen t e s .state) .asked ≡ lastAsked n (networkIn t n s .asked) (happen t e s .words)
-  unfolding tick arbitrateMarked wake validate clear busOff lastAsked
-  asked-after e s w fit =
-      let a = networkIn t n s .asked in
-      let Now : Run → Type 0 = λ x. networkIn t n (x .state) .asked ≡ lastAsked n a (x .words) in
-      let request-asks : (q v : ℕ) → q < ports t → (portKind t q ≡ portTimer → ⊥) → v < 256 → (portKind t q ≡ portEvent → v ≤ 1) → Now (request t q v s) =
-      λ q v c nt v₈ ev. request-cases t f Now q v s c nt v₈ ev fit
-      (λ fit₁. asks-port a q _ _ _ s c refl) (λ fit₁. asked-last t f n b a (only q) _ fit₁ (asks-port a q _ _ _ s c refl)) in
-      let there : (eventKind e ≡ eventTick → ⊥) → (eventKind e ≡ eventMode → ⊥) → (eventKind e ≡ eventRequest → ⊥) → (eventKind e ≡ eventBusOff → ⊥) → eventIndex e < sources t = source-index t e w in
-      happen-cases Now t e s
-      (λ k. asked-last t f n b a _ _ (things-fit t f s fit) (asks-things a s fit refl))
-      (λ k. let m = mode-kind t e w k in request-asks (eventIndex e) (eventValue e) (mode-index t e w k) (λ z. omega arith) (digit-small _ 256 _ (omega arith)) (λ z. absurd (omega arith)))
-      (λ k. let m = request-kind t e w k in request-asks (eventIndex e) 1 (request-index t e w k) (λ z. omega arith) (omega arith) (λ z. omega arith))
-      (λ k. let c = there (λ z. omega arith) (λ z. omega arith) (λ z. omega arith) (λ z. omega arith) in
-      split (eqb (statusIn t (eventIndex e) s) statusNone || eqb (statusIn t (eventIndex e) s) statusExpired) (λ d. rw d (asks-source a (eventIndex e) _ _ s c refl)) (λ d. rw d refl))
-      (λ k. let c = there (λ z. omega arith) (λ z. omega arith) (λ z. omega arith) (λ z. omega arith) in
-      split (eqb (statusIn t (eventIndex e) s) statusPending) (λ d. rw d (asks-source a (eventIndex e) _ _ s c refl)) (λ d. rw d refl))
-      (λ k. let c = bus-off-index t e w k in
-      split (takes (networkIn t (eventIndex e) s))
-      (λ d. rw d (bus-off-asks (eventIndex e) c))
-      (λ d. rw d refl))
-      (λ k. let c = there (λ z. k (omega arith)) (λ z. k (omega arith)) (λ z. k (omega arith)) (λ z. k (omega arith)) in asks-source a (eventIndex e) _ _ s c refl)
+  asked-after e s w fit = go (happen t e) (event t e w)
     where
+      by-request : (q v : ℕ) → q < ports t → (portKind t q ≡ portTimer → ⊥) → v < 256 → (portKind t q ≡ portEvent → v ≤ 1) → AskedBy s (request t q v s)
+      by-request q v c nt v₈ ev =
+          unfold lastAsked in
+          request-cases t f (AskedBy s) q v s c nt v₈ ev fit
+          (λ fit₁. asks-port _ q _ _ _ s c refl) (λ fit₁. asked-last t f n b _ (only q) _ fit₁ (asks-port _ q _ _ _ s c refl))
+
       bus-off-asks : (m : ℕ) → m < networks t → Asks (networkIn t n s .asked) (moveNetwork t m (offBus t m (counterPlusOne (networkIn t m s)) (networkIn t m s)) s)
       bus-off-asks m c = asks-network _ m _ s c fit (off-bus-ok t f m _ _ c (network-in t s fit m c) (omega arith) (omega arith)) (unfold offBus in refl) refl
+
+      go : (g : List ℕ → Run) → Event t e g → AskedBy s (g s)
+      go g (aTick k o) = unfold tick arbitrateMarked in asked-last t f n b _ _ _ (things-fit t f s fit) (asks-things _ s fit refl)
+      go g (aMode k of m free) = by-request (eventIndex e) (eventValue e) (of .there) (λ z. omega arith) (digit-small _ 256 _ (omega arith)) (λ z. absurd (omega arith))
+      go g (aRequest k of m) = by-request (eventIndex e) 1 (of .there) (λ z. omega arith) (omega arith) (λ z. omega arith)
+      go g (aWakeup k of) =
+          unfold wake lastAsked in
+          split (eqb (statusIn t (eventIndex e) s) statusNone || eqb (statusIn t (eventIndex e) s) statusExpired)
+          (λ d. rw d (asks-source _ (eventIndex e) _ _ s (of .there) refl)) (λ d. rw d refl)
+      go g (aValid k of) =
+          unfold validate lastAsked in
+          split (eqb (statusIn t (eventIndex e) s) statusPending) (λ d. rw d (asks-source _ (eventIndex e) _ _ s (of .there) refl)) (λ d. rw d refl)
+      go g (aBusOff k of) = unfold busOff lastAsked in split (takes (networkIn t (eventIndex e) s)) (λ d. rw d (bus-off-asks (eventIndex e) (of .there))) (λ d. rw d refl)
+      go g (aClear k of) = unfold clear lastAsked in asks-source _ (eventIndex e) _ _ s (of .there) refl
 
 -- a log
 pub asked-in : (t : List ℕ) → accepted t ≡ true → (n : ℕ) → n < networks t → (s : List ℕ) (xs : List Entry) → Log t s xs → Fits t s → networkIn t n (stateAfter s xs) .asked ≡ lastAskedIn n (networkIn t n s .asked) xs

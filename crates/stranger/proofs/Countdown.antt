@@ -16,7 +16,7 @@ use Rattle.rulebook.specs.Events.{eventKind, eventIndex, eventTick, eventBusOff
 use Rattle.laws.proofs.Tests.{split, part-of, and-left, and-right}
 use Rattle.laws.proofs.Facts.{facts}
 use Rattle.laws.proofs.FitKept.{Fits}
-use Rattle.laws.proofs.Happen.{Taken, bus-off-index}
+use Rattle.laws.proofs.Happen.{Taken, of-network}
 use Rattle.laws.proofs.Steps.{fresh-fits}
 use Rattle.stranger.specs.Logs.{Entry, Follows, Log, stateAfter}
 use Rattle.stranger.specs.Demand.{ticks, tickCount, shows, busOffTaken, loaded, asksOther, anyWord, asksAnother, lastAskedIn, leftAlone, Phase, modeToShow}
@@ -169,7 +169,7 @@ no-words t s e k = rw k
 
 module _ (t : List ℕ) (h : accepted t ≡ true) (n : ℕ) (s : List ℕ) (fit : Fits t s) (x : Entry) (f : Follows t s x) (off : busOffTaken t n s x ≡ true) where
   there : n < networks t
-  there = let st = starts t n s x off in rw (st .index) at (bus-off-index t (x .event) (taken f) (st .kind))
+  there = let st = starts t n s x off in rw (st .index) at (of-network t (x .event) (taken f) (st .kind) .there)
 
   wait-some : 1 ≤ loaded t n s
   unfolding wait

@@ -19,7 +19,7 @@ use Rattle.rulebook.specs.Step.{wellFormed, named}
 use Rattle.laws.specs.Facts.{Facts, Shows}
 use Rattle.laws.proofs.Tests.{split, clash, part-of, and-left, implies-elim, or-some}
 use Rattle.laws.proofs.Walks.{each-alike}
-use Rattle.laws.proofs.Happen.{Taken, owner-is, mode-index, request-index, bus-off-index, source-index}
+use Rattle.laws.proofs.Happen.{Taken, Event, aTick, aMode, aRequest, aWakeup, aValid, aBusOff, aClear, event}
 use Rattle.stranger.specs.View.{strangersWord, SameView}
 use Rattle.stranger.proofs.More.{pick, pick-both}
 use Rattle.stranger.proofs.View.{same-view-refl, same-view-trans, view-around, write-hidden, write-alike, port-word, network-word, source-word}
@@ -183,45 +183,14 @@ module _ (t : List ℕ) (f : Facts t) (o : ℕ) where
 
 -- An event that is not refused is its thing's owner's; a tick is the platform's.
 
-module _ (t : List ℕ) (e : ℕ) (w : Taken t e) where
-  pub tick-owner : eqb (eventKind e) eventTick ≡ true → eventOwner e ≡ platform
-  unfolding wellFormed
-  tick-owner k =
-      eqb-true _ _ (and-left _ (eqb (eventIndex e) 0)
-      (implies-elim (eqb (eventKind e) eventTick) _ (part-of _ (λ d. rw (wellFormed, d, and-false) at (w .wellFormed))) k))
-
-  thing-owner : (x : Thing) → eqb (eventKind e) eventTick ≡ false → named e ≡ x → eventOwner e ≡ ownerOf t x
-  thing-owner x k d = rw (← d) (owner-is t e w (eqb-false _ _ k))
-
-  pub bus-off-owner : eventKind e ≡ eventBusOff → eventOwner e ≡ networkOwner t (eventIndex e)
-  unfolding named ownerOf
-  bus-off-owner k = thing-owner (aNetwork (eventIndex e)) (rw k) (rw k)
-
-  pub wakeup-owner : eventKind e ≡ eventWakeup → eventOwner e ≡ sourceOwner t (eventIndex e)
-  unfolding named ownerOf
-  wakeup-owner k = thing-owner (aSource (eventIndex e)) (rw k) (rw k)
-
-  -- of a source's event that ends its waiting
-  pub ending-owner : (eqb (eventKind e) eventValid || eqb (eventKind e) eventClear) ≡ true → eventOwner e ≡ sourceOwner t (eventIndex e)
-  unfolding named ownerOf
-  ending-owner h =
-      ⊎-elim (λ d. let k : eventKind e ≡ eventValid = eqb-true _ _ d in thing-owner (aSource (eventIndex e)) (rw k) (rw k))
-      (λ d. let k : eventKind e ≡ eventClear = eqb-true _ _ d in thing-owner (aSource (eventIndex e)) (rw k) (rw k)) (or-some (eqb (eventKind e) eventValid) (eqb (eventKind e) eventClear) h)
-
 pub happen-confined : (t : List ℕ) (f : Facts t) (o e : ℕ) → Taken t e → ConfinedRun t o (eventOwner e) (λ s. happen t e s)
-unfolding happen named ownerOf
-happen-confined t f o e w =
-    split (eqb (eventKind e) eventTick) (λ d. rw (d, tick-owner t e w d) (tick-confined t f o))
-    (λ k. split (eqb (eventKind e) eventMode)
-    (λ d. rw (k, d, thing-owner t e w (aPort (eventIndex e)) k (rw d)) (request-confined t f o (eventIndex e) (mode-index t e w (eqb-true _ _ d)) (eventValue e)))
-    (λ d₁. split (eqb (eventKind e) eventRequest)
-    (λ d. rw (k, d₁, d, thing-owner t e w (aPort (eventIndex e)) k (rw (d₁, d))) (request-confined t f o (eventIndex e) (request-index t e w (eqb-true _ _ d)) 1))
-    (λ d₂. split (eqb (eventKind e) eventBusOff)
-    (λ d. let own : eventOwner e ≡ networkOwner t (eventIndex e) = thing-owner t e w (aNetwork (eventIndex e)) k (rw (d₁, d₂, d)) in
-    let is : eventKind e ≡ eventBusOff = eqb-true _ _ d in
-    rw (own, is) (quiet (bus-off t f o (eventIndex e) (bus-off-index t e w is))))
-    (λ d₃. let own : eventOwner e ≡ sourceOwner t (eventIndex e) = thing-owner t e w (aSource (eventIndex e)) k (rw (d₁, d₂, d₃)) in
-    let there = source-index t e w (eqb-false _ _ k) (eqb-false _ _ d₁) (eqb-false _ _ d₂) (eqb-false _ _ d₃) in
-    split (eqb (eventKind e) eventWakeup) (λ d. rw (k, d₁, d₂, d, own) (quiet (wake-confined t f o (eventIndex e) there)))
-    (λ d₄. split (eqb (eventKind e) eventValid) (λ d. rw (k, d₁, d₂, d₄, d, own) (quiet (validate-confined t f o (eventIndex e) there)))
-    (λ d₅. rw (k, d₁, d₂, d₄, d₅, d₃, own) (quiet (clear-confined t f o (eventIndex e) there))))))))
+happen-confined t f o e w = go (λ s. happen t e s) (event t e w)
+  where
+    go : (g : List ℕ → Run) → Event t e g → ConfinedRun t o (eventOwner e) g
+    go g (aTick k own) = rw own (tick-confined t f o)
+    go g (aMode k of m free) = rw (of .owner) (request-confined t f o (eventIndex e) (of .there) (eventValue e))
+    go g (aRequest k of m) = rw (of .owner) (request-confined t f o (eventIndex e) (of .there) 1)
+    go g (aWakeup k of) = rw (of .owner) (quiet (wake-confined t f o (eventIndex e) (of .there)))
+    go g (aValid k of) = rw (of .owner) (quiet (validate-confined t f o (eventIndex e) (of .there)))
+    go g (aBusOff k of) = rw (of .owner) (quiet (bus-off t f o (eventIndex e) (of .there)))
+    go g (aClear k of) = rw (of .owner) (quiet (clear-confined t f o (eventIndex e) (of .there)))

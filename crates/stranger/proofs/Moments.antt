@@ -15,13 +15,13 @@ use Rattle.laws.specs.Sequence.{Each}
 use Rattle.laws.proofs.Tests.{split, clash, part-of}
 use Rattle.laws.proofs.Facts.{facts}
 use Rattle.laws.proofs.FitEvents.{may-show}
+use Rattle.laws.proofs.Happen.{of-network, of-wakeup, of-ending}
 use Rattle.stranger.specs.Logs.{Entry, Follows, Log, strangersEntry, struckOut}
 use Rattle.stranger.specs.Demand.{busOffTaken, asksOther, anyWord, asksAnother, becomesPending, ended, networkMoment, sourceMoment, moments}
 use Rattle.stranger.specs.View.{SameView, AsksOwn}
 use Rattle.stranger.proofs.Logs.{taken}
 use Rattle.stranger.proofs.View.{port-word, network-word, source-word}
 use Rattle.stranger.proofs.Owners.{self-known}
-use Rattle.stranger.proofs.Events.{bus-off-owner, ending-owner, wakeup-owner}
 use Rattle.stranger.proofs.Strangers.{SameSeen, strangers-unseen, moments-beside}
 use Rattle.stranger.proofs.AsksOwn.{happen-asks-own, asks-in-own-words}
 
@@ -46,7 +46,7 @@ module _ (t : List ℕ) (h : accepted t ≡ true) where
     unfolding busOffTaken strangersEntry
     strangers-bus-off s x f k =
         split (busOffTaken t n s x)
-        (λ e. let own = bus-off-owner t (x .event) (taken f) (eqb-true _ _ (part-of _ (λ d. rw (busOffTaken, d) at e))) in
+        (λ e. let own = of-network t (x .event) (taken f) (eqb-true _ _ (part-of _ (λ d. rw (busOffTaken, d) at e))) .owner in
         let here : eventIndex (x .event) ≡ n = eqb-true _ _ (part-of _ (λ d. rw (busOffTaken, d, and-false) at e)) in
         clash (rw (own ∙ ap (networkOwner t) here) at k) (self-known o))
         (λ e. e)
@@ -98,7 +98,7 @@ module _ (t : List ℕ) (h : accepted t ≡ true) where
     unfolding becomesPending strangersEntry
     strangers-wake s x f z =
         split (becomesPending t k s x)
-        (λ e. let own = wakeup-owner t (x .event) (taken f) (eqb-true _ _ (part-of _ (λ d. rw (becomesPending, d) at e))) in
+        (λ e. let own = of-wakeup t (x .event) (taken f) (eqb-true _ _ (part-of _ (λ d. rw (becomesPending, d) at e))) .owner in
         let here : eventIndex (x .event) ≡ k = eqb-true _ _ (part-of _ (λ d. rw (becomesPending, d, and-false) at e)) in
         clash (rw (own ∙ ap (sourceOwner t) here) at z) (self-known p))
         (λ e. e)
@@ -107,7 +107,7 @@ module _ (t : List ℕ) (h : accepted t ≡ true) where
     unfolding ended strangersEntry
     strangers-end s x f z =
         split (ended k x)
-        (λ e. let own = ending-owner t (x .event) (taken f) (part-of _ (λ d. rw (ended, d) at e)) in
+        (λ e. let own = of-ending t (x .event) (taken f) (part-of _ (λ d. rw (ended, d) at e)) .owner in
         let here : eventIndex (x .event) ≡ k = eqb-true _ _ (part-of _ (λ d. rw (ended, d, and-false) at e)) in
         clash (rw (own ∙ ap (sourceOwner t) here) at z) (self-known p))
         (λ e. e)

@@ -14,7 +14,8 @@ use borrow.Author.Tests.{eqb-true, eqb-false, eq-eqb, ne-eqb}
 use Rattle.rulebook.specs.Words.{word, each}
 use Rattle.rulebook.specs.Table.{ports, networks, sources, portKind, portMode, portEvent, portTimer, networkPort, sourcePort, timeout}
 use Rattle.rulebook.specs.State.{networkIndex, sourceIndex, definedOf, valueOf, remainingOf, Network, networkOf, statusOf, statusNone, statusPending, statusValidated, statusExpired, packPort, packNetwork, packSource}
-use Rattle.rulebook.specs.Lists.{setPort, networkIn, asking, setNetwork}
+use Rattle.rulebook.specs.Reasons.{held}
+use Rattle.rulebook.specs.Lists.{Run, setPort, networkIn, asking, setNetwork}
 use Rattle.rulebook.specs.Arbitration.{arbitrate}
 use Rattle.rulebook.specs.Events.{eventKind, eventIndex, eventValue, eventTick, eventMode, eventRequest, eventWakeup, eventValid, eventBusOff, eventClear, only, request, statusIn, setSource, moveSource, wake, validate, clear, shown, moveNetwork, takes, offBus, busOff, tickedNetwork, tickNetwork, remainingIn, tickSource, tickThings, arbitrateMarked, tick, happen}
 use Rattle.laws.specs.Facts.{Facts}
@@ -24,7 +25,7 @@ use Rattle.laws.proofs.Fields.{digit-small, port-defined, port-value, source-st
 use Rattle.laws.proofs.Fit.{NetworkOk, network-again, network-small, fits-length}
 use Rattle.laws.proofs.FitKept.{Fits, network-in}
 use Rattle.laws.proofs.FitEvents.{MayShow, things-fit, ticked-ok, off-bus-ok, shown-small, woken-ok, tick-network-fits, tick-source-fits, request-cases}
-use Rattle.laws.proofs.Happen.{Taken, kind-small, happen-cases, mode-index, mode-kind, mode-unheld, request-index, request-kind, bus-off-index, source-index}
+use Rattle.laws.proofs.Happen.{Taken, OfPort, Event, aTick, aMode, aRequest, aWakeup, aValid, aBusOff, aClear, event}
 use Rattle.stranger.proofs.Holders.{Holder, network-holder, source-holder, Cells, cells-refl, cells-write, other-network, other-source, other-tick-network, other-tick-source, timers-keep}
 use Rattle.stranger.proofs.Arbitrated.{port-still, source-still, Core, network-still}
 
@@ -95,15 +96,14 @@ module _ (t : List ℕ) (f : Facts t) {X : Type 0} (i p : ℕ) (core : ℕ → X
       request-cases t f (λ x. Moves i p core show (now s) s (x .state)) q v s c nt v₈ ev fit
       (λ fit₁. stays s _ (cells _)) (λ fit₁. then-still _ (only q) s _ fit₁ (stays s _ (cells _)))
 
-  pub by-mode-request : (e : ℕ) (s : List ℕ) → Taken t e → eventKind e ≡ eventMode → Fits t s → Moves i p core show (now s) s (request t (eventIndex e) (eventValue e) s .state)
-  by-mode-request e s w k fit =
-      let m = mode-kind t e w k in
-      by-port (eventIndex e) (eventValue e) s (mode-index t e w k) (h .holder .requests (eventIndex e) (mode-unheld t e w k)) (λ z. omega arith) (digit-small _ 256 _ (omega arith)) (λ z. absurd (omega arith)) fit
+  pub by-mode-request : (e : ℕ) (s : List ℕ) → OfPort t e → portKind t (eventIndex e) ≡ portMode → held t (eventIndex e) (networks t) (sources t) ≡ false → Fits t s → Moves i p core show (now s) s (request t (eventIndex e) (eventValue e) s .state)
+  by-mode-request e s of m free fit =
+      by-port (eventIndex e) (eventValue e) s (of .there) (h .holder .requests (eventIndex e) free) (λ z. omega arith) (digit-small _ 256 _ (omega arith)) (λ z. absurd (omega arith)) fit
 
-  pub by-event-request : (e : ℕ) (s : List ℕ) → Taken t e → eventKind e ≡ eventRequest → Fits t s → Moves i p core show (now s) s (request t (eventIndex e) 1 s .state)
-  by-event-request e s w k fit =
-      let m = request-kind t e w k in let mode : portKind t p ≡ portMode = h .holder .may .mode in
-      by-port (eventIndex e) 1 s (request-index t e w k) (λ z. let same : portKind t (eventIndex e) ≡ portKind t p = ap (λ (u : ℕ). portKind t u) z in omega arith) (λ z. omega arith) (omega arith) (λ z. omega arith) fit
+  pub by-event-request : (e : ℕ) (s : List ℕ) → OfPort t e → portKind t (eventIndex e) ≡ portEvent → Fits t s → Moves i p core show (now s) s (request t (eventIndex e) 1 s .state)
+  by-event-request e s of m fit =
+      let mode : portKind t p ≡ portMode = h .holder .may .mode in
+      by-port (eventIndex e) 1 s (of .there) (λ z. let same : portKind t (eventIndex e) ≡ portKind t p = ap (λ (u : ℕ). portKind t u) z in omega arith) (λ z. omega arith) (omega arith) (λ z. omega arith) fit
 
   pub by-nothing : (s : List ℕ) → Moves i p core show (now s) s s
   by-nothing s = stays s s (cells-refl i p s)
@@ -213,16 +213,18 @@ module _ (t : List ℕ) (f : Facts t) (n : ℕ) (b : n < networks t) where
       (λ d. rw d (network-by-nothing s))))
 
   pub network-moves : (e : ℕ) (s : List ℕ) → Taken t e → Fits t s → NetworkMoves (nextNetwork e s) s (happen t e s .state)
-  unfolding nextNetwork tick arbitrateMarked clear
-  network-moves e s w fit =
-      happen-cases (λ x. NetworkMoves (nextNetwork e s) s (x .state)) t e s
-      (λ k. rw k (then-still t f _ _ coreOf shownBy held-network _ _ s _ (things-fit t f s fit) (things-move s fit)))
-      (λ k. quiet e s _ (λ z. omega arith) (λ z. omega arith) (by-mode-request t f _ _ coreOf shownBy held-network e s w k fit))
-      (λ k. quiet e s _ (λ z. omega arith) (λ z. omega arith) (by-event-request t f _ _ coreOf shownBy held-network e s w k fit))
-      (λ k. quiet e s _ (λ z. omega arith) (λ z. omega arith) (network-by-wake (eventIndex e) s (source-index t e w (λ z. omega arith) (λ z. omega arith) (λ z. omega arith) (λ z. omega arith))))
-      (λ k. quiet e s _ (λ z. omega arith) (λ z. omega arith) (network-by-valid (eventIndex e) s (source-index t e w (λ z. omega arith) (λ z. omega arith) (λ z. omega arith) (λ z. omega arith))))
-      (λ k. network-by-bus-off e s k (bus-off-index t e w k) fit)
-      (λ k. quiet e s _ (λ z. k (omega arith)) (λ z. k (omega arith)) (network-by-source (eventIndex e) _ _ s (source-index t e w (λ z. k (omega arith)) (λ z. k (omega arith)) (λ z. k (omega arith)) (λ z. k (omega arith)))))
+  network-moves e s w fit = go (happen t e) (event t e w)
+    where
+      go : (g : List ℕ → Run) → Event t e g → NetworkMoves (nextNetwork e s) s (g s .state)
+      go g (aTick k o) =
+          unfold nextNetwork tick arbitrateMarked in
+          rw k (then-still t f _ _ coreOf shownBy held-network _ _ s _ (things-fit t f s fit) (things-move s fit))
+      go g (aMode k of m free) = quiet e s _ (λ z. omega arith) (λ z. omega arith) (by-mode-request t f _ _ coreOf shownBy held-network e s of m free fit)
+      go g (aRequest k of m) = quiet e s _ (λ z. omega arith) (λ z. omega arith) (by-event-request t f _ _ coreOf shownBy held-network e s of m fit)
+      go g (aWakeup k of) = quiet e s _ (λ z. omega arith) (λ z. omega arith) (network-by-wake (eventIndex e) s (of .there))
+      go g (aValid k of) = quiet e s _ (λ z. omega arith) (λ z. omega arith) (network-by-valid (eventIndex e) s (of .there))
+      go g (aBusOff k of) = network-by-bus-off e s k (of .there) fit
+      go g (aClear k of) = unfold clear in quiet e s _ (λ z. omega arith) (λ z. omega arith) (network-by-source (eventIndex e) _ _ s (of .there))
 
 -- Source k. Arbitration leaves its word alone.
 
@@ -332,16 +334,15 @@ module _ (t : List ℕ) (f : Facts t) (k : ℕ) (b : k < sources t) where
   source-by-bus-off n s c = split (takes (networkIn t n s)) (λ d. rw d (by-network t f _ _ wordOf _ held-source n _ s c (λ z. omega arith))) (λ d. rw d (source-by-nothing s))
 
   pub source-moves : (e : ℕ) (s : List ℕ) → Taken t e → Fits t s → SourceMoves (nextSource e s) s (happen t e s .state)
-  unfolding nextSource tick arbitrateMarked
-  source-moves e s w fit =
-      happen-cases (λ x. SourceMoves (nextSource e s) s (x .state)) t e s
-      (λ z. rw z (then-still t f _ _ wordOf _ held-source _ _ s _ (things-fit t f s fit) (source-things-move s fit)))
-      (λ z. rw z (by-mode-request t f _ _ wordOf _ held-source e s w z fit))
-      (λ z. rw z (by-event-request t f _ _ wordOf _ held-source e s w z fit))
-      (λ z. rw z (source-by-wake (eventIndex e) s (source-index t e w (λ y. omega arith) (λ y. omega arith) (λ y. omega arith) (λ y. omega arith)) fit))
-      (λ z. rw z (source-by-valid (eventIndex e) s (source-index t e w (λ y. omega arith) (λ y. omega arith) (λ y. omega arith) (λ y. omega arith)) fit))
-      (λ z. rw z (source-by-bus-off (eventIndex e) s (bus-off-index t e w z)))
-      (λ z. let small = kind-small t e w in let six : eventKind e ≡ 6 = above-five (eventKind e) z small in rw six (source-by-clear (eventIndex e) s (source-index t e w (λ y. omega arith) (λ y. omega arith) (λ y. omega arith) (λ y. omega arith)) fit))
+  source-moves e s w fit = go (happen t e) (event t e w)
     where
-      above-five : (x : ℕ) → (x ≤ 5 → ⊥) → x ≤ 6 → x ≡ 6
-      above-five x n m = omega arith
+      go : (g : List ℕ → Run) → Event t e g → SourceMoves (nextSource e s) s (g s .state)
+      go g (aTick z o) =
+          unfold nextSource tick arbitrateMarked in
+          rw z (then-still t f _ _ wordOf _ held-source _ _ s _ (things-fit t f s fit) (source-things-move s fit))
+      go g (aMode z of m free) = unfold nextSource in rw z (by-mode-request t f _ _ wordOf _ held-source e s of m free fit)
+      go g (aRequest z of m) = unfold nextSource in rw z (by-event-request t f _ _ wordOf _ held-source e s of m fit)
+      go g (aWakeup z of) = unfold nextSource in rw z (source-by-wake (eventIndex e) s (of .there) fit)
+      go g (aValid z of) = unfold nextSource in rw z (source-by-valid (eventIndex e) s (of .there) fit)
+      go g (aBusOff z of) = unfold nextSource in rw z (source-by-bus-off (eventIndex e) s (of .there))
+      go g (aClear z of) = unfold nextSource in rw z (source-by-clear (eventIndex e) s (of .there) fit)

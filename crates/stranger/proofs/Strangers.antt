@@ -7,17 +7,19 @@ use mathlib.Core.List.{List, [], _∷_, _++_}
 use Prim.Native.Nat.{ℕ, _+_}
 use native.Mathlib.Nat.{zero-add}
 use native.Mathlib.Omega.{arith}
+use borrow.Author.Tests.{eqb-true}
 use Rattle.rulebook.specs.Reasons.{accepted}
 use Rattle.rulebook.specs.Events.{happen}
 use Rattle.laws.proofs.Tests.{split, clash}
 use Rattle.laws.proofs.Facts.{facts}
+use Rattle.laws.proofs.Happen.{tick-owner}
 use Rattle.stranger.specs.Logs.{Entry, Follows, Log, strangersEntry, struckOut}
 use Rattle.stranger.specs.Demand.{ticks, Moment, moments}
 use Rattle.stranger.specs.View.{SameView, ownWords, Unseen, seenOf, seen}
 use Rattle.stranger.proofs.Logs.{taken}
 use Rattle.stranger.proofs.View.{same-view-sym, same-view-trans, same-visible}
 use Rattle.stranger.proofs.Owners.{platform-known}
-use Rattle.stranger.proofs.Events.{tick-owner, happen-confined}
+use Rattle.stranger.proofs.Events.{happen-confined}
 
 -- what o sees of two entries is the same
 pub record SameSeen (t : List ℕ) (o : ℕ) (x y : Entry) : Type 0 where
@@ -42,7 +44,7 @@ module _ (t : List ℕ) (h : accepted t ≡ true) (o : ℕ) where
   unfolding strangersEntry ticks
   strangers-tick s x f k =
       split (ticks x)
-      (λ e. clash (rw (tick-owner t (x .event) (taken f) (unfold ticks in e)) at k) (platform-known o))
+      (λ e. clash (rw (tick-owner t (x .event) (taken f) (eqb-true _ _ (unfold ticks in e))) at k) (platform-known o))
       (λ e. e)
 
   kept-same : (s₁ s₂ : List ℕ) (x y : Entry) → Follows t s₁ x → Follows t s₂ y → x .event ≡ y .event → strangersEntry o x ≡ false → SameView t o s₁ s₂ → SameSeen t o x y

@@ -18,12 +18,11 @@ use Rattle.laws.proofs.Tests.{split, clash, part-of, and-left, and-right, or-el
 use Rattle.laws.proofs.Fields.{digit-small, source-status, source-remaining}
 use Rattle.laws.proofs.Facts.{facts}
 use Rattle.laws.proofs.FitKept.{Fits}
-use Rattle.laws.proofs.Happen.{source-index}
+use Rattle.laws.proofs.Happen.{of-wakeup, of-ending}
 use Rattle.laws.proofs.Steps.{fresh-fits}
 use Rattle.stranger.specs.Logs.{Entry, Follows, Log, stateAfter}
 use Rattle.stranger.specs.Demand.{ticks, tickCount, showsStatus, becomesPending, ended, notEnded, Waiting, endStatus, statusToShow}
 use Rattle.stranger.proofs.Logs.{taken, after-append, log-parts, entry-fits, log-fits}
-use Rattle.stranger.proofs.Events.{ending-owner}
 use Rattle.stranger.proofs.Moves.{nextSource, tickedSource, wokenSource, validSource, source-moves}
 use Rattle.stranger.proofs.Shows.{source-shows}
 
@@ -123,9 +122,7 @@ starts-pending t k s x h =
     }
 
 source-there : (t : List ℕ) (k : ℕ) (s : List ℕ) (x : Entry) → Follows t s x → becomesPending t k s x ≡ true → k < sources t
-source-there t k s x l h =
-    let st = starts-pending t k s x h in let z = st .kind in
-    rw (st .index) at (source-index t (x .event) (taken l) (λ y. omega arith) (λ y. omega arith) (λ y. omega arith) (λ y. omega arith))
+source-there t k s x l h = let st = starts-pending t k s x h in rw (st .index) at (of-wakeup t (x .event) (taken l) (st .kind) .there)
 
 start-pending : (t : List ℕ) (h : accepted t ≡ true) (k : ℕ) (s : List ℕ) (fit : Fits t s) (x : Entry) → Follows t s x → becomesPending t k s x ≡ true → PendingAt (timeout t k) 0 (word (x .state) (sourceIndex t k))
 unfolding nextSource wokenSource
@@ -204,14 +201,10 @@ module _ (t : List ℕ) (h : accepted t ≡ true) (k : ℕ) (s : List ℕ) (x : 
   index = eqb-true _ _ (and-right (eqb (eventKind e) eventValid || eqb (eventKind e) eventClear) _ over)
 
   pub ended-by-owner : eventOwner e ≡ sourceOwner t k
-  ended-by-owner = ending-owner t e (taken l) ending ∙ ap (sourceOwner t) index
-
-  neither-of : (q : ℕ) → eqb q eventValid ≡ false → eqb q eventClear ≡ false → eventKind e ≡ q → ⊥
-  neither-of q u v z = let y : (eqb q eventValid || eqb q eventClear) ≡ true = rw z at ending in clash y (rw (u, v))
+  ended-by-owner = of-ending t e (taken l) ending .owner ∙ ap (sourceOwner t) index
 
   pub ended-there : k < sources t
-  ended-there =
-      rw index at (source-index t e (taken l) (neither-of eventTick refl refl) (neither-of eventMode refl refl) (neither-of eventRequest refl refl) (neither-of eventBusOff refl refl))
+  ended-there = rw index at (of-ending t e (taken l) ending .there)
 
   pub ended-status : Fits t s → statusIn t k s ≡ statusPending → statusIn t k (x .state) ≡ endStatus x
   unfolding nextSource validSource
