@@ -14,7 +14,7 @@ use Rattle.rulebook.specs.Table.{ports, networks, sources, portKind, portEvent,
 use Rattle.rulebook.specs.Reasons.{accepted}
 use Rattle.rulebook.specs.State.{fresh, networkIndex, sourceIndex, valueOf, askedNone, askedSilent, askedFull, stateNone, stateSilent, stateCheck, stateRecover, statusNone, statusPending, statusExpired, timerStarted, Network, networkOf, packNetwork}
 use Rattle.rulebook.specs.Lists.{Run, setPort, networkIn, setNetwork}
-use Rattle.rulebook.specs.Events.{eventKind, eventIndex, eventValue, eventTick, eventMode, eventRequest, eventBusOff, only, request, statusIn, setSource, moveSource, wake, validate, clear, shown, moveNetwork, takes, counterPlusOne, offBus, busOff, countedNetwork, tickedNetwork, tickNetwork, remainingIn, tickSource, tickTimer, tickThings, arbitrateMarked, tick, happen}
+use Rattle.rulebook.specs.Events.{eventIndex, eventValue, only, request, statusIn, setSource, moveSource, wake, validate, clear, shown, moveNetwork, takes, counterPlusOne, offBus, busOff, countedNetwork, tickedNetwork, tickNetwork, remainingIn, tickSource, tickTimer, tickThings, arbitrateMarked, tick, happen}
 use Rattle.laws.specs.Facts.{Facts}
 use Rattle.laws.proofs.Tests.{split}
 use Rattle.laws.proofs.Facts.{facts}

@@ -1,23 +1,21 @@
 -- What an event does stays with its owner: a stranger's event is unseen by o, and any other, from states that o cannot tell apart,
 -- ends alike to o. Assumes nothing.
 use mathlib.Core.Path.{_≡_, refl, _∙_}
-use mathlib.Core.Bool.{Bool, true, false, cond, _&&_, _||_, and-false}
-use mathlib.Core.Logic.{⊎-elim}
+use mathlib.Core.Bool.{Bool, true, false, cond, _&&_, _||_}
 use mathlib.Core.List.{List}
 use Prim.Native.Nat.{ℕ, _+_, _-_, _<_, min}
 use native.Mathlib.Omega.{arith}
 use lib.ListN.{set}
 use lib.Dec.{leb, eqb}
-use borrow.Author.Tests.{ltb-true, eqb-true, eqb-false, ne-eqb}
+use borrow.Author.Tests.{ltb-true, ne-eqb}
 use Rattle.rulebook.specs.Words.{word}
 use Rattle.rulebook.specs.Table.{ports, networks, sources, portKind, portTimer, portOwner, deferred, networkOwner, networkPort, sourceOwner, sourcePort, timeout, platform, stranger}
-use Rattle.rulebook.specs.State.{networkIndex, sourceIndex, markedOf, valueOf, remainingOf, timerStarted, timerExpired, Network, networkOf, statusOf, statusNone, statusPending, statusValidated, statusExpired, Thing, aPort, aNetwork, aSource, ownerOf}
+use Rattle.rulebook.specs.State.{networkIndex, sourceIndex, markedOf, valueOf, remainingOf, timerStarted, timerExpired, Network, networkOf, statusOf, statusNone, statusPending, statusValidated, statusExpired}
 use Rattle.rulebook.specs.Reasons.{mayShow}
 use Rattle.rulebook.specs.Lists.{Run, start, setPort, setNetwork}
-use Rattle.rulebook.specs.Events.{eventKind, eventOwner, eventIndex, eventValue, eventTick, eventMode, eventRequest, eventWakeup, eventValid, eventBusOff, eventClear, only, request, setSource, moveSource, wake, validate, clear, shown, moveNetwork, takes, offBus, busOff, tickedNetwork, tickNetwork, tickSource, tickTimer, tickThings, markedIn, arbitrateMarked, tick, happen}
-use Rattle.rulebook.specs.Step.{wellFormed, named}
+use Rattle.rulebook.specs.Events.{eventOwner, eventIndex, eventValue, only, request, setSource, moveSource, wake, validate, clear, shown, moveNetwork, takes, offBus, busOff, tickedNetwork, tickNetwork, tickSource, tickTimer, tickThings, markedIn, arbitrateMarked, tick, happen}
 use Rattle.laws.specs.Facts.{Facts, Shows}
-use Rattle.laws.proofs.Tests.{split, clash, part-of, and-left, implies-elim, or-some}
+use Rattle.laws.proofs.Tests.{split, clash, part-of}
 use Rattle.laws.proofs.Walks.{each-alike}
 use Rattle.laws.proofs.Happen.{Taken, Event, aTick, aMode, aRequest, aWakeup, aValid, aBusOff, aClear, event}
 use Rattle.stranger.specs.View.{strangersWord, SameView}

@@ -17,7 +17,7 @@ use Rattle.rulebook.specs.State.{networkIndex, sourceIndex, definedOf, valueOf,
 use Rattle.rulebook.specs.Reasons.{held}
 use Rattle.rulebook.specs.Lists.{Run, setPort, networkIn, asking, setNetwork}
 use Rattle.rulebook.specs.Arbitration.{arbitrate}
-use Rattle.rulebook.specs.Events.{eventKind, eventIndex, eventValue, eventTick, eventMode, eventRequest, eventWakeup, eventValid, eventBusOff, eventClear, only, request, statusIn, setSource, moveSource, wake, validate, clear, shown, moveNetwork, takes, offBus, busOff, tickedNetwork, tickNetwork, remainingIn, tickSource, tickThings, arbitrateMarked, tick, happen}
+use Rattle.rulebook.specs.Events.{eventKind, eventIndex, eventValue, eventTick, eventWakeup, eventValid, eventBusOff, eventClear, only, request, statusIn, setSource, moveSource, wake, validate, clear, shown, moveNetwork, takes, offBus, busOff, tickedNetwork, tickNetwork, remainingIn, tickSource, tickThings, arbitrateMarked, tick, happen}
 use Rattle.laws.specs.Facts.{Facts}
 use Rattle.laws.proofs.Tests.{split}
 use Rattle.laws.proofs.Walks.{each-keeps, each-at}

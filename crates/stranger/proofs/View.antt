@@ -3,17 +3,14 @@
 use mathlib.Core.Path.{_≡_, refl, sym, _∙_, ap₂}
 use mathlib.Core.Bool.{true, false}
 use mathlib.Core.List.{List, _∷_}
-use Prim.Native.Nat.{ℕ, zero, suc, _+_, _≤_, _<_}
-use native.Mathlib.Omega.{arith}
-use lib.ListN.{length, set, length-set, List·getD-eq-default}
+use Prim.Native.Nat.{ℕ, zero, suc, _≤_, _<_}
+use lib.ListN.{length, set, length-set}
 use lib.Seq.{getD-set-same, getD-set-other, set-out}
 use lib.Dec.{ltb, eqb}
 use borrow.Author.Tests.{ltb-true, ltb-false, eqb-true, eqb-false}
-use Rattle.rulebook.specs.Words.{word}
 use Rattle.rulebook.specs.Table.{ports, networks, rules, portOwner, networkOwner, sourceOwner, ruleOwner, stranger}
 use Rattle.rulebook.specs.State.{ruleIndex, networkIndex, sourceIndex, stateLength, ownerOf}
 use Rattle.laws.proofs.Tests.{split, clash}
-use Rattle.laws.proofs.Walks.{here-or-later}
 use Rattle.laws.proofs.Parts.{thing-port, thing-rule, thing-network, thing-source}
 use Rattle.stranger.specs.View.{strangersWord, SameView, visibleFrom, visibleWords}
 
@@ -66,26 +63,6 @@ module _ (t : List ℕ) (o : ℕ) where
   pub same-visible : {s₁ s₂ : List ℕ} → SameView t o s₁ s₂ → visibleWords t o s₁ ≡ visibleWords t o s₂
   unfolding visibleWords
   same-visible v = from-same 0 (stateLength t) v
-
-  from-at : (s₁ s₂ : List ℕ) (i n j : ℕ) → visibleFrom t o s₁ i n ≡ visibleFrom t o s₂ i n → i ≤ j → j < i + n → strangersWord t o j ≡ false → word s₁ j ≡ word s₂ j
-  unfolding visibleFrom
-  from-at s₁ s₂ i zero j h a b k = absurd (omega arith)
-  from-at s₁ s₂ i (suc n) j h a b k =
-      split (strangersWord t o i)
-      (λ e. here-or-later i n j a b (λ d. clash (rw (← d) at e) k) (λ c d. from-at s₁ s₂ (suc i) n j (rw (e, visibleFrom) at h) c d k))
-      (λ e. let both : word s₁ i ∷ visibleFrom t o s₁ (suc i) n ≡ word s₂ i ∷ visibleFrom t o s₂ (suc i) n = rw (e, visibleFrom) at h in
-      here-or-later i n j a b (λ d. rw d (cc)) (λ c d. from-at s₁ s₂ (suc i) n j (cc) c d k))
-
-  pub visible-same : (s₁ s₂ : List ℕ) → length s₁ ≡ stateLength t → length s₂ ≡ stateLength t → visibleWords t o s₁ ≡ visibleWords t o s₂ → SameView t o s₁ s₂
-  unfolding visibleWords
-  visible-same s₁ s₂ a b h =
-      record {
-        long = a ∙ sym b;
-        same = λ i k. split (ltb i (stateLength t)) (λ e. from-at s₁ s₂ 0 (stateLength t) i h (omega arith) (let c : i < stateLength t = ltb-true _ _ e in omega arith) k)
-            (λ e. let c : stateLength t ≤ i = ltb-false _ _ e in
-            let past₁ : length s₁ ≤ i = omega arith in let past₂ : length s₂ ≤ i = omega arith in
-            List·getD-eq-default s₁ 0 past₁ ∙ sym (List·getD-eq-default s₂ 0 past₂));
-      }
 
   -- Whose a thing's word is.
 

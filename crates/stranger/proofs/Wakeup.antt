@@ -12,7 +12,7 @@ use Rattle.rulebook.specs.Words.{word}
 use Rattle.rulebook.specs.Table.{sources, sourceOwner, timeout}
 use Rattle.rulebook.specs.Reasons.{accepted}
 use Rattle.rulebook.specs.State.{sourceIndex, remainingOf, statusOf, statusNone, statusPending, statusValidated, statusExpired, packSource, fresh}
-use Rattle.rulebook.specs.Events.{eventKind, eventOwner, eventIndex, eventTick, eventMode, eventRequest, eventWakeup, eventValid, eventBusOff, eventClear, statusIn}
+use Rattle.rulebook.specs.Events.{eventKind, eventOwner, eventIndex, eventTick, eventWakeup, eventValid, eventClear, statusIn}
 use Rattle.laws.specs.Facts.{Facts}
 use Rattle.laws.proofs.Tests.{split, clash, part-of, and-left, and-right, or-elim}
 use Rattle.laws.proofs.Fields.{digit-small, source-status, source-remaining}
