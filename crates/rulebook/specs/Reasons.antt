@@ -1,6 +1,6 @@
 -- "Table reasons, in order": nine rules, and the check, which gives the first reason whose rule is broken, and the place.
--- Rules 5, 6 and 7 are judged of every word of the table, used or not. Rule 8 is judged of networks, sources, rules and lists: of an
--- expression by the rules that mention by it, of an item by the lists that hold it.
+-- Rules 5, 6 and 7 are judged of every word of the table, used or not. Rule 8 is judged of networks, sources, rules and lists; an
+-- expression counts there through the rules that have it, an item through the lists that hold it.
 use Prim.Native.Nat.{ℕ, zero, suc, _+_, max}
 use mathlib.Core.Bool.{Bool, true, false, cond, _&&_, _||_, not}
 use mathlib.Core.List.{List}

@@ -177,12 +177,6 @@ state-so-far t s₀ s trace bytes from {r = r} is p =
     ∙ sym (state-append t s₀ (take from (wordsOf bytes)) (take (r .events) (offered t s (length trace) bytes from)))
     ∙ ap (stateAfter t s₀) (sym (next-words t s trace bytes from (r .events) (p .within)))
 
--- A fresh state of the sizes that an opening asks for is ready.
-
+-- The fresh state is ready.
 pub fresh-ready : {t s trace : List ℕ} → accepted t ≡ true → s ≡ fresh t → bound t ≤ length trace → Ready t s trace
 fresh-ready {t} ok is room = record { table = ok; state = rw is (fresh-fits t ok); room = room }
-
-pub opens-ready : {t s₀ s trace : List ℕ} {o : Opening} {k : ℕ} → Opens t o → o .reason ≡ 0 → length s₀ ≡ o .state → Makes t s₀ k s → length trace ≡ o .trace → Ready t s trace
-opens-ready opens none long made room =
-    let ok = opened opens none in
-    fresh-ready ok (made-fresh ok (long ∙ opened-state opens none) made) (let b = opened-trace opens none in omega arith)
