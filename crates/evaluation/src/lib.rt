@@ -1,4 +1,4 @@
-// Evaluation of expressions and of rules, by the port words of a state or of a copy of one. Evaluation and the test for undefined
+// Evaluation of expressions and of rules, by the port words of a state. Evaluation and the test for undefined
 // ports go down into the left and then the right argument, with one level less each time.
 ghost use mathlib.Core.Path.{_≡_};
 ghost use Rattle.rulebook.specs.Table.{expressionsFrom};

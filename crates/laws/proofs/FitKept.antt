@@ -1,4 +1,4 @@
--- States stay fit: the fresh state fits, and what arbitration and events write keeps the fit. Assumes nothing.
+-- States stay fit: what arbitration writes keeps the fit. Assumes nothing.
 use mathlib.Core.Path.{_≡_, refl}
 use mathlib.Core.Bool.{Bool, true, and-false}
 use mathlib.Core.List.{List}

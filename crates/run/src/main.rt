@@ -90,7 +90,7 @@ fn fill(fd: i32, block: &mut [u8]) -> Filled
     }
 }
 
-// Writes to standard output, or says that it cannot and answers false.
+// Writes to standard output, or says that it cannot and returns false.
 fn print(out: &[u8]) -> bool {
     let written = io::write_all(STDOUT_FILENO, out);
     if !written {

@@ -54,7 +54,7 @@ pub fn open(t: &[u32]) -> Opening
     }
 }
 
-// Lays the two lines of a reason at the front, or nothing where fewer than 22 bytes are lent, and answers how many bytes they are.
+// Lays the two lines of a reason at the front, or nothing where fewer than 22 bytes are lent, and returns how many bytes they are.
 pub fn lay_reason(out: &mut [u8], reason: u32, place: u32) -> usize
     ensures { λ r. ⌜ PutLines 22 (reasonLines (verdict reason place)) (now (out .entry)) r (now (out .exit)) ⌝ }
 {
@@ -65,7 +65,7 @@ pub fn lay_reason(out: &mut [u8], reason: u32, place: u32) -> usize
     put_decimal_line(out, next, place)
 }
 
-// Lays an answer, the state and the first trace words at a place, and answers the place after them.
+// Lays an answer, the state and the first trace words at a place, and returns the place after them.
 fn lay_lines(
     out: &mut [u8],
     at: usize,

@@ -1,5 +1,5 @@
 -- What an arbitration leaves alone: a source's word, a network's state, counter and remaining, and the value of a port that shows.
--- And a network that is asked full stays so unless a trace word asks it for another mode. Assumes nothing.
+-- Assumes nothing.
 use mathlib.Core.Path.{_≡_, sym, _∙_, ap}
 use mathlib.Core.Bool.{Bool}
 use mathlib.Core.List.{List}

@@ -29,7 +29,7 @@ pub fn read_word(bytes: &[u8], i: usize) -> u32
     }
 }
 
-// Fills the front of `words` with as many whole words as both have room for, and answers how many.
+// Fills the front of `words` with as many whole words as both have room for, and returns how many.
 pub fn read_words(bytes: &[u8], words: &mut [u32]) -> usize
     ensures { λ r. ⌜ Front (wordsOf (now (bytes .entry))) (now (words .entry)) r (now (words .exit)) ⌝ }
 {

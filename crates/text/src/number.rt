@@ -1,4 +1,4 @@
-// Sums of places and lengths that never wrap.
+// The lesser of two numbers, and a difference that never wraps.
 ghost use mathlib.Core.Path.{_≡_};
 ghost use Prim.Native.Nat.{_-_, min};
 

@@ -49,14 +49,14 @@ fn put_digits(out: &mut [u8], at: usize, n: u32, base: u32, k: usize, end: u8) -
     last + 1
 }
 
-// Lays a word's eight capital hex digits and a newline at a place, and answers the place after them.
+// Lays a word's eight capital hex digits and a newline at a place, and returns the place after them.
 pub fn put_hex_line(out: &mut [u8], at: usize, w: u32) -> usize
     ensures { λ r. ⌜ Put (hexLine w) (now (out .entry)) at r (now (out .exit)) ⌝ }
 {
     put_digits(out, at, w, 16, 8, b'\n')
 }
 
-// Lays a number's decimal digits and a newline at a place, and answers the place after them.
+// Lays a number's decimal digits and a newline at a place, and returns the place after them.
 pub fn put_decimal_line(out: &mut [u8], at: usize, n: u32) -> usize
     ensures { λ r. ⌜ Put (decimalLine n) (now (out .entry)) at r (now (out .exit)) ⌝ }
 {

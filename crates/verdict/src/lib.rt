@@ -2,7 +2,7 @@
 ghost use Rattle.verdict.specs.Verdict.{LaysVerdict};
 use text::output::put_decimal_line;
 
-// Lays the three lines at the front, or nothing where fewer than 33 bytes are lent, and answers how many bytes they are.
+// Lays the three lines at the front, or nothing where fewer than 33 bytes are lent, and returns how many bytes they are.
 pub fn lay_verdict(t: &[u32], out: &mut [u8]) -> usize
     ensures { λ r. ⌜ LaysVerdict (now (t .entry)) (now (out .entry)) r (now (out .exit)) ⌝ }
 {
