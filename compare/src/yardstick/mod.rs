@@ -1,5 +1,9 @@
 //! A clock for the proved code, no judge of it: document 01's event call in
 //! safe Rust made for speed. Every call makes every check, on the stack alone.
+//!
+//! It is held at the base's rules: document 01 without any request. It is for
+//! times alone, no request is carried over to it, and the gate does not try it.
+//! `bench` takes its time only where it computes what the second program does.
 
 mod arbitration;
 mod check;
@@ -9,8 +13,6 @@ mod state;
 mod table;
 #[cfg(test)]
 mod tests;
-
-use herringcart::Answer;
 
 use arbitration::Run;
 use check::{Sets, accept};
@@ -32,19 +34,20 @@ fn with_notes<T>(table: &Table, call: impl FnOnce(Notes) -> T) -> T {
     }
 }
 
-/// One event, as document 01 has it. Not inlined, as the proved call is not.
+/// One event, as document 01 has it: the count, or the answer of a refusal.
+/// Not inlined, as the proved call is not.
 #[inline(never)]
-pub fn take_event(words: &[u32], state: &mut [u32], trace: &mut [u32], event: u32) -> Answer {
-    let Ok(table) = Table::of(words) else {
-        return Answer { number: 1, count: 0 };
-    };
-    match with_notes(&table, |notes| take(&table, notes, state, trace, event)) {
-        Ok(count) => Answer { number: 0, count },
-        Err(number) => Answer { number, count: 0 },
-    }
+pub fn take_event(
+    words: &[u32],
+    state: &mut [u32],
+    trace: &mut [u32],
+    event: u32,
+) -> Result<usize, u32> {
+    let table = Table::of(words).map_err(|_| 1u32)?;
+    with_notes(&table, |notes| take(&table, notes, state, trace, event))
 }
 
-/// The count, or the answer of a refusal; nothing is written before the last check.
+/// Nothing is written before the last check.
 fn take(
     table: &Table,
     mut notes: Notes,
