@@ -1,6 +1,7 @@
 //! `compare bench`: the proved event call beside the yardstick's and the second
 //! program's, in one run. What is timed is compared first.
 
+mod clock;
 mod hostile;
 mod programs;
 mod sized;
@@ -12,13 +13,12 @@ use std::fs;
 use std::hint::black_box;
 use std::path::Path;
 
-use herringcart::Answer;
 use second::cases::Case;
 use second::program::words;
 
 use crate::differ::{Difference, compare};
 use crate::subject::{Proved, Subject};
-use crate::yardstick;
+pub use clock::Clock;
 pub use programs::programs;
 use timing::best;
 
@@ -63,18 +63,6 @@ pub fn bench() -> Result<(), String> {
         row(&format!("{blocks} blocks"), &sized::sized(blocks).words(), &sized::events())?;
     }
     hostile_tables()
-}
-
-/// The yardstick's event call in the proved one's place.
-pub struct Clock;
-
-impl Subject for Clock {
-    fn step(&self, table: &[u32], state: &mut [u32], trace: &mut [u32], event: u32) -> Answer {
-        match yardstick::take_event(table, state, trace, event) {
-            Ok(count) => Answer { number: 0, count },
-            Err(number) => Answer { number, count: 0 },
-        }
-    }
 }
 
 /// Nanoseconds per event of each call, and how many trace words a run writes.

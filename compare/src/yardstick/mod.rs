@@ -15,7 +15,7 @@ mod table;
 mod tests;
 
 use arbitration::Run;
-use check::{Sets, accept};
+use check::{Refusal, Sets, accept};
 use nesting::{Memory, Notes};
 use state::State;
 use table::Table;
@@ -32,6 +32,23 @@ fn with_notes<T>(table: &Table, call: impl FnOnce(Notes) -> T) -> T {
     } else {
         call(Memory::<512, 255>::new().notes(table))
     }
+}
+
+/// The check that an event call begins with: B, or reason and place.
+pub fn check_table(words: &[u32]) -> Result<u32, Refusal> {
+    let table = Table::of(words).map_err(|reason| (reason, 0))?;
+    with_notes(&table, |mut notes| accept(&table, &mut Sets::default(), &mut notes))
+}
+
+/// The state's check that follows it: 0, or the answer of a refusal.
+pub fn check_state(words: &[u32], state: &[u32]) -> u32 {
+    let Some(table) = Table::of(words).ok().filter(|_| check_table(words).is_ok()) else {
+        return 1;
+    };
+    // Its sections are made for writing.
+    let mut state = state.to_vec();
+    let fits = State::of(&table, &mut state).is_some_and(|state| state.fits(&table));
+    if fits { 0 } else { 2 }
 }
 
 /// One event, as document 01 has it: the count, or the answer of a refusal.
