@@ -1,6 +1,5 @@
 //! Expressions: what they mention, what they give, and nesting in general.
 
-use crate::state::State;
 use crate::words::{Expression, LEVELS, Table, expression};
 
 /// The depth of each thing, given what each names: 1 plus the deepest it
@@ -29,11 +28,12 @@ pub fn mentions(table: &Table, number: usize, wanted: &dyn Fn(usize) -> bool) ->
     }
 }
 
-pub fn evaluate(table: &Table, state: &State, number: usize) -> bool {
-    let argument = |number: u32| evaluate(table, state, number as usize);
+/// What an expression gives where the ports have these values.
+pub fn evaluate(table: &Table, number: usize, value: &dyn Fn(usize) -> u32) -> bool {
+    let argument = |number: u32| evaluate(table, number as usize, value);
     match table.expression(number) {
         Expression::Condition(condition) => {
-            let value = state.port(condition.port as usize).value;
+            let value = value(condition.port as usize);
             match condition.kind {
                 expression::EQUAL => value == condition.value,
                 expression::NOT_EQUAL => value != condition.value,

@@ -43,7 +43,8 @@ impl Run<'_> {
         let expression = rule.expression as usize;
         let undefined = |port: usize| self.state.port(port).defined == 0;
         let stands = !mentions(self.table, expression, &undefined);
-        stands.then(|| evaluate(self.table, &self.state, expression))
+        let value = |port: usize| self.state.port(port).value;
+        stands.then(|| evaluate(self.table, expression, &value))
     }
 
     /// Stores a rule's result and gives the list it starts: the one for that

@@ -1,18 +1,24 @@
 //! `compare bench`: the proved event call beside the yardstick's and the second
-//! program's, in one run.
+//! program's, in one run. What is timed is compared first.
 
-pub mod hostile;
+mod clock;
+mod hostile;
 mod programs;
-pub mod sized;
+mod sized;
+#[cfg(test)]
+mod tests;
 mod timing;
 
 use std::fs;
 use std::hint::black_box;
 use std::path::Path;
 
+use second::cases::Case;
 use second::program::words;
 
-use crate::yardstick;
+use crate::differ::{Difference, compare};
+use crate::subject::{Proved, Subject};
+pub use clock::Clock;
 pub use programs::programs;
 use timing::best;
 
@@ -56,36 +62,66 @@ pub fn bench() -> Result<(), String> {
     for blocks in [3, 9, 29, 85] {
         row(&format!("{blocks} blocks"), &sized::sized(blocks).words(), &sized::events())?;
     }
-    hostile_tables();
-    Ok(())
+    hostile_tables()
 }
 
-/// The three event calls, each giving its count.
-type Call = fn(&[u32], &mut [u32], &mut [u32], u32) -> usize;
+/// Nanoseconds per event of each call, and how many trace words a run writes.
+struct Times {
+    proved: f64,
+    /// No time where it computes something else, but what that is.
+    yardstick: Result<f64, Difference>,
+    second: f64,
+    written: usize,
+}
 
-const CALLS: [Call; 3] = [
-    |table, state, trace, event| herringcart::take_event(table, state, trace, event).count,
-    |table, state, trace, event| yardstick::take_event(table, state, trace, event).count,
-    |table, state, trace, event| second::step(table, state, trace, event).count,
-];
+impl Times {
+    /// Of a run from a fresh state, again and again. The proved code and the
+    /// clock are first held against the second program on this very run.
+    fn of(clock: &impl Subject, table: &[u32], events: &[u32]) -> Result<Self, Difference> {
+        let mut state = vec![0; herringcart::state_words(table)];
+        second::fresh(table, &mut state);
+        let (room, table, events) = (second::check(table).b, table.to_vec(), events.to_vec());
+        let case = Case { table, state, room, events };
+        compare(&Proved, &case)?;
+        let yardstick = compare(clock, &case);
+        let (second, written) = timed(&case, |t, s, r, e| second::step(t, s, r, e).count);
+        let (proved, _) = timed(&case, |t, s, r, e| Proved.step(t, s, r, e).count);
+        let yardstick =
+            yardstick.map(|()| timed(&case, |t, s, r, e| clock.step(t, s, r, e).count).0);
+        Ok(Times { proved, yardstick, second, written })
+    }
 
-/// Nanoseconds per event for each call, of a run from a fresh state, again and
-/// again; and how many trace words a run writes.
-fn timed(table: &[u32], events: &[u32]) -> ([f64; 3], usize) {
-    let mut start = vec![0; herringcart::state_words(table)];
-    second::fresh(table, &mut start);
-    let (mut state, mut trace) = (start.clone(), vec![0; second::check(table).b]);
+    /// The yardstick's time, in so many of the unit's nanoseconds, and the
+    /// proved code's by it; and what is said below the line where there is none.
+    fn by_yardstick(&self, unit: f64, digits: usize) -> (String, String, String) {
+        match &self.yardstick {
+            Ok(time) => {
+                let ratio = self.proved / time;
+                (format!("{:.digits$}", time / unit), format!("{ratio:.2}"), String::new())
+            }
+            Err(difference) => {
+                let why = format!(
+                    "\n  yardstick: no time, it computes something else: {}",
+                    difference.what
+                );
+                ("-".into(), "-".into(), why)
+            }
+        }
+    }
+}
+
+/// Nanoseconds per event of a call that gives its count, and the counts' sum.
+fn timed(case: &Case, call: impl Fn(&[u32], &mut [u32], &mut [u32], u32) -> usize) -> (f64, usize) {
+    let (mut state, mut trace) = (case.state.clone(), vec![0; case.room]);
     let mut written = 0;
-    let times = CALLS.map(|call| {
-        best(|| {
-            state.copy_from_slice(&start);
-            let table = black_box(table);
-            let take = |&event| call(table, &mut state, &mut trace, event);
-            written = events.iter().map(take).sum();
-            events.len()
-        })
+    let time = best(|| {
+        state.copy_from_slice(&case.state);
+        let table = black_box(&case.table[..]);
+        let take = |&event| call(table, &mut state, &mut trace, event);
+        written = case.events.iter().map(take).sum();
+        case.events.len()
     });
-    (times, written)
+    (time, written)
 }
 
 /// One line of an accepted table.
@@ -94,18 +130,20 @@ fn row(name: &str, table: &[u32], events: &[u32]) -> Result<(), String> {
     if check.reason != 0 {
         return Err(format!("{name}: {check:?}"));
     }
-    let ([proved, yardstick, second], written) = timed(table, events);
+    let times = Times::of(&Clock, table, events).map_err(|what| format!("{name}: {what}"))?;
+    let (yardstick, by_yardstick, why) = times.by_yardstick(1.0, 0);
+    let Times { proved, second, written, .. } = times;
     let (words, b, trace) = (table.len(), check.b, written as f64 / events.len() as f64);
-    let [by_yardstick, by_second] = [proved / yardstick, proved / second];
+    let by_second = proved / second;
     println!(
-        "{name:<44}{words:>6}{b:>6}{trace:>8.1}{proved:>10.0}{yardstick:>10.0}{second:>10.0}\
-         {by_yardstick:>7.2}{by_second:>7.2}"
+        "{name:<44}{words:>6}{b:>6}{trace:>8.1}{proved:>10.0}{yardstick:>10}{second:>10.0}\
+         {by_yardstick:>7}{by_second:>7.2}{why}"
     );
     Ok(())
 }
 
 /// The tables made to be slow, by the proved check and by event.
-fn hostile_tables() {
+fn hostile_tables() -> Result<(), String> {
     println!("hostile tables: microseconds a call, best of five");
     println!(
         "{:<44}{:>6}{:>7}{:>10}{:>10}{:>10}{:>10}{:>7}",
@@ -113,20 +151,24 @@ fn hostile_tables() {
     );
     let mut slowest: f64 = 0.0;
     for hostile in hostile::all() {
-        let words = hostile.draft.words();
+        let (name, words) = (hostile.name, hostile.draft.words());
+        let times = Times::of(&Clock, &words, &[hostile.event])
+            .map_err(|what| format!("{name}: {what}"))?;
         let check = best(|| {
             black_box(herringcart::check_table(black_box(&words)));
             1
         });
-        let ([event, yardstick, second], _) = timed(&words, &[hostile.event]);
-        let times = [check, event, yardstick, second].map(|ns| format!("{:>10.1}", ns / 1000.0));
-        let reason = second::check(&words).reason;
-        let proved = check.max(event);
+        let (yardstick, ratio, why) = times.by_yardstick(1000.0, 1);
+        let [checked, event, second] = [check, times.proved, times.second].map(|ns| ns / 1000.0);
+        let (length, reason) = (words.len(), second::check(&words).reason);
+        let proved = check.max(times.proved);
         let flag = if proved > MOST { " OVER" } else { "" };
-        let ratio = event / yardstick;
-        let (name, length, times) = (hostile.name, words.len(), times.concat());
-        println!("{name:<44}{length:>6}{reason:>7}{times}{ratio:>7.2}{flag}");
+        println!(
+            "{name:<44}{length:>6}{reason:>7}{checked:>10.1}{event:>10.1}{yardstick:>10}{second:>10.1}\
+             {ratio:>7}{flag}{why}"
+        );
         slowest = slowest.max(proved);
     }
     println!("slowest proved call: {:.1} us; OVER is above 2 ms", slowest / 1000.0);
+    Ok(())
 }

@@ -1,5 +1,9 @@
 //! A clock for the proved code, no judge of it: document 01's event call in
 //! safe Rust made for speed. Every call makes every check, on the stack alone.
+//!
+//! It is held at the base's rules: document 01 without any request. It is for
+//! times alone, no request is carried over to it, and the gate does not try it.
+//! `bench` takes its time only where it computes what the second program does.
 
 mod arbitration;
 mod check;
@@ -10,10 +14,8 @@ mod table;
 #[cfg(test)]
 mod tests;
 
-use herringcart::Answer;
-
 use arbitration::Run;
-use check::{Sets, accept};
+use check::{Refusal, Sets, accept};
 use nesting::{Memory, Notes};
 use state::State;
 use table::Table;
@@ -32,19 +34,37 @@ fn with_notes<T>(table: &Table, call: impl FnOnce(Notes) -> T) -> T {
     }
 }
 
-/// One event, as document 01 has it. Not inlined, as the proved call is not.
-#[inline(never)]
-pub fn take_event(words: &[u32], state: &mut [u32], trace: &mut [u32], event: u32) -> Answer {
-    let Ok(table) = Table::of(words) else {
-        return Answer { number: 1, count: 0 };
-    };
-    match with_notes(&table, |notes| take(&table, notes, state, trace, event)) {
-        Ok(count) => Answer { number: 0, count },
-        Err(number) => Answer { number, count: 0 },
-    }
+/// The check that an event call begins with: B, or reason and place.
+pub fn check_table(words: &[u32]) -> Result<u32, Refusal> {
+    let table = Table::of(words).map_err(|reason| (reason, 0))?;
+    with_notes(&table, |mut notes| accept(&table, &mut Sets::default(), &mut notes))
 }
 
-/// The count, or the answer of a refusal; nothing is written before the last check.
+/// The state's check that follows it: 0, or the answer of a refusal.
+pub fn check_state(words: &[u32], state: &[u32]) -> u32 {
+    let Some(table) = Table::of(words).ok().filter(|_| check_table(words).is_ok()) else {
+        return 1;
+    };
+    // Its sections are made for writing.
+    let mut state = state.to_vec();
+    let fits = State::of(&table, &mut state).is_some_and(|state| state.fits(&table));
+    if fits { 0 } else { 2 }
+}
+
+/// One event, as document 01 has it: the count, or the answer of a refusal.
+/// Not inlined, as the proved call is not.
+#[inline(never)]
+pub fn take_event(
+    words: &[u32],
+    state: &mut [u32],
+    trace: &mut [u32],
+    event: u32,
+) -> Result<usize, u32> {
+    let table = Table::of(words).map_err(|_| 1u32)?;
+    with_notes(&table, |notes| take(&table, notes, state, trace, event))
+}
+
+/// Nothing is written before the last check.
 fn take(
     table: &Table,
     mut notes: Notes,

@@ -22,6 +22,9 @@ pub enum Row {
     Special(&'static str),
 }
 
+/// What a case met.
+pub type Met = BTreeSet<Row>;
+
 pub const TWO_CHOSEN: &str = "two or more lists chosen at once";
 pub const CHOSEN_AND_NAMED: &str = "a list both chosen and named";
 pub const DEPTH_7_EXPRESSION: &str = "expression depth 7 accepted";
@@ -178,7 +181,7 @@ impl Coverage {
     }
 
     /// Counts a case's rows; a row that cannot be is given back.
-    pub fn count(&mut self, met: &BTreeSet<Row>) -> Result<(), Row> {
+    pub fn count(&mut self, met: &Met) -> Result<(), Row> {
         for row in met {
             *self.0.get_mut(row).ok_or(*row)? += 1;
         }

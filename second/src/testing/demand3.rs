@@ -1,7 +1,7 @@
 //! Demand 3 on a run from a fresh state: nobody waits longer because of a stranger.
 
-use super::coverage::{self, Row};
-use super::properties::{Entry, Met, hold, run};
+use super::coverage::{self, Met, Row};
+use super::log::{Entry, hold, run};
 use crate::cases::Case;
 use crate::cases::draft::Draft;
 use crate::events::shown;

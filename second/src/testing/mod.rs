@@ -3,6 +3,7 @@
 pub mod coverage;
 mod demand3;
 mod fixed;
+mod log;
 mod properties;
 mod recorded;
 mod traces;

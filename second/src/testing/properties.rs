@@ -1,39 +1,15 @@
 //! What must hold of every generated case, and what it met.
 
-use std::collections::BTreeSet;
-
-use super::coverage::{self, Row};
+use super::coverage::{self, Met, Row};
 use super::demand3;
+use super::log::{Entry, hold, run};
 use super::traces::{self, items_run, started};
 use crate::cases::draft::{Depth, Draft, SEVEN};
 use crate::cases::states::fresh_state;
 use crate::cases::{Case, Made};
-use crate::stream::{STATE_FILL, TRACE_FILL};
+use crate::stream::STATE_FILL;
 use crate::words::*;
-use crate::{check, check_state, fresh, state, step};
-
-pub type Met = BTreeSet<Row>;
-
-/// One event with the state before and after it.
-pub struct Entry {
-    pub event: Event,
-    pub answer: u32,
-    pub before: Vec<u32>,
-    pub after: Vec<u32>,
-    /// The trace words that the count covers.
-    pub trace: Vec<u32>,
-}
-
-impl Entry {
-    pub fn is_tick(&self) -> bool {
-        self.event.kind == event::TICK
-    }
-}
-
-/// Fails with what went wrong unless it holds.
-pub fn hold(holds: bool, what: impl FnOnce() -> String) -> Result<(), String> {
-    if holds { Ok(()) } else { Err(what()) }
-}
+use crate::{check, check_state, fresh, state};
 
 /// Tries everything on one case; gives what it met.
 pub fn try_case(made: &Made) -> Result<Met, String> {
@@ -75,22 +51,6 @@ pub fn try_case(made: &Made) -> Result<Met, String> {
 
 fn read(words: &[u32]) -> Draft {
     Draft::of(&Table::of(words).expect("an accepted table has its header"))
-}
-
-/// Every event in turn, the state passed on.
-pub fn run(case: &Case) -> Vec<Entry> {
-    let mut state = case.state.clone();
-    let one = |&event: &u32| {
-        let (before, mut trace) = (state.clone(), vec![TRACE_FILL; case.room]);
-        let outcome = step(&case.table, &mut state, &mut trace, event);
-        // A count past the room would show as a short trace and fail below.
-        let written = outcome.count.min(case.room);
-        let untouched = trace[written..].iter().all(|&word| word == TRACE_FILL);
-        let answer = if untouched { outcome.answer } else { u32::MAX };
-        trace.truncate(written);
-        Entry { event: Event::of(event), answer, before, after: state.clone(), trace }
-    };
-    case.events.iter().map(one).collect()
 }
 
 fn try_fresh(case: &Case, reason: u32) -> Result<(), String> {

@@ -2,7 +2,7 @@
 
 use std::cmp::Reverse;
 
-use super::properties::{Entry, hold};
+use super::log::{Entry, hold};
 use crate::cases::draft::Draft;
 use crate::words::*;
 

@@ -1,0 +1,43 @@
+//! A case's events taken one after another, as the properties read them.
+
+use crate::cases::Case;
+use crate::step;
+use crate::stream::TRACE_FILL;
+use crate::words::{Event, event};
+
+/// One event with the state before and after it.
+pub struct Entry {
+    pub event: Event,
+    pub answer: u32,
+    pub before: Vec<u32>,
+    pub after: Vec<u32>,
+    /// The trace words that the count covers.
+    pub trace: Vec<u32>,
+}
+
+impl Entry {
+    pub fn is_tick(&self) -> bool {
+        self.event.kind == event::TICK
+    }
+}
+
+/// Fails with what went wrong unless it holds.
+pub fn hold(holds: bool, what: impl FnOnce() -> String) -> Result<(), String> {
+    if holds { Ok(()) } else { Err(what()) }
+}
+
+/// Every event in turn, the state passed on.
+pub fn run(case: &Case) -> Vec<Entry> {
+    let mut state = case.state.clone();
+    let one = |&event: &u32| {
+        let (before, mut trace) = (state.clone(), vec![TRACE_FILL; case.room]);
+        let outcome = step(&case.table, &mut state, &mut trace, event);
+        // A count past the room would show as a short trace and fail below.
+        let written = outcome.count.min(case.room);
+        let untouched = trace[written..].iter().all(|&word| word == TRACE_FILL);
+        let answer = if untouched { outcome.answer } else { u32::MAX };
+        trace.truncate(written);
+        Entry { event: Event::of(event), answer, before, after: state.clone(), trace }
+    };
+    case.events.iter().map(one).collect()
+}
