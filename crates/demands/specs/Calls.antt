@@ -10,6 +10,7 @@ use Rattle.manager.specs.Promises.{TakesEventIn}
 -- refused call leaves none; whatever trace was lent, none tells.
 pub data Played (t : List ℕ) : List ℕ → List Entry → Type 0 where
   none : {s : List ℕ} → Played t s []
-  refused : {s trace s′ trace′ : List ℕ} (e : ℕ) {k n : ℕ} {xs : List Entry} → TakesEventIn t s trace e k n s′ trace′ → (k ≡ 0 → ⊥) → Played t s′ xs → Played t s xs
+  refused : {s trace s′ trace′ : List ℕ} (e : ℕ) {k n : ℕ} {xs : List Entry} → TakesEventIn t s trace e k n s′ trace′ → (k ≡ 0 → ⊥) → Played t s′ xs
+      → Played t s xs
   taken : {s trace s′ trace′ : List ℕ} (e : ℕ) {k n : ℕ} {xs : List Entry} → TakesEventIn t s trace e k n s′ trace′ → k ≡ 0 → Played t s′ xs
       → Played t s (record { event = e; state = s′; words = take n trace′ } ∷ xs)

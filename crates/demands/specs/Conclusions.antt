@@ -32,4 +32,5 @@ pub record OfEvent (t s trace : List ℕ) (e k n : ℕ) (s′ trace′ : List �
   pub steps : k ≡ 0 → Steps t s trace e n s′ trace′
   pub lists : k ≡ 0 → Arbitrated t e s s′ (take n trace′)
   -- the log goes on: calls that led from s₀ to s, and this one
-  pub taken : k ≡ 0 → (s₀ : List ℕ) (xs : List Entry) → Played t s₀ xs → stateAfter s₀ xs ≡ s → Played t s₀ (xs ++ record { event = e; state = s′; words = take n trace′ } ∷ [])
+  pub taken : k ≡ 0 → (s₀ : List ℕ) (xs : List Entry) → Played t s₀ xs → stateAfter s₀ xs ≡ s
+      → Played t s₀ (xs ++ record { event = e; state = s′; words = take n trace′ } ∷ [])

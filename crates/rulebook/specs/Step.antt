@@ -8,7 +8,8 @@ use Rattle.rulebook.specs.Table.{ports, networks, sources, rules, portKi
 use Rattle.rulebook.specs.Reasons.{accepted, bound, held}
 use Rattle.rulebook.specs.State.{Thing, aPort, aRule, aNetwork, aSource, ownerOf, fits}
 use Rattle.rulebook.specs.Lists.{Run}
-use Rattle.rulebook.specs.Events.{eventKind, eventOwner, eventIndex, eventValue, eventZero, eventTick, eventMode, eventRequest, eventBusOff, highestKind, happen}
+use Rattle.rulebook.specs.Events.{eventKind, eventOwner, eventIndex, eventValue, eventZero}
+use Rattle.rulebook.specs.Events.{eventTick, eventMode, eventRequest, eventBusOff, highestKind, happen}
 
 -- The checks that answers 4 to 6 make of the event and the table.
 

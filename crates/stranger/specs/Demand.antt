@@ -9,7 +9,8 @@ use Rattle.rulebook.specs.Table.{networkPort, eTicks, sourcePort, timeout, item
 use Rattle.rulebook.specs.State.{sourceIndex, definedOf, valueOf, remainingOf, askedFull, stateCheck, stateFull, stateRecover}
 use Rattle.rulebook.specs.State.{statusNone, statusPending, statusValidated, statusExpired}
 use Rattle.rulebook.specs.Lists.{networkIn}
-use Rattle.rulebook.specs.Events.{eventKind, eventIndex, eventTick, eventWakeup, eventValid, eventBusOff, eventClear, statusIn, shown, takes, counterPlusOne, wait}
+use Rattle.rulebook.specs.Events.{eventKind, eventIndex, eventTick, eventWakeup, eventValid, eventBusOff, eventClear}
+use Rattle.rulebook.specs.Events.{statusIn, shown, takes, counterPlusOne, wait}
 use Rattle.stranger.specs.Logs.{Entry, stateAfter}
 use Rattle.stranger.specs.View.{traceKind, traceA, traceB}
 
@@ -93,7 +94,8 @@ notEnded k (x ∷ xs) = not (ended k x) && notEnded k xs
 
 -- pending with remaining T - j after the j-th tick, for j below T; expired at exactly T
 pub record Waiting (t : List ℕ) (k j : ℕ) (s : List ℕ) : Type 0 where
-  pub pending : j < timeout t k → (statusIn t k s ≡ statusPending) × (remainingOf (word s (sourceIndex t k)) ≡ timeout t k - j) × (showsStatus t k s ≡ statusPending)
+  pub pending : j < timeout t k
+      → (statusIn t k s ≡ statusPending) × (remainingOf (word s (sourceIndex t k)) ≡ timeout t k - j) × (showsStatus t k s ≡ statusPending)
   pub expired : j ≡ timeout t k → (statusIn t k s ≡ statusExpired) × (showsStatus t k s ≡ statusExpired)
 
 -- what an event that ends it leaves of a pending source: validated by a valid, none by a clear
