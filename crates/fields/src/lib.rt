@@ -5,6 +5,18 @@ ghost use Rattle.rulebook.specs.Table.{atPort, atNetwork, atWaits, atSource, at
 ghost use Rattle.rulebook.specs.Reasons.{ownFields, lowest};
 ghost use Rattle.words.specs.Parts.{partOf};
 ghost use Rattle.words.specs.Sections.{Laid};
+use words::numbers::CONDITION_CLEARED;
+use words::numbers::CONDITION_SET;
+use words::numbers::ITEM_ASK;
+use words::numbers::ITEM_CALL;
+use words::numbers::ITEM_CLEAR;
+use words::numbers::ITEM_LIST;
+use words::numbers::ITEM_RULE;
+use words::numbers::ITEM_STOP;
+use words::numbers::OPERATOR_AND;
+use words::numbers::OPERATOR_NOT;
+use words::numbers::PORT_MODE;
+use words::numbers::PORT_TIMER;
 use words::parts::Part;
 use words::parts::part_at;
 use words::sections;
@@ -20,10 +32,10 @@ fn port_fields(t: &[u32], p: u32) -> bool
     let has_initial = table::port_has_initial(w);
     let initial = table::port_initial(w);
     let reload = table::port_reload(w);
-    (kind <= 2)
-        & ((has_initial == 1) & (kind == 0) | !(has_initial == 1) & (initial == 0))
-        & ((kind == 2) & (1 <= reload) | !(kind == 2) & (reload == 0))
-        & (!(kind == 2) | (deferred == 1))
+    (kind <= PORT_TIMER)
+        & ((has_initial == 1) & (kind == PORT_MODE) | !(has_initial == 1) & (initial == 0))
+        & ((kind == PORT_TIMER) & (1 <= reload) | !(kind == PORT_TIMER) & (reload == 0))
+        & (!(kind == PORT_TIMER) | (deferred == 1))
 }
 
 fn network_fields(t: &[u32], h: Layout, n: u32) -> bool
@@ -64,10 +76,10 @@ fn expression_fields(t: &[u32], h: Layout, e: u32) -> bool
     let value = table::condition_value(w);
     let zero = table::condition_zero(w);
     let right = table::right(w);
-    (kind <= 8)
-        & (!!((4 <= kind) & (kind <= 8)) | (zero == 0))
-        & (!((2 <= kind) & (kind <= 3)) | (value == 0))
-        & (!(kind == 8) | (right == 0))
+    (kind <= OPERATOR_NOT)
+        & (!!((OPERATOR_AND <= kind) & (kind <= OPERATOR_NOT)) | (zero == 0))
+        & (!((CONDITION_SET <= kind) & (kind <= CONDITION_CLEARED)) | (value == 0))
+        & (!(kind == OPERATOR_NOT) | (right == 0))
 }
 
 fn rule_fields(t: &[u32], h: Layout, r: u32) -> bool
@@ -96,11 +108,11 @@ fn item_fields(t: &[u32], h: Layout, i: u32) -> bool
     let kind = table::item_kind(w);
     let a = table::item_a(w);
     let b = table::item_b(w);
-    (kind <= 6)
-        & (!(kind == 0) | (a == 0))
-        & (!((1 <= kind) & (kind <= 3)) | (b == 0))
-        & (!(kind == 4) | (b <= 2))
-        & (!((5 <= kind) & (kind <= 6)) | (b == 0))
+    (kind <= ITEM_RULE)
+        & (!(kind == ITEM_CALL) | (a == 0))
+        & (!((ITEM_CLEAR <= kind) & (kind <= ITEM_STOP)) | (b == 0))
+        & (!(kind == ITEM_ASK) | (b <= 2))
+        & (!((ITEM_LIST <= kind) & (kind <= ITEM_RULE)) | (b == 0))
 }
 
 // Whether a word keeps rule 5.

@@ -7,6 +7,7 @@ ghost use Rattle.rulebook.specs.Words.{digit, word as wordOf};
 ghost use Rattle.words.specs.Field.{Field};
 ghost use Rattle.words.specs.Flags.{flagged};
 
+pub mod numbers;
 pub mod parts;
 pub mod sections;
 pub mod state;
