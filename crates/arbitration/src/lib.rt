@@ -17,6 +17,7 @@ use evaluation;
 use expression::mentions;
 use lists;
 use words::flag;
+use words::numbers::UNDEFINED_RESULT;
 use words::put;
 use words::raised;
 use words::sections;
@@ -88,7 +89,7 @@ fn pick(t: &[u32], h: Layout, results: &[u32], s: &[u32], r: u32) -> u32
     ensures { λ l. ⌜ l ≡ pickBy (now (t .entry)) (now (results .entry)) (now (s .entry)) r ⌝ }
 {
     let result = word(results, r as usize);
-    if result == 2 {
+    if result == UNDEFINED_RESULT {
         return 256;
     }
     evaluation::choice(t, h, r, lists::previous(t, h, s, r), result)
@@ -115,7 +116,7 @@ fn store_result(t: &[u32], h: Layout, results: &[u32], s: &mut [u32], r: u32)
     ensures { λ _. ⌜ now (s .exit) ≡ storeBy (now (t .entry)) (now (results .entry)) r (now (s .entry)) ⌝ }
 {
     let result = word(results, r as usize);
-    if result == 2 {
+    if result == UNDEFINED_RESULT {
         return;
     }
     lists::set_result(t, h, s, r, result);

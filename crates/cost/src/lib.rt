@@ -11,6 +11,9 @@ ghost use Rattle.words.specs.Field.{Field};
 ghost use Rattle.words.specs.Sections.{Laid};
 ghost use Rattle.nesting.specs.Depths.{Depths};
 ghost use Rattle.cost.specs.Costs.{capped, costIn, nextCost, Costs, Nested};
+use words::numbers::ITEM_LIST;
+use words::numbers::ITEM_RULE;
+use words::numbers::NO_LIST;
 use words::put;
 use words::sections;
 use words::sections::Layout;
@@ -40,7 +43,7 @@ fn cost_in(costs: &[u32], l: u32) -> u32
 fn chosen_cost(costs: &[u32], l: u32) -> u32
     ensures { λ r. ⌜ Field (cond (eqb l noList) 0 (costIn (now (costs .entry)) l)) 4098 r ⌝ }
 {
-    if l == 255 {
+    if l == NO_LIST {
         return 0;
     }
     cost_in(costs, l)
@@ -63,10 +66,10 @@ fn item_cost(t: &[u32], h: Layout, below: &[u32], i: u32) -> u32
     let w = sections::item_word(t, h, i);
     let kind = table::item_kind(w);
     let a = table::item_a(w);
-    if kind == 5 {
+    if kind == ITEM_LIST {
         return cost_in(below, a);
     }
-    if kind == 6 {
+    if kind == ITEM_RULE {
         return rule_cost(t, h, below, a);
     }
     1

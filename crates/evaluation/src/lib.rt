@@ -7,6 +7,14 @@ ghost use Rattle.rulebook.specs.Lists.{valueIn, undefinedIn, unready as unready
 ghost use Rattle.words.specs.Field.{Field};
 ghost use Rattle.words.specs.Sections.{Laid};
 ghost use Rattle.evaluation.specs.Met.{met};
+use words::numbers::CONDITION_EQUAL;
+use words::numbers::CONDITION_NOT_EQUAL;
+use words::numbers::CONDITION_SET;
+use words::numbers::OPERATOR_AND;
+use words::numbers::OPERATOR_NAND;
+use words::numbers::OPERATOR_NOT;
+use words::numbers::OPERATOR_OR;
+use words::numbers::OPERATOR_XOR;
 use words::sections::Layout;
 use words::sections::expression_word;
 use words::sections::list_word;
@@ -34,13 +42,13 @@ fn undefined_in(s: &[u32], p: u32) -> bool
 fn condition_met(kind: u32, value: u32, named: u32) -> bool
     ensures { λ r. ⌜ r ≡ met kind value named ⌝ }
 {
-    if kind == 0 {
+    if kind == CONDITION_EQUAL {
         return value == named;
     }
-    if kind == 1 {
+    if kind == CONDITION_NOT_EQUAL {
         return value != named;
     }
-    if kind == 2 {
+    if kind == CONDITION_SET {
         return value == 1;
     }
     value == 0
@@ -50,16 +58,16 @@ fn condition_met(kind: u32, value: u32, named: u32) -> bool
 fn joined(kind: u32, a: bool, b: bool) -> bool
     ensures { λ r. ⌜ r ≡ joinedOf kind a b ⌝ }
 {
-    if kind == 4 {
+    if kind == OPERATOR_AND {
         return a & b;
     }
-    if kind == 5 {
+    if kind == OPERATOR_OR {
         return a | b;
     }
-    if kind == 6 {
+    if kind == OPERATOR_XOR {
         return a ^ b;
     }
-    if kind == 7 {
+    if kind == OPERATOR_NAND {
         return !(a & b);
     }
     !a
@@ -75,13 +83,13 @@ pub fn holds(t: &[u32], from: usize, values: &[u32], e: u32, levels: u32) -> boo
     }
     let w = expression_word(t, from, e);
     let kind = table::expression_kind(w);
-    let condition = !((4 <= kind) & (kind <= 8));
+    let condition = !((OPERATOR_AND <= kind) & (kind <= OPERATOR_NOT));
     if condition {
         let value = value_in(values, table::condition_port(w));
         return condition_met(kind, value, table::condition_value(w));
     }
     let a = holds(t, from, values, table::left(w), levels - 1);
-    if kind == 8 {
+    if kind == OPERATOR_NOT {
         return !a;
     }
     let b = holds(t, from, values, table::right(w), levels - 1);
@@ -98,14 +106,14 @@ fn mentions_undefined(t: &[u32], from: usize, s: &[u32], e: u32, levels: u32) ->
     }
     let w = expression_word(t, from, e);
     let kind = table::expression_kind(w);
-    let condition = !((4 <= kind) & (kind <= 8));
+    let condition = !((OPERATOR_AND <= kind) & (kind <= OPERATOR_NOT));
     if condition {
         return undefined_in(s, table::condition_port(w));
     }
     if mentions_undefined(t, from, s, table::left(w), levels - 1) {
         return true;
     }
-    if kind == 8 {
+    if kind == OPERATOR_NOT {
         return false;
     }
     mentions_undefined(t, from, s, table::right(w), levels - 1)

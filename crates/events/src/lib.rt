@@ -16,6 +16,9 @@ use refusals::event;
 use things::change;
 use things::ports::request_port;
 use things::tick_things;
+use words::numbers::EVENT_MODE;
+use words::numbers::EVENT_REQUEST;
+use words::numbers::EVENT_TICK;
 use words::sections::Layout;
 
 // A request: the port is written, and arbitrated now if it is immediate.
@@ -47,13 +50,13 @@ fn happen(t: &[u32], h: Layout, e: u32, s: &mut [u32], trace: &mut [u32]) -> usi
     let kind = event::kind(e);
     let index = event::index(e);
     let value = event::value(e);
-    if kind == 0 {
+    if kind == EVENT_TICK {
         return tick(t, h, s, trace);
     }
-    if kind == 1 {
+    if kind == EVENT_MODE {
         return request(t, h, index, value, s, trace);
     }
-    if kind == 2 {
+    if kind == EVENT_REQUEST {
         return request(t, h, index, 1, s, trace);
     }
     change(t, h, s, kind, index);

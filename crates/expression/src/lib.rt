@@ -5,6 +5,8 @@ ghost use Rattle.rulebook.specs.Table.{expressionsFrom};
 ghost use Rattle.rulebook.specs.Expressions.{expressionWithin, mentions as mentionsOf};
 ghost use Rattle.words.specs.Flags.{flagged};
 use words::flag;
+use words::numbers::OPERATOR_AND;
+use words::numbers::OPERATOR_NOT;
 use words::sections::expression_word;
 use words::table::condition_port;
 use words::table::expression_kind;
@@ -21,14 +23,14 @@ pub fn within(t: &[u32], from: usize, e: u32, levels: u32) -> bool
     }
     let w = expression_word(t, from, e);
     let kind = expression_kind(w);
-    let condition = !((4 <= kind) & (kind <= 8));
+    let condition = !((OPERATOR_AND <= kind) & (kind <= OPERATOR_NOT));
     if condition {
         return true;
     }
     if !within(t, from, left(w), levels - 1) {
         return false;
     }
-    if kind == 8 {
+    if kind == OPERATOR_NOT {
         return true;
     }
     within(t, from, right(w), levels - 1)
@@ -44,14 +46,14 @@ pub fn mentions(t: &[u32], from: usize, flags: &[u32], e: u32, levels: u32) -> b
     }
     let w = expression_word(t, from, e);
     let kind = expression_kind(w);
-    let condition = !((4 <= kind) & (kind <= 8));
+    let condition = !((OPERATOR_AND <= kind) & (kind <= OPERATOR_NOT));
     if condition {
         return flag(flags, condition_port(w));
     }
     if mentions(t, from, flags, left(w), levels - 1) {
         return true;
     }
-    if kind == 8 {
+    if kind == OPERATOR_NOT {
         return false;
     }
     mentions(t, from, flags, right(w), levels - 1)

@@ -4,6 +4,17 @@ ghost use Rattle.rulebook.specs.Lists.{start, traceWord, effect as effectOf, se
 ghost use Rattle.words.specs.Sections.{Laid};
 ghost use Rattle.lists.specs.Runs.{Safe, Ran, itemsFrom};
 use evaluation;
+use words::numbers::ITEM_ASK;
+use words::numbers::ITEM_CLEAR;
+use words::numbers::ITEM_LIST;
+use words::numbers::ITEM_RULE;
+use words::numbers::ITEM_START;
+use words::numbers::ITEM_STOP;
+use words::numbers::NO_LIST;
+use words::numbers::TIMER_STARTED;
+use words::numbers::TIMER_STOPPED;
+use words::numbers::TRACE_LIST_START;
+use words::numbers::UNDEFINED_RESULT;
 use words::put;
 use words::sections;
 use words::sections::Layout;
@@ -65,21 +76,21 @@ fn effect(t: &[u32], h: Layout, i: u32, s: &mut [u32])
     let w = sections::item_word(t, h, i);
     let kind = table::item_kind(w);
     let a = table::item_a(w);
-    if kind == 1 {
+    if kind == ITEM_CLEAR {
         let marked = state::marked(word(s, a as usize));
         set_port(s, a, marked, 0, 0);
         return;
     }
-    if kind == 2 {
+    if kind == ITEM_START {
         let reload = table::port_reload(sections::port_word(t, a));
-        set_port(s, a, 1, 1, reload);
+        set_port(s, a, 1, TIMER_STARTED, reload);
         return;
     }
-    if kind == 3 {
-        set_port(s, a, 1, 0, 0);
+    if kind == ITEM_STOP {
+        set_port(s, a, 1, TIMER_STOPPED, 0);
         return;
     }
-    if kind == 4 {
+    if kind == ITEM_ASK {
         ask(t, h, s, a, table::item_b(w));
     }
 }
@@ -110,7 +121,7 @@ fn judge(t: &[u32], h: Layout, o: u32, r: u32, s: &mut [u32], trace: &mut [u32])
     let before = previous(t, h, s, r);
     let l = evaluation::choice(t, h, r, before, result);
     set_result(t, h, s, r, result);
-    put(trace, 0, trace_word(6, o, r, result));
+    put(trace, 0, trace_word(ITEM_RULE, o, r, result));
     l
 }
 
@@ -131,7 +142,7 @@ pub fn run_list(
     let o = table::list_owner(w);
     let first = table::first_item(w);
     let count = table::item_count(w);
-    put(trace, 0, trace_word(15, o, l, 0));
+    put(trace, 0, trace_word(TRACE_LIST_START, o, l, 0));
     let n = run_items(
         t,
         h,
@@ -185,10 +196,10 @@ fn run_item(
     let w = sections::item_word(t, h, i);
     let kind = table::item_kind(w);
     let a = table::item_a(w);
-    if kind == 5 {
+    if kind == ITEM_LIST {
         return run_list(t, h, a, below, s, trace);
     }
-    if kind == 6 {
+    if kind == ITEM_RULE {
         return run_rule(t, h, o, a, below, s, trace);
     }
     act(t, h, o, i, s, trace)
@@ -208,11 +219,11 @@ fn run_rule(
     ensures { λ n. ⌜ Ran (runRule (runList below (now (t .entry))) (now (t .entry)) o r (start (now (s .entry)))) (now (s .exit)) (now (trace .entry)) (now (trace .exit)) n ⌝ }
 {
     if evaluation::unready(t, h, s, r) {
-        put(trace, 0, trace_word(6, o, r, 2));
+        put(trace, 0, trace_word(ITEM_RULE, o, r, UNDEFINED_RESULT));
         return 1;
     }
     let l = judge(t, h, o, r, s, trace);
-    if l == 255 {
+    if l == NO_LIST {
         return 1;
     }
     let n = run_list(t, h, l, below, s, &mut trace[1..]);

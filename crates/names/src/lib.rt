@@ -6,6 +6,22 @@ ghost use Rattle.rulebook.specs.Table.{atNetwork, atSource, atExpression, atRul
 ghost use Rattle.rulebook.specs.Reasons.{networkHas, sourceHas, held as heldOf, mayShow, names as namesOf, lowest};
 ghost use Rattle.words.specs.Parts.{partOf};
 ghost use Rattle.words.specs.Sections.{Laid};
+use words::numbers::CONDITION_CLEARED;
+use words::numbers::CONDITION_NOT_EQUAL;
+use words::numbers::CONDITION_SET;
+use words::numbers::ITEM_ASK;
+use words::numbers::ITEM_CALL;
+use words::numbers::ITEM_CLEAR;
+use words::numbers::ITEM_LIST;
+use words::numbers::ITEM_RULE;
+use words::numbers::ITEM_START;
+use words::numbers::ITEM_STOP;
+use words::numbers::NO_LIST;
+use words::numbers::OPERATOR_AND;
+use words::numbers::OPERATOR_NOT;
+use words::numbers::PORT_EVENT;
+use words::numbers::PORT_MODE;
+use words::numbers::PORT_TIMER;
 use words::parts::Part;
 use words::parts::part_at;
 use words::sections;
@@ -66,7 +82,7 @@ fn may_show(t: &[u32], h: Layout, p: u32) -> bool
     let deferred = table::port_deferred(w);
     let has_initial = table::port_has_initial(w);
     let ports = h.ports;
-    (p < ports) & (kind == 0) & (deferred == 1) & (has_initial == 0)
+    (p < ports) & (kind == PORT_MODE) & (deferred == 1) & (has_initial == 0)
 }
 
 fn network_names(t: &[u32], h: Layout, n: u32) -> bool
@@ -104,11 +120,12 @@ fn expression_names(t: &[u32], h: Layout, e: u32) -> bool
     let port_kind = table::port_kind(named);
     let expressions = h.expressions;
     let ports = h.ports;
-    (!((4 <= kind) & (kind <= 8)) | (left < expressions))
-        & (!((4 <= kind) & (kind <= 8) & !(kind == 8)) | (right < expressions))
-        & (!!((4 <= kind) & (kind <= 8)) | (port < ports))
-        & (!(kind <= 1) | !(port_kind == 1))
-        & (!((2 <= kind) & (kind <= 3)) | (port_kind == 1))
+    (!((OPERATOR_AND <= kind) & (kind <= OPERATOR_NOT)) | (left < expressions))
+        & (!((OPERATOR_AND <= kind) & (kind <= OPERATOR_NOT) & !(kind == OPERATOR_NOT))
+            | (right < expressions))
+        & (!!((OPERATOR_AND <= kind) & (kind <= OPERATOR_NOT)) | (port < ports))
+        & (!(kind <= CONDITION_NOT_EQUAL) | !(port_kind == PORT_EVENT))
+        & (!((CONDITION_SET <= kind) & (kind <= CONDITION_CLEARED)) | (port_kind == PORT_EVENT))
 }
 
 fn rule_names(t: &[u32], h: Layout, r: u32) -> bool
@@ -122,8 +139,8 @@ fn rule_names(t: &[u32], h: Layout, r: u32) -> bool
     let expressions = h.expressions;
     let lists = h.lists;
     (expression < expressions)
-        & ((true_list == 255) | (true_list < lists))
-        & ((false_list == 255) | (false_list < lists))
+        & ((true_list == NO_LIST) | (true_list < lists))
+        & ((false_list == NO_LIST) | (false_list < lists))
 }
 
 fn list_names(t: &[u32], h: Layout, l: u32) -> bool
@@ -143,7 +160,7 @@ fn item_names(t: &[u32], h: Layout, i: u32) -> bool
 {
     let w = sections::item_word(t, h, i);
     let kind = table::item_kind(w);
-    if kind == 0 {
+    if kind == ITEM_CALL {
         return true;
     }
     let a = table::item_a(w);
@@ -153,11 +170,11 @@ fn item_names(t: &[u32], h: Layout, i: u32) -> bool
     let networks = h.networks;
     let lists = h.lists;
     let rules = h.rules;
-    (!(kind == 1) | (a < ports) & (port_kind == 1))
-        & (!((2 <= kind) & (kind <= 3)) | (a < ports) & (port_kind == 2))
-        & (!(kind == 4) | (a < networks))
-        & (!(kind == 5) | (a < lists))
-        & (!(kind == 6) | (a < rules))
+    (!(kind == ITEM_CLEAR) | (a < ports) & (port_kind == PORT_EVENT))
+        & (!((ITEM_START <= kind) & (kind <= ITEM_STOP)) | (a < ports) & (port_kind == PORT_TIMER))
+        & (!(kind == ITEM_ASK) | (a < networks))
+        & (!(kind == ITEM_LIST) | (a < lists))
+        & (!(kind == ITEM_RULE) | (a < rules))
 }
 
 // Whether a word keeps rule 6.

@@ -9,6 +9,9 @@ ghost use Rattle.words.specs.Parts.{partOf};
 ghost use Rattle.words.specs.Sections.{Laid};
 ghost use Rattle.nesting.specs.Depths.{foundBy, nextDepth, Depths, Level};
 use expression::within;
+use words::numbers::ITEM_LIST;
+use words::numbers::ITEM_RULE;
+use words::numbers::NO_LIST;
 use words::parts::Part;
 use words::parts::part_at;
 use words::put;
@@ -35,7 +38,7 @@ fn rule_nests(t: &[u32], h: Layout, depths: &[u32], d: u32, r: u32) -> bool
     let false_list = table::false_list(w);
     let true_found = found(depths, d, true_list);
     let false_found = found(depths, d, false_list);
-    ((true_list == 255) | true_found) & ((false_list == 255) | false_found)
+    ((true_list == NO_LIST) | true_found) & ((false_list == NO_LIST) | false_found)
 }
 
 // Whether the lists that item i names were found.
@@ -46,10 +49,10 @@ fn item_nests(t: &[u32], h: Layout, depths: &[u32], d: u32, i: u32) -> bool
     let w = sections::item_word(t, h, i);
     let kind = table::item_kind(w);
     let a = table::item_a(w);
-    if kind == 5 {
+    if kind == ITEM_LIST {
         return found(depths, d, a);
     }
-    if kind == 6 {
+    if kind == ITEM_RULE {
         return rule_nests(t, h, depths, d, a);
     }
     true

@@ -7,6 +7,16 @@ ghost use Rattle.rulebook.specs.Table.{atNetwork, atSource, atRule, part, expre
 ghost use Rattle.rulebook.specs.Expressions.{mentions};
 ghost use Rattle.rulebook.specs.Reasons.{strangersPort, itemOwned, owners, breaks, lowest};
 ghost use Rattle.words.specs.Sections.{Laid};
+use words::numbers::ITEM_ASK;
+use words::numbers::ITEM_CALL;
+use words::numbers::ITEM_CLEAR;
+use words::numbers::ITEM_LIST;
+use words::numbers::ITEM_RULE;
+use words::numbers::ITEM_STOP;
+use words::numbers::NO_LIST;
+use words::numbers::OPERATOR_AND;
+use words::numbers::OPERATOR_NOT;
+use words::numbers::PLATFORM;
 use words::parts::Part;
 use words::parts::part_at;
 use words::sections;
@@ -48,16 +58,16 @@ fn mentions_stranger(t: &[u32], from: usize, o: u32, e: u32, levels: u32) -> boo
     }
     let w = sections::expression_word(t, from, e);
     let kind = table::expression_kind(w);
-    let condition = !((4 <= kind) & (kind <= 8));
+    let condition = !((OPERATOR_AND <= kind) & (kind <= OPERATOR_NOT));
     if condition {
         let named = sections::port_word(t, table::condition_port(w));
         let owner = table::port_owner(named);
-        return !(owner == o) & !(owner == 0);
+        return !(owner == o) & !(owner == PLATFORM);
     }
     if mentions_stranger(t, from, o, table::left(w), levels - 1) {
         return true;
     }
-    if kind == 8 {
+    if kind == OPERATOR_NOT {
         return false;
     }
     mentions_stranger(t, from, o, table::right(w), levels - 1)
@@ -78,8 +88,8 @@ fn rule_owned(t: &[u32], h: Layout, r: u32) -> bool
     let false_owner = table::list_owner(false_word);
     let strange = mentions_stranger(t, h.expression0, owner, expression, 7);
     !strange
-        & ((true_list == 255) | (true_owner == owner))
-        & ((false_list == 255) | (false_owner == owner))
+        & ((true_list == NO_LIST) | (true_owner == owner))
+        & ((false_list == NO_LIST) | (false_owner == owner))
 }
 
 // Whether item i may stand in a list of owner o. Most items name nothing, so what is named is read by the item's kind.
@@ -90,21 +100,21 @@ fn item_owned(t: &[u32], h: Layout, o: u32, i: u32) -> bool
     let w = sections::item_word(t, h, i);
     let kind = table::item_kind(w);
     let a = table::item_a(w);
-    if kind == 0 {
+    if kind == ITEM_CALL {
         return true;
     }
-    if kind == 5 {
+    if kind == ITEM_LIST {
         let owner = table::list_owner(sections::list_word(t, h, a));
         return owner == o;
     }
-    if kind == 6 {
+    if kind == ITEM_RULE {
         let owner = table::rule_owner(sections::rule_word(t, h, a));
         return owner == o;
     }
     let port_owner = table::port_owner(sections::port_word(t, a));
     let network_owner = table::network_owner(sections::network_word(t, h, a));
-    ((o == 0) | (!((1 <= kind) & (kind <= 3)) | (port_owner == o)))
-        & ((o == 0) | (!(kind == 4) | (network_owner == o)))
+    ((o == PLATFORM) | (!((ITEM_CLEAR <= kind) & (kind <= ITEM_STOP)) | (port_owner == o)))
+        & ((o == PLATFORM) | (!(kind == ITEM_ASK) | (network_owner == o)))
 }
 
 // Whether the word at a place before the lists keeps rule 8.

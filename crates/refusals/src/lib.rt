@@ -7,6 +7,13 @@ ghost use Rattle.words.specs.Sections.{Laid};
 ghost use Rattle.refusals.specs.Answers.{passes, eventChecked};
 ghost use Rattle.refusals.specs.Things.{thingOf};
 use names::held;
+use words::numbers::EVENT_BUS_OFF;
+use words::numbers::EVENT_CLEAR;
+use words::numbers::EVENT_MODE;
+use words::numbers::EVENT_REQUEST;
+use words::numbers::EVENT_TICK;
+use words::numbers::PORT_EVENT;
+use words::numbers::PORT_MODE;
 use words::sections;
 use words::sections::Layout;
 use words::table;
@@ -25,11 +32,11 @@ fn named(e: u32) -> Thing
 {
     let kind = event::kind(e);
     let index = event::index(e);
-    let of_port = (kind == 1) | (kind == 2);
+    let of_port = (kind == EVENT_MODE) | (kind == EVENT_REQUEST);
     if of_port {
         return Thing::Port(index);
     }
-    if kind == 5 {
+    if kind == EVENT_BUS_OFF {
         return Thing::Network(index);
     }
     Thing::Source(index)
@@ -68,12 +75,12 @@ fn suited(t: &[u32], h: Layout, e: u32) -> bool
     let kind = event::kind(e);
     let p = event::index(e);
     let port_kind = table::port_kind(sections::port_word(t, p));
-    if kind == 1 {
+    if kind == EVENT_MODE {
         let taken = held(t, h, p, h.networks, h.sources);
-        return (port_kind == 0) & !taken;
+        return (port_kind == PORT_MODE) & !taken;
     }
-    if kind == 2 {
-        return port_kind == 1;
+    if kind == EVENT_REQUEST {
+        return port_kind == PORT_EVENT;
     }
     true
 }
@@ -99,10 +106,10 @@ fn well_formed(e: u32) -> Check
     let value = event::value(e);
     let zero = event::zero(e);
     told(
-        (kind <= 6)
+        (kind <= EVENT_CLEAR)
             & (zero == 0)
-            & (!(kind == 0) | (owner == 0) & (index == 0))
-            & ((kind == 1) | (value == 0)),
+            & (!(kind == EVENT_TICK) | (owner == 0) & (index == 0))
+            & ((kind == EVENT_MODE) | (value == 0)),
     )
 }
 
@@ -113,7 +120,7 @@ fn known(t: &[u32], h: Layout, e: u32) -> Check
     let kind = event::kind(e);
     let there = present(t, h, named(e));
     let fit = suited(t, h, e);
-    told((kind == 0) | there & fit)
+    told((kind == EVENT_TICK) | there & fit)
 }
 
 fn sent_by_owner(t: &[u32], h: Layout, e: u32) -> Check
@@ -123,7 +130,7 @@ fn sent_by_owner(t: &[u32], h: Layout, e: u32) -> Check
     let kind = event::kind(e);
     let sender = event::owner(e);
     let owner = owner(t, h, named(e));
-    told((kind == 0) | (sender == owner))
+    told((kind == EVENT_TICK) | (sender == owner))
 }
 
 // What the checks of an event come to: it is taken, or refused, with a case for each answer.

@@ -9,6 +9,16 @@ ghost use Rattle.states.specs.Things.{thingOf};
 ghost use Rattle.states.specs.Made.{Fresh};
 use tables::Checked;
 use tables::check;
+use words::numbers::ASKED_FULL;
+use words::numbers::PORT_EVENT;
+use words::numbers::PORT_MODE;
+use words::numbers::PORT_TIMER;
+use words::numbers::STATE_CHECK;
+use words::numbers::STATE_RECOVER;
+use words::numbers::STATUS_PENDING;
+use words::numbers::TIMER_EXPIRED;
+use words::numbers::TIMER_STARTED;
+use words::numbers::UNDEFINED_RESULT;
 use words::put;
 use words::sections;
 use words::sections::Layout;
@@ -70,11 +80,13 @@ fn port_fits(t: &[u32], p: u32, w: u32) -> bool
     let remaining = state::remaining(w);
     (zero == 0)
         & (!(deferred == 0) | (marked == 0))
-        & (!(defined == 0) | (kind == 0) & (value == 0) & (marked == 0))
-        & (!(kind == 1) | (value <= 1))
-        & (!(kind == 2) | (value <= 2))
-        & ((kind == 2) & (value == 1) & ((1 <= remaining) & (remaining <= reload))
-            | !((kind == 2) & (value == 1)) & (remaining == 0))
+        & (!(defined == 0) | (kind == PORT_MODE) & (value == 0) & (marked == 0))
+        & (!(kind == PORT_EVENT) | (value <= 1))
+        & (!(kind == PORT_TIMER) | (value <= TIMER_EXPIRED))
+        & ((kind == PORT_TIMER)
+            & (value == TIMER_STARTED)
+            & ((1 <= remaining) & (remaining <= reload))
+            | !((kind == PORT_TIMER) & (value == TIMER_STARTED)) & (remaining == 0))
 }
 
 fn rule_fits(w: u32) -> bool
@@ -82,7 +94,7 @@ fn rule_fits(w: u32) -> bool
 {
     let zero = state::state_rule_zero(w);
     let result = state::result(w);
-    (zero == 0) & (result <= 2)
+    (zero == 0) & (result <= UNDEFINED_RESULT)
 }
 
 fn larger(a: u32, b: u32) -> u32
@@ -104,13 +116,14 @@ fn network_fits(t: &[u32], h: Layout, n: u32, w: u32) -> bool
     let counter = state::counter(w);
     let remaining = state::remaining(w);
     (zero == 0)
-        & (asked <= 2)
-        & (state <= 4)
-        & ((state == 2) & ((1 <= remaining) & (remaining <= e_ticks))
-            | !(state == 2)
-                & ((state == 4) & ((1 <= remaining) & (remaining <= longest))
-                    | !(state == 4) & (remaining == 0)))
-        & ((state == 4) & (1 <= counter) | !(state == 4) & ((state == 2) | (counter == 0)))
+        & (asked <= ASKED_FULL)
+        & (state <= STATE_RECOVER)
+        & ((state == STATE_CHECK) & ((1 <= remaining) & (remaining <= e_ticks))
+            | !(state == STATE_CHECK)
+                & ((state == STATE_RECOVER) & ((1 <= remaining) & (remaining <= longest))
+                    | !(state == STATE_RECOVER) & (remaining == 0)))
+        & ((state == STATE_RECOVER) & (1 <= counter)
+            | !(state == STATE_RECOVER) & ((state == STATE_CHECK) | (counter == 0)))
 }
 
 fn source_fits(t: &[u32], h: Layout, k: u32, w: u32) -> bool
@@ -123,8 +136,8 @@ fn source_fits(t: &[u32], h: Layout, k: u32, w: u32) -> bool
     let status = state::status(w);
     let remaining = state::remaining(w);
     (zero == 0)
-        & ((status == 1) & ((1 <= remaining) & (remaining <= timeout))
-            | !(status == 1) & (remaining == 0))
+        & ((status == STATUS_PENDING) & ((1 <= remaining) & (remaining <= timeout))
+            | !(status == STATUS_PENDING) & (remaining == 0))
 }
 
 // Whether a thing's word fits.
@@ -171,7 +184,7 @@ fn fresh_port(t: &[u32], p: u32) -> u32
     if has_initial == 1 {
         return state::pack_port(1, 0, initial, 0);
     }
-    if kind == 0 {
+    if kind == PORT_MODE {
         return state::pack_port(0, 0, 0, 0);
     }
     state::pack_port(1, 0, 0, 0)

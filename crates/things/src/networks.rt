@@ -8,6 +8,14 @@ ghost use Rattle.rulebook.specs.Events.{busOff, countedNetwork, tickedNetwork, 
 ghost use Rattle.words.specs.Sections.{Laid};
 ghost use Rattle.things.specs.Networks.{networkAs};
 use crate::ports::set_port;
+use words::numbers::ASKED_FULL;
+use words::numbers::ASKED_NONE;
+use words::numbers::ASKED_SILENT;
+use words::numbers::STATE_CHECK;
+use words::numbers::STATE_FULL;
+use words::numbers::STATE_NONE;
+use words::numbers::STATE_RECOVER;
+use words::numbers::STATE_SILENT;
 use words::put;
 use words::sections;
 use words::sections::Layout;
@@ -73,13 +81,13 @@ fn moved(state: u32, counter: u32, remaining: u32, c: Network) -> Network
 fn shown(state: u32) -> u32
     ensures { λ r. ⌜ r ≡ shownOf state ⌝ }
 {
-    if state == 0 {
+    if state == STATE_NONE {
         return 0;
     }
-    if state == 1 {
+    if state == STATE_SILENT {
         return 1;
     }
-    if state == 4 { 3 } else { 2 }
+    if state == STATE_RECOVER { 3 } else { 2 }
 }
 
 // A change of the shown mode writes the network's port too, and marks it.
@@ -103,7 +111,7 @@ fn takes(c: Network) -> bool
     ensures { λ r. ⌜ r ≡ takesOf (networkAs c) ⌝ }
 {
     let state = c.state;
-    (state == 2) | (state == 3)
+    (state == STATE_CHECK) | (state == STATE_FULL)
 }
 
 // The counter after one bus-off more, held at 255.
@@ -120,9 +128,9 @@ fn wait(t: &[u32], h: Layout, n: u32, counter: u32) -> u32
 {
     let threshold = table::network_threshold(sections::network_word(t, h, n));
     let waits = sections::waits_word(t, h, n);
-    let short = table::l1(waits);
-    let long = table::l2(waits);
-    if counter <= threshold { short } else { long }
+    let l1 = table::l1(waits);
+    let l2 = table::l2(waits);
+    if counter <= threshold { l1 } else { l2 }
 }
 
 fn off_bus(t: &[u32], h: Layout, n: u32, counter: u32, c: Network) -> Network
@@ -130,7 +138,7 @@ fn off_bus(t: &[u32], h: Layout, n: u32, counter: u32, c: Network) -> Network
     ensures { λ r. ⌜ networkAs r ≡ offBus (now (t .entry)) n counter (networkAs c) ⌝ }
 {
     let remaining = wait(t, h, n, counter);
-    moved(4, counter, remaining, c)
+    moved(STATE_RECOVER, counter, remaining, c)
 }
 
 pub fn bus_off(t: &[u32], h: Layout, s: &mut [u32], n: u32)
@@ -152,18 +160,18 @@ fn counted_network(t: &[u32], h: Layout, n: u32, c: Network) -> Network
 {
     let state = c.state;
     let remaining = c.remaining;
-    if state == 4 {
+    if state == STATE_RECOVER {
         if remaining <= 1 {
             let e_ticks = table::e_ticks(sections::waits_word(t, h, n));
-            return moved(2, c.counter, e_ticks, c);
+            return moved(STATE_CHECK, c.counter, e_ticks, c);
         }
-        return moved(4, c.counter, remaining - 1, c);
+        return moved(STATE_RECOVER, c.counter, remaining - 1, c);
     }
-    if state == 2 {
+    if state == STATE_CHECK {
         if remaining <= 1 {
-            return moved(3, 0, 0, c);
+            return moved(STATE_FULL, 0, 0, c);
         }
-        return moved(2, c.counter, remaining - 1, c);
+        return moved(STATE_CHECK, c.counter, remaining - 1, c);
     }
     c
 }
@@ -175,17 +183,17 @@ fn ticked_network(t: &[u32], h: Layout, n: u32, c: Network) -> Network
 {
     let asked = c.asked;
     let state = c.state;
-    if asked == 0 {
-        return moved(0, 0, 0, c);
+    if asked == ASKED_NONE {
+        return moved(STATE_NONE, 0, 0, c);
     }
-    let silenced = (asked == 1) & !(state == 0);
+    let silenced = (asked == ASKED_SILENT) & !(state == STATE_NONE);
     if silenced {
-        return moved(1, 0, 0, c);
+        return moved(STATE_SILENT, 0, 0, c);
     }
-    let opened = (asked == 2) & ((state == 0) | (state == 1));
+    let opened = (asked == ASKED_FULL) & ((state == STATE_NONE) | (state == STATE_SILENT));
     if opened {
         let e_ticks = table::e_ticks(sections::waits_word(t, h, n));
-        return moved(2, 0, e_ticks, c);
+        return moved(STATE_CHECK, 0, e_ticks, c);
     }
     counted_network(t, h, n, c)
 }

@@ -3,6 +3,9 @@ ghost use mathlib.Core.Path.{_≡_};
 ghost use Rattle.rulebook.specs.Lists.{setPort};
 ghost use Rattle.rulebook.specs.Events.{tickTimer};
 ghost use Rattle.things.specs.Requests.{Requested};
+use words::numbers::PORT_TIMER;
+use words::numbers::TIMER_EXPIRED;
+use words::numbers::TIMER_STARTED;
 use words::put;
 use words::sections;
 use words::state;
@@ -26,12 +29,12 @@ pub fn tick_timer(t: &[u32], s: &mut [u32], p: u32)
     let marked = state::marked(w);
     let value = state::value(w);
     let remaining = state::remaining(w);
-    let started = (kind == 2) & (value == 1);
+    let started = (kind == PORT_TIMER) & (value == TIMER_STARTED);
     if started {
         if remaining <= 1 {
-            set_port(s, p, 1, 2, 0);
+            set_port(s, p, 1, TIMER_EXPIRED, 0);
         } else {
-            set_port(s, p, marked, 1, remaining - 1);
+            set_port(s, p, marked, TIMER_STARTED, remaining - 1);
         }
     }
 }

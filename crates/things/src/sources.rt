@@ -7,6 +7,10 @@ ghost use Rattle.rulebook.specs.Events.{statusIn, setSource, moveSource, wake a
 ghost use Rattle.words.specs.Field.{Field};
 ghost use Rattle.words.specs.Sections.{Laid};
 use crate::ports::set_port;
+use words::numbers::STATUS_EXPIRED;
+use words::numbers::STATUS_NONE;
+use words::numbers::STATUS_PENDING;
+use words::numbers::STATUS_VALIDATED;
 use words::put;
 use words::sections;
 use words::sections::Layout;
@@ -57,7 +61,11 @@ fn move_source(t: &[u32], h: Layout, s: &mut [u32], k: u32, status: u32, remaini
 fn woken(timeout: u32) -> u32
     ensures { λ r. ⌜ r ≡ cond (eqb timeout 0) statusValidated statusPending ⌝ }
 {
-    if timeout == 0 { 2 } else { 1 }
+    if timeout == 0 {
+        STATUS_VALIDATED
+    } else {
+        STATUS_PENDING
+    }
 }
 
 // A wakeup counts on none or expired; on a pending source it does not restart the timeout.
@@ -66,7 +74,7 @@ pub fn wake(t: &[u32], h: Layout, s: &mut [u32], k: u32)
     ensures { λ _. ⌜ now (s .exit) ≡ wakeOf (now (t .entry)) k (now (s .entry)) ⌝ }
 {
     let status = source_status(t, h, s, k);
-    let rests = (status == 0) | (status == 3);
+    let rests = (status == STATUS_NONE) | (status == STATUS_EXPIRED);
     if rests {
         let timeout = table::source_timeout(sections::source_word(t, h, k));
         let next = woken(timeout);
@@ -80,8 +88,8 @@ pub fn validate(t: &[u32], h: Layout, s: &mut [u32], k: u32)
     ensures { λ _. ⌜ now (s .exit) ≡ validateOf (now (t .entry)) k (now (s .entry)) ⌝ }
 {
     let status = source_status(t, h, s, k);
-    if status == 1 {
-        move_source(t, h, s, k, 2, 0);
+    if status == STATUS_PENDING {
+        move_source(t, h, s, k, STATUS_VALIDATED, 0);
     }
 }
 
@@ -90,7 +98,7 @@ pub fn clear(t: &[u32], h: Layout, s: &mut [u32], k: u32)
     requires { ⌜ Laid (now t) h ⌝ }
     ensures { λ _. ⌜ now (s .exit) ≡ clearOf (now (t .entry)) k (now (s .entry)) ⌝ }
 {
-    move_source(t, h, s, k, 0, 0);
+    move_source(t, h, s, k, STATUS_NONE, 0);
 }
 
 // A pending source counts down and at 0 expires.
@@ -102,11 +110,11 @@ pub fn tick_source(t: &[u32], h: Layout, s: &mut [u32], k: u32)
     let w = word(s, i);
     let status = state::status(w);
     let remaining = state::remaining(w);
-    if status == 1 {
+    if status == STATUS_PENDING {
         if remaining <= 1 {
-            move_source(t, h, s, k, 3, 0);
+            move_source(t, h, s, k, STATUS_EXPIRED, 0);
         } else {
-            move_source(t, h, s, k, 1, remaining - 1);
+            move_source(t, h, s, k, STATUS_PENDING, remaining - 1);
         }
     }
 }

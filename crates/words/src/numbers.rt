@@ -42,3 +42,54 @@ pub const ITEM_RULE: u32 = 6;
 pub const NO_LIST: u32 = 255;
 
 pub const PLATFORM: u32 = 0;
+
+// What a timer port's value says.
+pub const TIMER_STOPPED: u32 = 0;
+
+pub const TIMER_STARTED: u32 = 1;
+
+pub const TIMER_EXPIRED: u32 = 2;
+
+// The result of a rule that mentions an undefined port.
+pub const UNDEFINED_RESULT: u32 = 2;
+
+pub const ASKED_NONE: u32 = 0;
+
+pub const ASKED_SILENT: u32 = 1;
+
+pub const ASKED_FULL: u32 = 2;
+
+pub const STATE_NONE: u32 = 0;
+
+pub const STATE_SILENT: u32 = 1;
+
+pub const STATE_CHECK: u32 = 2;
+
+pub const STATE_FULL: u32 = 3;
+
+pub const STATE_RECOVER: u32 = 4;
+
+pub const STATUS_NONE: u32 = 0;
+
+pub const STATUS_PENDING: u32 = 1;
+
+pub const STATUS_VALIDATED: u32 = 2;
+
+pub const STATUS_EXPIRED: u32 = 3;
+
+pub const EVENT_TICK: u32 = 0;
+
+pub const EVENT_MODE: u32 = 1;
+
+pub const EVENT_REQUEST: u32 = 2;
+
+pub const EVENT_WAKEUP: u32 = 3;
+
+pub const EVENT_VALID: u32 = 4;
+
+pub const EVENT_BUS_OFF: u32 = 5;
+
+pub const EVENT_CLEAR: u32 = 6;
+
+// The kind of the trace word that a list's start writes.
+pub const TRACE_LIST_START: u32 = 15;
