@@ -1,7 +1,7 @@
 // The header, read once: how many there are of each thing, and where each section starts. Handed on by value.
 ghost use mathlib.Core.Path.{_≡_};
 ghost use Rattle.rulebook.specs.Table.{expressionsFrom, portWord, networkWord, waitsWord, sourceWord, expressionWord, ruleWord, listWord, itemWord};
-ghost use Rattle.words.specs.Sections.{Laid};
+ghost use Rattle.words.specs.Sections.{Laid, PortAt, NetworkAt, WaitsAt, SourceAt, ExpressionAt, RuleAt, ListAt, ItemAt};
 use crate::table;
 use crate::word;
 
@@ -117,4 +117,212 @@ pub fn item_word(t: &[u32], h: Layout, i: u32) -> u32
     ensures { λ r. ⌜ r ≡ itemWord (now (t .entry)) i ⌝ }
 {
     word(t, h.item0 + i as usize)
+}
+
+// The things themselves, by number and by value: each with all fields of its word, in document 01's order.
+
+// A port's word.
+pub struct Port {
+    pub kind: u32,
+    pub deferred: u32,
+    pub has_initial: u32,
+    pub owner: u32,
+    pub initial: u32,
+    pub reload: u32,
+}
+
+pub fn port_at(t: &[u32], p: u32) -> Port
+    ensures { λ x. ⌜ PortAt (now (t .entry)) p x ⌝ }
+{
+    let w = port_word(t, p);
+    let kind = table::port_kind(w);
+    let deferred = table::port_deferred(w);
+    let has_initial = table::port_has_initial(w);
+    let owner = table::port_owner(w);
+    let initial = table::port_initial(w);
+    let reload = table::port_reload(w);
+    Port {
+        kind,
+        deferred,
+        has_initial,
+        owner,
+        initial,
+        reload,
+    }
+}
+
+// A network's first word.
+pub struct Network {
+    pub owner: u32,
+    pub port: u32,
+    pub threshold: u32,
+    pub zero: u32,
+}
+
+pub fn network_at(t: &[u32], h: Layout, n: u32) -> Network
+    requires { ⌜ Laid (now t) h ⌝ }
+    ensures { λ x. ⌜ NetworkAt (now (t .entry)) n x ⌝ }
+{
+    let w = network_word(t, h, n);
+    let owner = table::network_owner(w);
+    let port = table::network_port(w);
+    let threshold = table::network_threshold(w);
+    let zero = table::network_zero(w);
+    Network {
+        owner,
+        port,
+        threshold,
+        zero,
+    }
+}
+
+// A network's second word.
+pub struct Waits {
+    pub l1: u32,
+    pub l2: u32,
+    pub e_ticks: u32,
+}
+
+pub fn waits_at(t: &[u32], h: Layout, n: u32) -> Waits
+    requires { ⌜ Laid (now t) h ⌝ }
+    ensures { λ x. ⌜ WaitsAt (now (t .entry)) n x ⌝ }
+{
+    let w = waits_word(t, h, n);
+    let l1 = table::l1(w);
+    let l2 = table::l2(w);
+    let e_ticks = table::e_ticks(w);
+    Waits { l1, l2, e_ticks }
+}
+
+// A source's word.
+pub struct Source {
+    pub owner: u32,
+    pub port: u32,
+    pub timeout: u32,
+    pub zero: u32,
+}
+
+pub fn source_at(t: &[u32], h: Layout, k: u32) -> Source
+    requires { ⌜ Laid (now t) h ⌝ }
+    ensures { λ x. ⌜ SourceAt (now (t .entry)) k x ⌝ }
+{
+    let w = source_word(t, h, k);
+    let owner = table::source_owner(w);
+    let port = table::source_port(w);
+    let timeout = table::source_timeout(w);
+    let zero = table::source_zero(w);
+    Source {
+        owner,
+        port,
+        timeout,
+        zero,
+    }
+}
+
+// An expression's word: `port`, `value` and `zero` are a condition's, `left` and `right` an operator's.
+pub struct Expression {
+    pub kind: u32,
+    pub port: u32,
+    pub value: u32,
+    pub zero: u32,
+    pub left: u32,
+    pub right: u32,
+}
+
+pub fn expression_at(t: &[u32], from: usize, e: u32) -> Expression
+    requires { ⌜ from ≡ expressionsFrom (now t) ⌝ }
+    ensures { λ x. ⌜ ExpressionAt (now (t .entry)) e x ⌝ }
+{
+    let w = expression_word(t, from, e);
+    let kind = table::expression_kind(w);
+    let port = table::condition_port(w);
+    let value = table::condition_value(w);
+    let zero = table::condition_zero(w);
+    let left = table::left(w);
+    let right = table::right(w);
+    Expression {
+        kind,
+        port,
+        value,
+        zero,
+        left,
+        right,
+    }
+}
+
+// A rule's word.
+pub struct Rule {
+    pub owner: u32,
+    pub first_result: u32,
+    pub nested_only: u32,
+    pub expression: u32,
+    pub true_list: u32,
+    pub false_list: u32,
+}
+
+pub fn rule_at(t: &[u32], h: Layout, r: u32) -> Rule
+    requires { ⌜ Laid (now t) h ⌝ }
+    ensures { λ x. ⌜ RuleAt (now (t .entry)) r x ⌝ }
+{
+    let w = rule_word(t, h, r);
+    let owner = table::rule_owner(w);
+    let first_result = table::first_result(w);
+    let nested_only = table::nested_only(w);
+    let expression = table::rule_expression(w);
+    let true_list = table::true_list(w);
+    let false_list = table::false_list(w);
+    Rule {
+        owner,
+        first_result,
+        nested_only,
+        expression,
+        true_list,
+        false_list,
+    }
+}
+
+// A list's word.
+pub struct List {
+    pub owner: u32,
+    pub triggered: u32,
+    pub priority: u32,
+    pub first_item: u32,
+    pub item_count: u32,
+}
+
+pub fn list_at(t: &[u32], h: Layout, l: u32) -> List
+    requires { ⌜ Laid (now t) h ⌝ }
+    ensures { λ x. ⌜ ListAt (now (t .entry)) l x ⌝ }
+{
+    let w = list_word(t, h, l);
+    let owner = table::list_owner(w);
+    let triggered = table::list_triggered(w);
+    let priority = table::list_priority(w);
+    let first_item = table::first_item(w);
+    let item_count = table::item_count(w);
+    List {
+        owner,
+        triggered,
+        priority,
+        first_item,
+        item_count,
+    }
+}
+
+// An item's word.
+pub struct Item {
+    pub kind: u32,
+    pub a: u32,
+    pub b: u32,
+}
+
+pub fn item_at(t: &[u32], h: Layout, i: u32) -> Item
+    requires { ⌜ Laid (now t) h ⌝ }
+    ensures { λ x. ⌜ ItemAt (now (t .entry)) i x ⌝ }
+{
+    let w = item_word(t, h, i);
+    let kind = table::item_kind(w);
+    let a = table::item_a(w);
+    let b = table::item_b(w);
+    Item { kind, a, b }
 }
