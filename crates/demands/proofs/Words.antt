@@ -22,7 +22,7 @@ use Rattle.laws.proofs.Facts.{facts}
 use Rattle.laws.proofs.Order.{each-both}
 use Rattle.laws.proofs.Runs.{KeptByActs, decide-keeps, KeptByWrites, arbitrate-keeps}
 use Rattle.laws.proofs.Happen.{happen-cases}
-use Rattle.laws.proofs.Steps.{Stepped, refused, done, stepped}
+use Rattle.laws.proofs.Steps.{step-cases}
 use Rattle.demands.specs.Idle.{Words}
 
 -- words by a computed test
@@ -152,11 +152,9 @@ module _ (t : List ℕ) where
         (λ k. record { state = off-bus _ s h; words = tt }) (λ k. record { state = move-source _ _ _ s h; words = tt })
 
 pub step-words : (t s : List ℕ) (room e : ℕ) → Words s → Words (step t s room e .state) × Words (step t s room e .words)
-step-words t s room e h = go (step t s room e) (stepped t s room e)
-  where
-    go : (r : Result) → Stepped t s room e r → Words (r .state) × Words (r .words)
-    go r (refused k a b is) = rw is (h, tt)
-    go r (done c w is) = let p = happened t (facts t (c .table)) e s h in rw is (p .state, p .words)
+step-words t s room e h =
+    step-cases (λ r. Words (r .state) × Words (r .words)) t s room e (λ k a b. (h, tt))
+    (λ c w. let p = happened t (facts t (c .table)) e s h in (p .state, p .words))
 
 pub drop-words : (n : ℕ) (ws : List ℕ) → Words ws → Words (drop n ws)
 drop-words zero ws h = h

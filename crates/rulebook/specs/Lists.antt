@@ -7,7 +7,7 @@ use lib.Dec.{eqb}
 use Rattle.rulebook.specs.Words.{word, laid, each}
 use Rattle.rulebook.specs.Table.{reload, ruleExpression, trueList, falseList, noList}
 use Rattle.rulebook.specs.Table.{listOwner, triggered, firstItem, itemCount, itemKind, itemA, itemB}
-use Rattle.rulebook.specs.Table.{itemClear, itemStart, itemStop, itemAsk, itemList, itemRule}
+use Rattle.rulebook.specs.Table.{itemClear, itemStart, itemStop, itemAsk, itemRule, byItem}
 use Rattle.rulebook.specs.Expressions.{deepest, mentions, holds}
 use Rattle.rulebook.specs.State.{ruleIndex, networkIndex, definedOf, markedOf, valueOf, timerStopped, timerStarted}
 use Rattle.rulebook.specs.State.{resultOf, undefinedResult, Network, networkOf, packPort, packRule, packNetwork}
@@ -115,11 +115,7 @@ runRule below t o r x =
 
 -- "A named list always runs"; "Item 5 adds no word"
 unfoldable pub runItem : (ℕ → Run → Run) → List ℕ → ℕ → ℕ → Run → Run
-runItem below t o i x =
-    elim (eqb (itemKind t i) itemList) [
-      | true ↦ below (itemA t i) x
-      | false ↦ elim (eqb (itemKind t i) itemRule) [ true ↦ runRule below t o (itemA t i) x | false ↦ act t o i x ]
-    ]
+runItem below t o i x = byItem t i below (runRule below t o) (act t o i) x
 
 -- "Items take effect in order", after the word for the list's start
 unfoldable pub runItems : (ℕ → Run → Run) → List ℕ → ℕ → Run → Run

@@ -16,7 +16,7 @@ use Rattle.rulebook.specs.Table.{expressionKind, conditionPort, conditio
 use Rattle.rulebook.specs.Table.{conditionNotEqual, conditionSet, conditionCleared, operatorNot}
 use Rattle.rulebook.specs.Table.{ruleOwner, firstResult, ruleExpression, trueList, falseList, noList}
 use Rattle.rulebook.specs.Table.{listOwner, firstItem, itemCount, itemKind, itemA, itemB}
-use Rattle.rulebook.specs.Table.{itemCall, itemClear, itemStart, itemStop, itemAsk, itemList, itemRule, platform, stranger}
+use Rattle.rulebook.specs.Table.{itemCall, itemClear, itemStart, itemStop, itemAsk, itemList, itemRule, byItem, platform, stranger}
 use Rattle.rulebook.specs.Expressions.{deepest, operator, isNot, expressionWithin, mentions}
 
 -- Rule 1: there are three words at least.
@@ -144,11 +144,7 @@ ruleNests t below r =
     (eqb (trueList t r) noList || below (trueList t r)) && (eqb (falseList t r) noList || below (falseList t r))
 
 unfoldable pub itemNests : List ℕ → (ℕ → Bool) → ℕ → Bool
-itemNests t below i =
-    elim (eqb (itemKind t i) itemList) [
-      | true ↦ below (itemA t i)
-      | false ↦ elim (eqb (itemKind t i) itemRule) [ true ↦ ruleNests t below (itemA t i) | false ↦ true ]
-    ]
+itemNests t below i = byItem t i below (ruleNests t below) true
 
 unfoldable pub listNests : List ℕ → (ℕ → Bool) → ℕ → Bool
 listNests t below l = ltb l (lists t) && all (firstItem t l) (itemCount t l) (itemNests t below)
@@ -209,11 +205,7 @@ ruleCost t below r =
     1 + max (cond (eqb (trueList t r) noList) 0 (below (trueList t r))) (cond (eqb (falseList t r) noList) 0 (below (falseList t r)))
 
 unfoldable pub itemCost : List ℕ → (ℕ → ℕ) → ℕ → ℕ
-itemCost t below i =
-    elim (eqb (itemKind t i) itemList) [
-      | true ↦ below (itemA t i)
-      | false ↦ elim (eqb (itemKind t i) itemRule) [ true ↦ ruleCost t below (itemA t i) | false ↦ 1 ]
-    ]
+itemCost t below i = byItem t i below (ruleCost t below) 1
 
 unfoldable pub listCost : List ℕ → (ℕ → ℕ) → ℕ → ℕ
 listCost t below l = cond (ltb l (lists t)) (1 + sum (firstItem t l) (itemCount t l) (itemCost t below)) 0
