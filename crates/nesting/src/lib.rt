@@ -67,12 +67,10 @@ fn list_nests(t: &[u32], h: Layout, depths: &[u32], d: u32, l: u32) -> bool
     let first = list.first_item;
     let count = list.item_count;
     let end = first + count;
-    let mut i = first;
-    while i < end {
+    for i in first..end {
         if !item_nests(t, h, depths, d, i) {
             return false;
         }
-        i += 1;
     }
     true
 }
@@ -99,12 +97,10 @@ fn find_level(t: &[u32], h: Layout, depths: &mut [u32], d: u32) -> bool
 {
     let lists = h.lists;
     let mut more = false;
-    let mut l: u32 = 0;
-    while l < lists {
+    for l in 0..lists {
         let depth = next_depth(t, h, depths, d, l);
         put(depths, l as usize, depth);
         more = more | (depth == d + 1);
-        l += 1;
     }
     more
 }
@@ -114,12 +110,10 @@ pub fn find_depths(t: &[u32], h: Layout, depths: &mut [u32])
     requires { ⌜ Searched 0 (now t) h (now depths) ⌝ }
     ensures { λ _. ⌜ Depths deepest (now (t .entry)) (now (depths .exit)) ⌝ }
 {
-    let mut d: u32 = 0;
-    while d < 7 {
+    for d in 0..7 {
         if !find_level(t, h, depths, d) {
             return;
         }
-        d += 1;
     }
 }
 
