@@ -271,11 +271,11 @@ module _ (t depths : List ℕ) (d l w : ℕ) (is : w ≡ word depths l) where
   unfolding nextDepth
   depth-kept some = is ∙ sym (rw (ne-eqb (word depths l) 0 (rw is at some)))
 
-  module _ (nests : Bool) (told : nests ≡ listNests t (foundBy depths d) l) (none : w ≡ 0) where
+  module _ (nests : Bool) (judged : nests ≡ listNests t (foundBy depths d) l) (none : w ≡ 0) where
     pub depth-found : nests ≡ true → d + 1 ≡ nextDepth t depths d l
     unfolding nextDepth
-    depth-found y = rw (eq-eqb (word depths l) 0 (sym is ∙ none), sym told ∙ y)
+    depth-found y = rw (eq-eqb (word depths l) 0 (sym is ∙ none), sym judged ∙ y)
 
     pub depth-open : nests ≡ false → 0 ≡ nextDepth t depths d l
     unfolding nextDepth
-    depth-open y = rw (eq-eqb (word depths l) 0 (sym is ∙ none), sym told ∙ y)
+    depth-open y = rw (eq-eqb (word depths l) 0 (sym is ∙ none), sym judged ∙ y)
