@@ -9,13 +9,15 @@ use native.Mathlib.Omega.{arith}
 use lib.Dec.{ltb, leb, eqb}
 use lib.ListN.{length, set, length-set, replicate}
 use borrow.Author.Tests.{lt-ltb, le-ltb, ltb-true, ltb-false, eq-eqb, ne-eqb, eqb-false, leb-true}
-use Rattle.rulebook.specs.Words.{field, sum, all, word}
-use Rattle.rulebook.specs.Table.{lists, itemWord, listWord, itemKind, itemA, trueList, falseList, noList, firstItem, itemCount}
+use Rattle.rulebook.specs.Words.{sum, all, word}
+use Rattle.rulebook.specs.Table.{lists, itemKind, itemA, itemList, itemRule, trueList, falseList, noList, firstItem, itemCount}
 use Rattle.rulebook.specs.Reasons.{ruleNests, itemNests, listNests, listWithin, ruleCost, itemCost, listCost, costWithin, bound}
 use Rattle.words.specs.declared.sections.Layout.{Layout}
-use Rattle.words.specs.Sections.{Laid}
+use Rattle.words.specs.declared.sections.List.{List as ListRead}
+use Rattle.words.specs.Sections.{Laid, ListAt}
 use Rattle.walks.proofs.Walks.{sum-turn, sum-end}
 use Rattle.laws.proofs.Tests.{split, clash, and-left, and-right, or-elim}
+use Rattle.laws.proofs.Nesting.{nests-list, nests-rule, cost-list, cost-rule, cost-act}
 use Rattle.nesting.specs.Depths.{foundBy, Depths}
 use Rattle.nesting.proofs.Levels.{within-more, within-absent, found-yes, set-all}
 use Rattle.cost.specs.Costs.{capped, costIn, nextCost, Costs, Nested}
@@ -61,12 +63,11 @@ module _ (t : List ℕ) (f g : ℕ → ℕ) (same : (l : ℕ) → capped (f l) �
   rule-held r = max-left _ _ _ (chosen-held (trueList t r)) ∙ max-right _ _ _ (chosen-held (falseList t r))
 
   item-held : (i : ℕ) → capped (itemCost t f i) ≡ capped (itemCost t g i)
-  unfolding itemCost
   item-held i =
-      split (eqb (itemKind t i) 5) (λ y. rw (y, itemCost) (same (itemA t i)))
+      split (eqb (itemKind t i) itemList) (λ y. rw (cost-list t f i y, cost-list t g i y) (same (itemA t i)))
       (λ y.
-      rw (y, itemCost)
-      (split (eqb (itemKind t i) 6) (λ z. rw (z, itemCost) (rule-held (itemA t i))) (λ z. rw (z, itemCost))))
+      split (eqb (itemKind t i) itemRule) (λ z. rw (cost-rule t f i y z, cost-rule t g i y z) (rule-held (itemA t i)))
+      (λ z. rw (cost-act t f i y z, cost-act t g i y z)))
 
   list-held : (l : ℕ) → capped (listCost t f l) ≡ capped (listCost t g l)
   unfolding listCost
@@ -74,36 +75,14 @@ module _ (t : List ℕ) (f g : ℕ → ℕ) (same : (l : ℕ) → capped (f l) �
       split (ltb l (lists t)) (λ y. rw y (add-held 1 1 _ _ refl (sum-held (itemCost t f) (itemCost t g) item-held _ _)))
       (λ y. rw y)
 
--- item i has the word w, of kind k and with a
-module _ (t : List ℕ) (below : ℕ → ℕ) (i w k a : ℕ) (hw : w ≡ itemWord t i) (hk : k ≡ field 0 4 w) (ha : a ≡ field 4 12 w) where
-  is-kind : k ≡ itemKind t i
-  is-kind = hk ∙ ap (field 0 4) hw
-
-  is-a : a ≡ itemA t i
-  is-a = ha ∙ ap (field 4 12) hw
-
-  pub cost-of-list : k ≡ 5 → below a ≡ itemCost t below i
-  unfolding itemCost
-  cost-of-list e = sym (rw (eq-eqb (itemKind t i) 5 (sym is-kind ∙ e), itemCost) (ap below (sym is-a)))
-
-  pub cost-of-rule : (k ≡ 5 → ⊥) → k ≡ 6 → ruleCost t below a ≡ itemCost t below i
-  unfolding itemCost
-  cost-of-rule f e =
-      sym (rw (ne-eqb (itemKind t i) 5 (rw is-kind at f), itemCost)
-      (rw (eq-eqb (itemKind t i) 6 (sym is-kind ∙ e), itemCost) (ap (ruleCost t below) (sym is-a))))
-
-  pub cost-of-other : (k ≡ 5 → ⊥) → (k ≡ 6 → ⊥) → 1 ≡ itemCost t below i
-  unfolding itemCost
-  cost-of-other f g = sym (rw (ne-eqb (itemKind t i) 5 (rw is-kind at f), itemCost) (rw (ne-eqb (itemKind t i) 6 (rw is-kind at g), itemCost)))
-
 module _ (t : List ℕ) (h : Layout) (laid : Laid t h) (below : ℕ → ℕ) (l : ℕ) where
   pub absent-free : h .lists ≤ l → 0 ≡ listCost t below l
   unfolding listCost
   absent-free b = rw (le-ltb l (lists t) (omega arith))
 
-  pub list-costs : (w f n : ℕ) → l < h .lists → w ≡ listWord t l → f ≡ field 13 11 w → n ≡ field 24 8 w → listCost t below l ≡ 1 + sum f n (itemCost t below)
+  pub list-costs : (x : ListRead) → ListAt t l x → l < h .lists → listCost t below l ≡ 1 + sum (x .«first_item») (x .«item_count») (itemCost t below)
   unfolding listCost
-  list-costs w f n b hw hf hn = rw (lt-ltb l (lists t) (omega arith), hf, hn, hw)
+  list-costs x read b = rw (lt-ltb l (lists t) (omega arith), read .first-item .value, read .item-count .value)
 
 -- A list's cost goes by the costs of the lists it names alone.
 
@@ -119,12 +98,11 @@ module _ (t : List ℕ) (p : ℕ → Bool) (f g : ℕ → ℕ) (same : (n : ℕ)
       rw (chosen-same (trueList t r) on-true, chosen-same (falseList t r) on-false)
 
   item-same : (i : ℕ) → itemNests t p i ≡ true → itemCost t f i ≡ itemCost t g i
-  unfolding itemNests itemCost
   item-same i h =
-      split (eqb (itemKind t i) 5) (λ y. rw (y, itemCost) (same (itemA t i) (rw (y, itemNests) at h)))
+      split (eqb (itemKind t i) itemList) (λ y. rw (cost-list t f i y, cost-list t g i y) (same (itemA t i) (sym (nests-list t p i y) ∙ h)))
       (λ y.
-      split (eqb (itemKind t i) 6) (λ z. rw (y, z, itemCost) (rule-same (itemA t i) (rw (y, z, itemNests) at h)))
-      (λ z. rw (y, z, itemCost)))
+      split (eqb (itemKind t i) itemRule) (λ z. rw (cost-rule t f i y z, cost-rule t g i y z) (rule-same (itemA t i) (sym (nests-rule t p i y z) ∙ h)))
+      (λ z. rw (cost-act t f i y z, cost-act t g i y z)))
 
   items-same : (i n : ℕ) → all i n (itemNests t p) ≡ true → sum i n (itemCost t f) ≡ sum i n (itemCost t g)
   unfolding all sum

@@ -18,7 +18,7 @@ use Rattle.laws.proofs.Happen.{Taken}
 use Rattle.laws.specs.Callable.{Callable}
 use Rattle.laws.proofs.Steps.{step-cases, happen-paid}
 use Rattle.laws.proofs.Chosen.{happen-arbitrates}
-use Rattle.tables.specs.Told.{promised}
+use Rattle.tables.specs.Finding.{promised}
 use Rattle.manager.specs.Promises.{ChecksTableIn, TakesEventIn}
 use Rattle.demands.specs.Demand2.{Steps, Demand2}
 

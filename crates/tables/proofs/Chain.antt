@@ -17,7 +17,7 @@ use Rattle.laws.proofs.Acceptance.{table-passes, table-fails, words-pass, words
 use Rattle.laws.proofs.Walks.{first-before}
 use Rattle.laws.proofs.Parts.{part-list}
 use Rattle.cost.specs.Costs.{Nested}
-use Rattle.tables.specs.Told.{refused, promised}
+use Rattle.tables.specs.Finding.{refused, promised}
 
 -- what is left of the rules from each on
 

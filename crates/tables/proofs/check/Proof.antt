@@ -135,7 +135,7 @@ returns-6 c =
 find-depths-requires : tie.Need-find-depths-requires
 find-depths-requires c κs =
     let here = at-length (at-fields (before-depths c)) in
-    (layout here .read-layout .ensures, few here, no-round (table (at-edition (here .before))))
+    record { laid = layout here .read-layout .ensures; few = few here; found = no-round (table (at-edition (here .before))) }
 
 returns-7 : tie.Need-returns-7
 returns-7 c =
@@ -153,12 +153,12 @@ bound-requires : tie.Need-bound-requires
 bound-requires c κs =
     let deep = at-nesting (c .before .before) in
     let misfit = at-fields (at-names deep) in
-    let here = at-length misfit in (
-      layout here .read-layout .ensures,
-      few here,
-      depths-found deep .find-depths .ensures,
-      no-deep-list _ _ _ (misfit .before .if4 .left) (layout here .read-layout .ensures .length) (deep .first-deep .ensures) (c .before .before .before .if7 .left),
-    )
+    let here = at-length misfit in
+    let laid = layout here .read-layout .ensures in
+    record {
+      searched = record { laid = laid; few = few here; found = depths-found deep .find-depths .ensures };
+      nested = no-deep-list _ _ _ (misfit .before .if4 .left) (laid .length) (deep .first-deep .ensures) (c .before .before .before .if7 .left);
+    }
 
 returns-9 : tie.Need-returns-9
 returns-9 c = refuses _ 9 0 refl (left-cost (c .before) ∙ broken _ 9 _ _ (dear _ _ (c .before .bound .ensures) (c .if9 .taken)))
