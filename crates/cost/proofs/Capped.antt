@@ -9,11 +9,13 @@ use native.Mathlib.Omega.{arith}
 use lib.Dec.{ltb, leb, eqb}
 use lib.ListN.{length, set, length-set, replicate}
 use borrow.Author.Tests.{lt-ltb, le-ltb, ltb-true, ltb-false, eq-eqb, ne-eqb, eqb-false, leb-true}
-use Rattle.rulebook.specs.Words.{field, sum, all, word}
-use Rattle.rulebook.specs.Table.{lists, itemWord, listWord, itemKind, itemA, trueList, falseList, noList, firstItem, itemCount}
+use Rattle.rulebook.specs.Words.{sum, all, word}
+use Rattle.rulebook.specs.Table.{lists, itemKind, itemA, trueList, falseList, noList, firstItem, itemCount}
 use Rattle.rulebook.specs.Reasons.{ruleNests, itemNests, listNests, listWithin, ruleCost, itemCost, listCost, costWithin, bound}
 use Rattle.words.specs.declared.sections.Layout.{Layout}
-use Rattle.words.specs.Sections.{Laid}
+use Rattle.words.specs.declared.sections.List.{List as ListRead}
+use Rattle.words.specs.declared.sections.Item.{Item}
+use Rattle.words.specs.Sections.{Laid, ListAt, ItemAt}
 use Rattle.walks.proofs.Walks.{sum-turn, sum-end}
 use Rattle.laws.proofs.Tests.{split, clash, and-left, and-right, or-elim}
 use Rattle.nesting.specs.Depths.{foundBy, Depths}
@@ -74,36 +76,30 @@ module _ (t : List ℕ) (f g : ℕ → ℕ) (same : (l : ℕ) → capped (f l) �
       split (ltb l (lists t)) (λ y. rw y (add-held 1 1 _ _ refl (sum-held (itemCost t f) (itemCost t g) item-held _ _)))
       (λ y. rw y)
 
--- item i has the word w, of kind k and with a
-module _ (t : List ℕ) (below : ℕ → ℕ) (i w k a : ℕ) (hw : w ≡ itemWord t i) (hk : k ≡ field 0 4 w) (ha : a ≡ field 4 12 w) where
-  is-kind : k ≡ itemKind t i
-  is-kind = hk ∙ ap (field 0 4) hw
-
-  is-a : a ≡ itemA t i
-  is-a = ha ∙ ap (field 4 12) hw
-
-  pub cost-of-list : k ≡ 5 → below a ≡ itemCost t below i
+-- item i, as it was read
+module _ (t : List ℕ) (below : ℕ → ℕ) (i : ℕ) (x : Item) (read : ItemAt t i x) where
+  pub cost-of-list : x .kind ≡ 5 → below (x .a) ≡ itemCost t below i
   unfolding itemCost
-  cost-of-list e = sym (rw (eq-eqb (itemKind t i) 5 (sym is-kind ∙ e), itemCost) (ap below (sym is-a)))
+  cost-of-list e = rw (sym (read .kind .value) ∙ e, read .a .value, itemCost)
 
-  pub cost-of-rule : (k ≡ 5 → ⊥) → k ≡ 6 → ruleCost t below a ≡ itemCost t below i
+  pub cost-of-rule : (x .kind ≡ 5 → ⊥) → x .kind ≡ 6 → ruleCost t below (x .a) ≡ itemCost t below i
   unfolding itemCost
-  cost-of-rule f e =
-      sym (rw (ne-eqb (itemKind t i) 5 (rw is-kind at f), itemCost)
-      (rw (eq-eqb (itemKind t i) 6 (sym is-kind ∙ e), itemCost) (ap (ruleCost t below) (sym is-a))))
+  cost-of-rule f e = let is = sym (read .kind .value) ∙ e in rw (is, read .a .value, itemCost) (rw (is, itemCost))
 
-  pub cost-of-other : (k ≡ 5 → ⊥) → (k ≡ 6 → ⊥) → 1 ≡ itemCost t below i
+  pub cost-of-other : (x .kind ≡ 5 → ⊥) → (x .kind ≡ 6 → ⊥) → 1 ≡ itemCost t below i
   unfolding itemCost
-  cost-of-other f g = sym (rw (ne-eqb (itemKind t i) 5 (rw is-kind at f), itemCost) (rw (ne-eqb (itemKind t i) 6 (rw is-kind at g), itemCost)))
+  cost-of-other f g =
+      let is = read .kind .value in
+      rw (ne-eqb (itemKind t i) 5 (rw is at f), itemCost) (rw (ne-eqb (itemKind t i) 6 (rw is at g), itemCost))
 
 module _ (t : List ℕ) (h : Layout) (laid : Laid t h) (below : ℕ → ℕ) (l : ℕ) where
   pub absent-free : h .lists ≤ l → 0 ≡ listCost t below l
   unfolding listCost
   absent-free b = rw (le-ltb l (lists t) (omega arith))
 
-  pub list-costs : (w f n : ℕ) → l < h .lists → w ≡ listWord t l → f ≡ field 13 11 w → n ≡ field 24 8 w → listCost t below l ≡ 1 + sum f n (itemCost t below)
+  pub list-costs : (x : ListRead) → ListAt t l x → l < h .lists → listCost t below l ≡ 1 + sum (x .«first_item») (x .«item_count») (itemCost t below)
   unfolding listCost
-  list-costs w f n b hw hf hn = rw (lt-ltb l (lists t) (omega arith), hf, hn, hw)
+  list-costs x read b = rw (lt-ltb l (lists t) (omega arith), read .first-item .value, read .item-count .value)
 
 -- A list's cost goes by the costs of the lists it names alone.
 

@@ -10,45 +10,41 @@ use lib.Seq.{getD-set-same, getD-set-other}
 use borrow.Author.Tests.{lt-ltb, le-ltb, ltb-true, ltb-false, eq-eqb, ne-eqb, eqb-true, eqb-false, le-leb, leb-true, leb-false}
 use native.Mathlib.Nat.{add-zero, add-suc}
 use native.Mathlib.Numerals.{add-one}
-use Rattle.rulebook.specs.Words.{field, all, word}
-use Rattle.rulebook.specs.Table.{lists, itemWord, listWord, itemKind, itemA, itemList, itemRule, noList, trueList, falseList, firstItem, itemCount}
+use Rattle.rulebook.specs.Words.{all, word}
+use Rattle.rulebook.specs.Table.{lists, itemKind, itemA, itemList, itemRule, noList, trueList, falseList, firstItem, itemCount}
 use Rattle.rulebook.specs.Reasons.{ruleNests, itemNests, listNests, listWithin}
 use Rattle.words.specs.declared.sections.Layout.{Layout}
-use Rattle.words.specs.Sections.{Laid}
+use Rattle.words.specs.declared.sections.List.{List as ListRead}
+use Rattle.words.specs.declared.sections.Item.{Item}
+use Rattle.words.specs.Sections.{Laid, ListAt, ItemAt}
 use Rattle.words.proofs.Fill.{zero-word}
 use Rattle.laws.proofs.Tests.{split, clash, and-left, and-right, and-both, and-one-false, or-none, or-intro, or-elim}
 use Rattle.nesting.specs.Depths.{foundBy, nextDepth, Depths}
 
--- item i has the word w, of kind k and with a
-module _ (t : List ℕ) (below : ℕ → Bool) (i w k a : ℕ) (hw : w ≡ itemWord t i) (hk : k ≡ field 0 4 w) (ha : a ≡ field 4 12 w) where
-  is-kind : k ≡ itemKind t i
-  is-kind = hk ∙ ap (field 0 4) hw
-
-  is-a : a ≡ itemA t i
-  is-a = ha ∙ ap (field 4 12) hw
-
-  pub names-list : k ≡ 5 → below a ≡ itemNests t below i
+-- item i, as it was read
+module _ (t : List ℕ) (below : ℕ → Bool) (i : ℕ) (x : Item) (read : ItemAt t i x) where
+  pub names-list : x .kind ≡ 5 → below (x .a) ≡ itemNests t below i
   unfolding itemNests
-  names-list e = sym (rw (eq-eqb (itemKind t i) 5 (sym is-kind ∙ e), itemNests) (ap below (sym is-a)))
+  names-list e = rw (sym (read .kind .value) ∙ e, read .a .value, itemNests)
 
-  pub names-rule : (k ≡ 5 → ⊥) → k ≡ 6 → ruleNests t below a ≡ itemNests t below i
+  pub names-rule : (x .kind ≡ 5 → ⊥) → x .kind ≡ 6 → ruleNests t below (x .a) ≡ itemNests t below i
   unfolding itemNests
-  names-rule f e =
-      sym (rw (ne-eqb (itemKind t i) 5 (rw is-kind at f), itemNests)
-      (rw (eq-eqb (itemKind t i) 6 (sym is-kind ∙ e), itemNests) (ap (ruleNests t below) (sym is-a))))
+  names-rule f e = let is = sym (read .kind .value) ∙ e in rw (is, read .a .value, itemNests) (rw (is, itemNests))
 
-  pub names-none : (k ≡ 5 → ⊥) → (k ≡ 6 → ⊥) → true ≡ itemNests t below i
+  pub names-none : (x .kind ≡ 5 → ⊥) → (x .kind ≡ 6 → ⊥) → true ≡ itemNests t below i
   unfolding itemNests
-  names-none f g = sym (rw (ne-eqb (itemKind t i) 5 (rw is-kind at f), itemNests) (rw (ne-eqb (itemKind t i) 6 (rw is-kind at g), itemNests)))
+  names-none f g =
+      let is = read .kind .value in
+      rw (ne-eqb (itemKind t i) 5 (rw is at f), itemNests) (rw (ne-eqb (itemKind t i) 6 (rw is at g), itemNests))
 
 module _ (t : List ℕ) (h : Layout) (laid : Laid t h) (below : ℕ → Bool) (l : ℕ) where
   pub list-absent : h .lists ≤ l → false ≡ listNests t below l
   unfolding listNests
   list-absent b = rw (le-ltb l (lists t) (omega arith))
 
-  pub list-present : (w f n : ℕ) → l < h .lists → w ≡ listWord t l → f ≡ field 13 11 w → n ≡ field 24 8 w → listNests t below l ≡ all f n (itemNests t below)
+  pub list-present : (x : ListRead) → ListAt t l x → l < h .lists → listNests t below l ≡ all (x .«first_item») (x .«item_count») (itemNests t below)
   unfolding listNests
-  list-present w f n b hw hf hn = rw (lt-ltb l (lists t) (omega arith), hf, hn, hw)
+  list-present x read b = rw (lt-ltb l (lists t) (omega arith), read .first-item .value, read .item-count .value)
 
 -- What is found with fewer lists below is found with more.
 
@@ -275,11 +271,11 @@ module _ (t depths : List ℕ) (d l w : ℕ) (is : w ≡ word depths l) where
   unfolding nextDepth
   depth-kept some = is ∙ sym (rw (ne-eqb (word depths l) 0 (rw is at some)))
 
-  module _ (nests : Bool) (told : nests ≡ listNests t (foundBy depths d) l) (none : w ≡ 0) where
+  module _ (nests : Bool) (judged : nests ≡ listNests t (foundBy depths d) l) (none : w ≡ 0) where
     pub depth-found : nests ≡ true → d + 1 ≡ nextDepth t depths d l
     unfolding nextDepth
-    depth-found y = rw (eq-eqb (word depths l) 0 (sym is ∙ none), sym told ∙ y)
+    depth-found y = rw (eq-eqb (word depths l) 0 (sym is ∙ none), sym judged ∙ y)
 
     pub depth-open : nests ≡ false → 0 ≡ nextDepth t depths d l
     unfolding nextDepth
-    depth-open y = rw (eq-eqb (word depths l) 0 (sym is ∙ none), sym told ∙ y)
+    depth-open y = rw (eq-eqb (word depths l) 0 (sym is ∙ none), sym judged ∙ y)
