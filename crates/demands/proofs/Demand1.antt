@@ -14,7 +14,7 @@ use Rattle.laws.proofs.Tests.{split}
 use Rattle.laws.proofs.Acceptance.{Exact, clean, given, check-exact}
 use Rattle.laws.proofs.Facts.{facts}
 use Rattle.laws.proofs.Steps.{refusal-changes-nothing, happen-shallow}
-use Rattle.tables.specs.Told.{promised}
+use Rattle.tables.specs.Finding.{promised}
 use Rattle.manager.specs.Promises.{ChecksTableIn, MakesFreshIn, ChecksStateIn, TakesEventIn}
 use Rattle.demands.specs.Demand1.{TableAnswered, FreshAnswered, StateAnswered, EventAnswered, Demand1}
 

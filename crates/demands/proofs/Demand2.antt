@@ -17,7 +17,7 @@ use Rattle.laws.proofs.Facts.{facts}
 use Rattle.laws.proofs.Happen.{Taken}
 use Rattle.laws.proofs.Steps.{Callable, Stepped, refused, done, stepped, happen-paid}
 use Rattle.laws.proofs.Chosen.{happen-arbitrates}
-use Rattle.tables.specs.Told.{promised}
+use Rattle.tables.specs.Finding.{promised}
 use Rattle.manager.specs.Promises.{ChecksTableIn, TakesEventIn}
 use Rattle.demands.specs.Demand2.{Steps, Demand2}
 

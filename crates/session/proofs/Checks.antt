@@ -14,7 +14,7 @@ use Rattle.laws.specs.Facts.{Counts}
 use Rattle.laws.proofs.Tests.{split}
 use Rattle.laws.proofs.Facts.{facts, counts-of}
 use Rattle.tables.specs.declared.Checked.{Checked}
-use Rattle.tables.specs.Told.{Told, told, promised}
+use Rattle.tables.specs.Finding.{Finding as Told, finding as told, promised}
 use Rattle.session.specs.Promises.{Opens}
 use Rattle.tables.proofs.Chain.{from1, from3, from4, from5, kept, broken}
 

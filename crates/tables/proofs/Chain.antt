@@ -16,7 +16,7 @@ use Rattle.rulebook.specs.Reasons.{Verdict, verdict, listWithin, breaks, lowest
 use Rattle.laws.proofs.Walks.{first-before}
 use Rattle.laws.proofs.Parts.{part-list}
 use Rattle.cost.specs.Costs.{Nested}
-use Rattle.tables.specs.Told.{refused, promised}
+use Rattle.tables.specs.Finding.{refused, promised}
 
 -- from each reason on
 
