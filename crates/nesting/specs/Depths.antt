@@ -30,7 +30,7 @@ pub record Level (d : ℕ) (t : List ℕ) (more : Bool) (depths : List ℕ) : Ty
   pub next : Depths (d + 1) t depths
   pub none : more ≡ false → Depths d t depths
 
--- what the rounds stand on: round d + 1, of seven
+-- round d + 1, of seven
 pub record Round (d : ℕ) (t : List ℕ) (h : Layout) : Type 0 where
   pub laid : Laid t h
   pub shallow : d < 7
