@@ -60,7 +60,7 @@ unfolding setResult
 kept-by-writes t =
     record {
       clear = λ p s b k h. put-port p _ _ _ s h;
-      begin = λ p s b k h. put-port p _ _ _ s h;
+      timerStart = λ p s b k h. put-port p _ _ _ s h;
       stop = λ p s b k h. put-port p _ _ _ s h;
       ask = λ n mode s b m h. put-network t n _ s h;
       store = λ r result s b m h. set-words s _ _ (rule-word result) h;
@@ -71,7 +71,7 @@ kept-by-acts : (t : List ℕ) → KeptByActs t (λ x. Words (x .words))
 unfolding act judge
 kept-by-acts t =
     record {
-      begin = λ l x b h. one-more x _ _ _ _ h;
+      listStart = λ l x b h. one-more x _ _ _ _ h;
       act = λ l i x w a b h. one-more x _ _ _ _ h;
       undefined = λ l i x w e h. one-more x _ _ _ _ h;
       judge = λ l i x w e u h. one-more x _ _ _ _ h;
