@@ -7,7 +7,8 @@ use Rattle.inspect.proofs.main.Statement.{statement}
 use Rattle.inspect.proofs.main.Tie as tie
 
 slice-aggregate-print-verdict : tie.Need-slice-aggregate-print-verdict
-slice-aggregate-print-verdict c = sym (length-take-le _ _ (omega (arith, c .before .before .read-words .ensures .count, c .before .before .read-words .kept .1 .0)))
+slice-aggregate-print-verdict c =
+    sym (length-take-le _ _ (omega (arith, c .before .before .read-words .ensures .count, c .before .before .read-words .kept .1 .0)))
 
 pub main-spec : {M : Type 1} → statement M
 main-spec =

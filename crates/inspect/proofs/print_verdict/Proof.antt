@@ -7,7 +7,8 @@ use Rattle.inspect.proofs.print_verdict.Statement.{statement}
 use Rattle.inspect.proofs.print_verdict.Tie as tie
 
 slice-aggregate-write-all : tie.Need-slice-aggregate-write-all
-slice-aggregate-write-all c = sym (length-take-le _ _ (omega (arith, c .before .before .lay-verdict .ensures .inside, c .before .before .lay-verdict .kept .1 .0)))
+slice-aggregate-write-all c =
+    sym (length-take-le _ _ (omega (arith, c .before .before .lay-verdict .ensures .inside, c .before .before .lay-verdict .kept .1 .0)))
 
 pub print-verdict-spec : {M : Type 1} → statement M
 print-verdict-spec =

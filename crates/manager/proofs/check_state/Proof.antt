@@ -10,10 +10,14 @@ returns : tie.Need-returns
 returns c = bad-table _ _ (is-refused _ (c .before .check .result) (c .match .keys2) (c .before .check .ensures))
 
 returns-2 : tie.Need-returns-2
-returns-2 c = fit _ _ (is-accepted _ _ _ (c .before .before .enum-told .given .1) (c .before .before .before .before .check .ensures)) (sym (c .before .fits2 .ensures) ∙ c .if1 .taken)
+returns-2 c =
+    fit _ _ (is-accepted _ _ _ (c .before .before .enum-told .given .1) (c .before .before .before .before .check .ensures))
+    (sym (c .before .fits2 .ensures) ∙ c .if1 .taken)
 
 returns-3 : tie.Need-returns-3
-returns-3 c = unfit _ _ (is-accepted _ _ _ (c .before .before .enum-told .given .1) (c .before .before .before .before .check .ensures)) (sym (c .before .fits2 .ensures) ∙ c .if1 .left)
+returns-3 c =
+    unfit _ _ (is-accepted _ _ _ (c .before .before .enum-told .given .1) (c .before .before .before .before .check .ensures))
+    (sym (c .before .fits2 .ensures) ∙ c .if1 .left)
 
 pub check-state-spec : {M : Type 1} → statement M
 check-state-spec =
