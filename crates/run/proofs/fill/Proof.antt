@@ -14,22 +14,25 @@ abbrev μ-loop : tie.MeasureT-loop
 μ-loop fd block₀ bytes₀ block bytes = length block₀ - bytes
 
 -- The places that the answers cite, each seen from a later one.
-abbrev at-loop : tie.After-block Inv-loop μ-loop → tie.At-loop Inv-loop μ-loop
-at-loop c = c .before .before .before .before
+abbrev at-loop : tie.After-read-some Inv-loop μ-loop → tie.At-loop Inv-loop μ-loop
+at-loop c = c .before .before .before
 
 abbrev after-read-some : tie.Else1 Inv-loop μ-loop → tie.After-read-some Inv-loop μ-loop
 after-read-some c = c .before .before .before
+
+abbrev after-read-some-from-then1 : tie.Then1 Inv-loop μ-loop → tie.After-read-some Inv-loop μ-loop
+after-read-some-from-then1 c = c .before .before .before
 
 loop-holds : tie.Need-loop-holds Inv-loop μ-loop
 loop-holds c = (omega arith, refl)
 
 same-length : tie.Need-same-length Inv-loop μ-loop
-same-length c = c .before .before .before .read-some .kept .1 .0 ∙ at-loop (c .before .before) .loop .inv .1
+same-length c = after-read-some-from-then1 c .read-some .kept .1 .0 ∙ at-loop (after-read-some-from-then1 c) .loop .inv .1
 
 returns : tie.Need-returns Inv-loop μ-loop
 returns c = (
-  omega (arith, c .before .before .before .read-some .kept .1 .0, at-loop (c .before .before) .loop .inv .0),
-  sym (length-take-le _ _ (omega (arith, c .before .before .before .read-some .kept .1 .0, at-loop (c .before .before) .loop .inv .0))),
+  omega (arith, after-read-some-from-then1 c .read-some .kept .1 .0, at-loop (after-read-some-from-then1 c) .loop .inv .0),
+  sym (length-take-le _ _ (omega (arith, after-read-some-from-then1 c .read-some .kept .1 .0, at-loop (after-read-some-from-then1 c) .loop .inv .0))),
 )
 
 add-bytes : tie.Need-add-bytes Inv-loop μ-loop
@@ -41,7 +44,7 @@ loop-less c = omega (arith, after-read-some c .read-some .ensures)
 loop-again : tie.Need-loop-again Inv-loop μ-loop
 loop-again c = (
   omega (arith, after-read-some c .read-some .ensures, after-read-some c .read-some .kept .1 .0),
-  after-read-some c .read-some .kept .1 .0 ∙ at-loop (c .before .before) .loop .inv .1,
+  after-read-some c .read-some .kept .1 .0 ∙ at-loop (after-read-some c) .loop .inv .1,
 )
 
 same-length-2 : tie.Need-same-length-2 Inv-loop μ-loop

@@ -11,15 +11,24 @@ use Rattle.run.proofs.play.Tie as tie
 abbrev after-open : tie.After-trace-words → tie.After-open
 after-open c = c .before .before .before .before
 
+abbrev after-trace-words-from-traces : tie.After-traces → tie.After-trace-words
+after-trace-words-from-traces c = c .before .before
+
 abbrev after-trace-words : tie.After-run-fresh-arg → tie.After-trace-words
-after-trace-words c = c .before .before .before
+after-trace-words c = after-trace-words-from-traces (c .before)
 
 slice-aggregate-s : tie.Need-slice-aggregate-s
 slice-aggregate-s c = sym (length-take-le _ _ (omega (arith, after-open (c .before) .«open» .ensures .smallState, c .before .before .state-words .ensures)))
 
 slice-aggregate-trace : tie.Need-slice-aggregate-trace
 slice-aggregate-trace c =
-    sym (length-take-le _ _ (omega (arith, after-open (c .before .before) .«open» .ensures .smallTrace, c .before .before .trace-words .ensures)))
+    sym
+    (length-take-le _ _
+    (omega (
+      arith,
+      after-open (after-trace-words-from-traces c) .«open» .ensures .smallTrace,
+      after-trace-words-from-traces c .trace-words .ensures,
+    )))
 
 run-fresh-requires : tie.Need-run-fresh-requires
 run-fresh-requires c κs =
