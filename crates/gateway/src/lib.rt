@@ -33,9 +33,9 @@ pub extern "C" fn herringcart_check_table(table: &[u32], place: &mut usize, boun
     ensures { λ r. ⌜ ChecksTableIn (now (table .entry)) r (now (place .exit)) (now (bound .exit)) ⌝ }
 {
     let said = tables::numbers(manager::check_table(table));
-    *place = said.1;
-    *bound = said.2;
-    said.0
+    *place = said.place;
+    *bound = said.bound;
+    said.reason
 }
 
 // How many words a state of this table has, by its header alone.

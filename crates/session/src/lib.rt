@@ -35,8 +35,8 @@ pub fn open(t: &[u32]) -> Opening
 {
     let checked = tables::check(t);
     let fault = tables::numbers(checked);
-    let reason = fault.0;
-    let place = fault.1 as u32;
+    let reason = fault.reason;
+    let place = fault.place as u32;
     let Checked::Accepted(b) = checked else {
         return Opening {
             reason,

@@ -29,22 +29,66 @@ pub enum Checked {
 }
 
 // A check's answer in numbers: the reason, the place and B.
-pub struct Said(pub u32, pub usize, pub u32);
+pub struct InNumbers {
+    pub reason: u32,
+    pub place: usize,
+    pub bound: u32,
+}
 
-pub fn numbers(checked: Checked) -> Said
-    ensures { λ r. ⌜ Says (finding checked) (r .0) (r .1) (r .2) ⌝ }
+pub fn numbers(checked: Checked) -> InNumbers
+    ensures { λ r. ⌜ Says (finding checked) (r .reason) (r .place) (r .bound) ⌝ }
 {
     match checked {
-        Checked::Accepted(b) => Said(0, 0, b),
-        Checked::TooShort => Said(1, 0, 0),
-        Checked::WrongEdition => Said(2, 0, 0),
-        Checked::WrongCounts => Said(3, 0, 0),
-        Checked::WrongLength => Said(4, 0, 0),
-        Checked::Misfit(i) => Said(5, i, 0),
-        Checked::Misnamed(i) => Said(6, i, 0),
-        Checked::TooDeep(i) => Said(7, i, 0),
-        Checked::OwnersClash(i) => Said(8, i, 0),
-        Checked::TooDear => Said(9, 0, 0),
+        Checked::Accepted(b) => InNumbers {
+            reason: 0,
+            place: 0,
+            bound: b,
+        },
+        Checked::TooShort => InNumbers {
+            reason: 1,
+            place: 0,
+            bound: 0,
+        },
+        Checked::WrongEdition => InNumbers {
+            reason: 2,
+            place: 0,
+            bound: 0,
+        },
+        Checked::WrongCounts => InNumbers {
+            reason: 3,
+            place: 0,
+            bound: 0,
+        },
+        Checked::WrongLength => InNumbers {
+            reason: 4,
+            place: 0,
+            bound: 0,
+        },
+        Checked::Misfit(i) => InNumbers {
+            reason: 5,
+            place: i,
+            bound: 0,
+        },
+        Checked::Misnamed(i) => InNumbers {
+            reason: 6,
+            place: i,
+            bound: 0,
+        },
+        Checked::TooDeep(i) => InNumbers {
+            reason: 7,
+            place: i,
+            bound: 0,
+        },
+        Checked::OwnersClash(i) => InNumbers {
+            reason: 8,
+            place: i,
+            bound: 0,
+        },
+        Checked::TooDear => InNumbers {
+            reason: 9,
+            place: 0,
+            bound: 0,
+        },
     }
 }
 

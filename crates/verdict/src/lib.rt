@@ -10,9 +10,9 @@ pub fn lay_verdict(t: &[u32], out: &mut [u8]) -> usize
         return 0;
     }
     let said = tables::numbers(tables::check(t));
-    let reason = said.0;
-    let place = said.1 as u32;
-    let bound = said.2;
+    let reason = said.reason;
+    let place = said.place as u32;
+    let bound = said.bound;
     let second = put_decimal_line(out, 0, reason);
     let third = put_decimal_line(out, second, place);
     put_decimal_line(out, third, bound)
