@@ -8,7 +8,7 @@ use native.Mathlib.Omega.{arith}
 use lib.Dec.{ltb}
 use borrow.Author.Tests.{lt-ltb, le-ltb}
 use Rattle.rulebook.specs.Table.{ports, networks, sources, expressions, rules, lists, items, portsFrom, networksFrom, sourcesFrom, expressionsFrom, rulesFrom, listsFrom, itemsFrom}
-use Rattle.rulebook.specs.Table.{atPort, atNetwork, atWaits, atSource, atExpression, atRule, atList, atItem, ofPair, part}
+use Rattle.rulebook.specs.Table.{Part, inHeader, atPort, atNetwork, atWaits, atSource, atExpression, atRule, atList, atItem, ofPair, part}
 use Rattle.rulebook.specs.State.{ruleIndex, networkIndex, sourceIndex, aPort, aRule, aNetwork, aSource, thing}
 
 -- a section that starts at b has been passed, or holds i
@@ -35,82 +35,102 @@ pair-second b n =
     let f : (2 * n + 1) / 2 ≡ n = omega arith in
     rw (d, e, f)
 
+pub in-header : (t : List ℕ) (i : ℕ) → i < portsFrom → part t i ≡ inHeader
+unfolding part
+in-header t i b = inside i portsFrom _ _ b
+
+-- What stands at a place, by the section that holds it. Each law stands on the one before: past a section, the others are left.
+
+abbrev toItems : List ℕ → ℕ → Part
+toItems t i = atItem (i - itemsFrom t)
+
+abbrev toLists : List ℕ → ℕ → Part
+toLists t i = cond (ltb i (itemsFrom t)) (atList (i - listsFrom t)) (toItems t i)
+
+abbrev toRules : List ℕ → ℕ → Part
+toRules t i = cond (ltb i (listsFrom t)) (atRule (i - rulesFrom t)) (toLists t i)
+
+abbrev toExpressions : List ℕ → ℕ → Part
+toExpressions t i = cond (ltb i (rulesFrom t)) (atExpression (i - expressionsFrom t)) (toRules t i)
+
+abbrev toSources : List ℕ → ℕ → Part
+toSources t i = cond (ltb i (expressionsFrom t)) (atSource (i - sourcesFrom t)) (toExpressions t i)
+
+abbrev toNetworks : List ℕ → ℕ → Part
+toNetworks t i = cond (ltb i (sourcesFrom t)) (ofPair (i - networksFrom t)) (toSources t i)
+
+abbrev toPorts : List ℕ → ℕ → Part
+toPorts t i = cond (ltb i (networksFrom t)) (atPort (i - portsFrom)) (toNetworks t i)
+
+module _ (t : List ℕ) (i : ℕ) where
+  past-header : portsFrom ≤ i → part t i ≡ toPorts t i
+  unfolding part
+  past-header b = past i portsFrom _ _ b
+
+  pub in-ports : portsFrom ≤ i → i < networksFrom t → part t i ≡ atPort (i - portsFrom)
+  in-ports a b = past-header a ∙ inside i (networksFrom t) _ _ b
+
+  past-ports : networksFrom t ≤ i → part t i ≡ toNetworks t i
+  past-ports b = past-header (omega arith) ∙ past i (networksFrom t) _ _ b
+
+  pub in-networks : networksFrom t ≤ i → i < sourcesFrom t → part t i ≡ ofPair (i - networksFrom t)
+  in-networks a b = past-ports a ∙ inside i (sourcesFrom t) _ _ b
+
+  past-networks : sourcesFrom t ≤ i → part t i ≡ toSources t i
+  past-networks b = past-ports (omega arith) ∙ past i (sourcesFrom t) _ _ b
+
+  pub in-sources : sourcesFrom t ≤ i → i < expressionsFrom t → part t i ≡ atSource (i - sourcesFrom t)
+  in-sources a b = past-networks a ∙ inside i (expressionsFrom t) _ _ b
+
+  past-sources : expressionsFrom t ≤ i → part t i ≡ toExpressions t i
+  past-sources b = past-networks (omega arith) ∙ past i (expressionsFrom t) _ _ b
+
+  pub in-expressions : expressionsFrom t ≤ i → i < rulesFrom t → part t i ≡ atExpression (i - expressionsFrom t)
+  in-expressions a b = past-sources a ∙ inside i (rulesFrom t) _ _ b
+
+  past-expressions : rulesFrom t ≤ i → part t i ≡ toRules t i
+  past-expressions b = past-sources (omega arith) ∙ past i (rulesFrom t) _ _ b
+
+  pub in-rules : rulesFrom t ≤ i → i < listsFrom t → part t i ≡ atRule (i - rulesFrom t)
+  in-rules a b = past-expressions a ∙ inside i (listsFrom t) _ _ b
+
+  past-rules : listsFrom t ≤ i → part t i ≡ toLists t i
+  past-rules b = past-expressions (omega arith) ∙ past i (listsFrom t) _ _ b
+
+  pub in-lists : listsFrom t ≤ i → i < itemsFrom t → part t i ≡ atList (i - listsFrom t)
+  in-lists a b = past-rules a ∙ inside i (itemsFrom t) _ _ b
+
+  past-lists : itemsFrom t ≤ i → part t i ≡ toItems t i
+  past-lists b = past-rules (omega arith) ∙ past i (itemsFrom t) _ _ b
+
+  pub in-items : itemsFrom t ≤ i → part t i ≡ atItem (i - itemsFrom t)
+  in-items a = past-lists a
+
+-- and so by a thing's number
+
 pub part-port : (t : List ℕ) (p : ℕ) → p < ports t → part t (portsFrom + p) ≡ atPort p
-unfolding part
-part-port t p h =
-    past (portsFrom + p) portsFrom _ _ (omega arith)
-    ∙ inside (portsFrom + p) (networksFrom t) _ _ (omega arith)
-    ∙ ap atPort (less portsFrom p)
-
-pub part-network : (t : List ℕ) (n : ℕ) → n < networks t → part t (networksFrom t + 2 * n) ≡ atNetwork n
-unfolding part
-part-network t n h =
-    past (networksFrom t + 2 * n) portsFrom _ _ (omega arith)
-    ∙ past (networksFrom t + 2 * n) (networksFrom t) _ _ (omega arith)
-    ∙ inside (networksFrom t + 2 * n) (sourcesFrom t) _ _ (omega arith)
-    ∙ pair-first (networksFrom t) n
-
-pub part-waits : (t : List ℕ) (n : ℕ) → n < networks t → part t (networksFrom t + 2 * n + 1) ≡ atWaits n
-unfolding part
-part-waits t n h =
-    past (networksFrom t + 2 * n + 1) portsFrom _ _ (omega arith)
-    ∙ past (networksFrom t + 2 * n + 1) (networksFrom t) _ _ (omega arith)
-    ∙ inside (networksFrom t + 2 * n + 1) (sourcesFrom t) _ _ (omega arith)
-    ∙ pair-second (networksFrom t) n
+part-port t p h = in-ports t (portsFrom + p) (omega arith) (omega arith) ∙ ap atPort (less (portsFrom) p)
 
 pub part-source : (t : List ℕ) (k : ℕ) → k < sources t → part t (sourcesFrom t + k) ≡ atSource k
-unfolding part
-part-source t k h =
-    past (sourcesFrom t + k) portsFrom _ _ (omega arith)
-    ∙ past (sourcesFrom t + k) (networksFrom t) _ _ (omega arith)
-    ∙ past (sourcesFrom t + k) (sourcesFrom t) _ _ (omega arith)
-    ∙ inside (sourcesFrom t + k) (expressionsFrom t) _ _ (omega arith)
-    ∙ ap atSource (less (sourcesFrom t) k)
+part-source t k h = in-sources t (sourcesFrom t + k) (omega arith) (omega arith) ∙ ap atSource (less (sourcesFrom t) k)
 
 pub part-expression : (t : List ℕ) (e : ℕ) → e < expressions t → part t (expressionsFrom t + e) ≡ atExpression e
-unfolding part
-part-expression t e h =
-    past (expressionsFrom t + e) portsFrom _ _ (omega arith)
-    ∙ past (expressionsFrom t + e) (networksFrom t) _ _ (omega arith)
-    ∙ past (expressionsFrom t + e) (sourcesFrom t) _ _ (omega arith)
-    ∙ past (expressionsFrom t + e) (expressionsFrom t) _ _ (omega arith)
-    ∙ inside (expressionsFrom t + e) (rulesFrom t) _ _ (omega arith)
-    ∙ ap atExpression (less (expressionsFrom t) e)
+part-expression t e h = in-expressions t (expressionsFrom t + e) (omega arith) (omega arith) ∙ ap atExpression (less (expressionsFrom t) e)
 
 pub part-rule : (t : List ℕ) (r : ℕ) → r < rules t → part t (rulesFrom t + r) ≡ atRule r
-unfolding part
-part-rule t r h =
-    past (rulesFrom t + r) portsFrom _ _ (omega arith)
-    ∙ past (rulesFrom t + r) (networksFrom t) _ _ (omega arith)
-    ∙ past (rulesFrom t + r) (sourcesFrom t) _ _ (omega arith)
-    ∙ past (rulesFrom t + r) (expressionsFrom t) _ _ (omega arith)
-    ∙ past (rulesFrom t + r) (rulesFrom t) _ _ (omega arith)
-    ∙ inside (rulesFrom t + r) (listsFrom t) _ _ (omega arith)
-    ∙ ap atRule (less (rulesFrom t) r)
+part-rule t r h = in-rules t (rulesFrom t + r) (omega arith) (omega arith) ∙ ap atRule (less (rulesFrom t) r)
 
 pub part-list : (t : List ℕ) (l : ℕ) → l < lists t → part t (listsFrom t + l) ≡ atList l
-unfolding part
-part-list t l h =
-    past (listsFrom t + l) portsFrom _ _ (omega arith)
-    ∙ past (listsFrom t + l) (networksFrom t) _ _ (omega arith)
-    ∙ past (listsFrom t + l) (sourcesFrom t) _ _ (omega arith)
-    ∙ past (listsFrom t + l) (expressionsFrom t) _ _ (omega arith)
-    ∙ past (listsFrom t + l) (rulesFrom t) _ _ (omega arith)
-    ∙ past (listsFrom t + l) (listsFrom t) _ _ (omega arith)
-    ∙ inside (listsFrom t + l) (itemsFrom t) _ _ (omega arith)
-    ∙ ap atList (less (listsFrom t) l)
+part-list t l h = in-lists t (listsFrom t + l) (omega arith) (omega arith) ∙ ap atList (less (listsFrom t) l)
 
 pub part-item : (t : List ℕ) (i : ℕ) → i < items t → part t (itemsFrom t + i) ≡ atItem i
-unfolding part
-part-item t i h =
-    past (itemsFrom t + i) portsFrom _ _ (omega arith)
-    ∙ past (itemsFrom t + i) (networksFrom t) _ _ (omega arith)
-    ∙ past (itemsFrom t + i) (sourcesFrom t) _ _ (omega arith)
-    ∙ past (itemsFrom t + i) (expressionsFrom t) _ _ (omega arith)
-    ∙ past (itemsFrom t + i) (rulesFrom t) _ _ (omega arith)
-    ∙ past (itemsFrom t + i) (listsFrom t) _ _ (omega arith)
-    ∙ past (itemsFrom t + i) (itemsFrom t) _ _ (omega arith)
-    ∙ ap atItem (less (itemsFrom t) i)
+part-item t i h = in-items t (itemsFrom t + i) (omega arith) ∙ ap atItem (less (itemsFrom t) i)
+
+pub part-network : (t : List ℕ) (n : ℕ) → n < networks t → part t (networksFrom t + 2 * n) ≡ atNetwork n
+part-network t n h = in-networks t (networksFrom t + 2 * n) (omega arith) (omega arith) ∙ pair-first (networksFrom t) n
+
+pub part-waits : (t : List ℕ) (n : ℕ) → n < networks t → part t (networksFrom t + 2 * n + 1) ≡ atWaits n
+part-waits t n h = in-networks t (networksFrom t + 2 * n + 1) (omega arith) (omega arith) ∙ pair-second (networksFrom t) n
 
 -- The state.
 

@@ -1,6 +1,6 @@
 -- Which part stands at a place, by the places of the sections in a layout. Assumes nothing.
 use Prim.Native.Nat.{ℕ, _-_, _/_, _%_, _<_, _≤_}
-use mathlib.Core.Path.{_≡_}
+use mathlib.Core.Path.{_≡_, sym}
 use mathlib.Core.Bool.{Bool, true, false, cond}
 use mathlib.Core.List.{List}
 use native.Mathlib.Omega.{arith}
@@ -9,90 +9,37 @@ use borrow.Author.Tests.{lt-ltb, le-ltb, eq-eqb, ne-eqb}
 use Rattle.rulebook.specs.Table.{Part, portsFrom, networksFrom, sourcesFrom, expressionsFrom, rulesFrom, listsFrom, itemsFrom}
 use Rattle.rulebook.specs.Table.{inHeader, atPort, atNetwork, atWaits, atSource, atExpression, atRule, atList, atItem, part}
 use Rattle.rulebook.specs.Words.{digit}
+use Rattle.laws.proofs.Parts.{in-header, in-ports, in-networks, in-sources, in-expressions, in-rules, in-lists, in-items}
 use Rattle.words.specs.declared.sections.Layout.{Layout}
 use Rattle.words.specs.Sections.{Laid}
 
 module _ (t : List ℕ) (h : Layout) (laid : Laid t h) (i : ℕ) where
   pub header-part : i < 3 → inHeader ≡ part t i
-  unfolding part
-  header-part b = simp (lt-ltb i 3 b)
+  header-part b = sym (in-header t i b)
 
   pub port-part : 3 ≤ i → i < h .network0 → atPort (i - 3) ≡ part t i
-  unfolding part
-  port-part a b = simp (le-ltb i 3 a, lt-ltb i (networksFrom t) (omega arith))
+  port-part a b = sym (in-ports t i a (omega arith))
 
   pub network-part : h .network0 ≤ i → i < h .source0 → (i - h .network0) % 2 ≡ 0 → atNetwork ((i - h .network0) / 2) ≡ part t i
-  unfolding part
-  network-part a b e =
-      let n = laid .network0 in
-      rw n
-      (simp (le-ltb i 3 (omega arith), le-ltb i (networksFrom t) (omega arith), lt-ltb i (sourcesFrom t) (omega arith), eq-eqb _ 0 (rw n at e)))
+  network-part a b e = let n = laid .network0 in rw (n, in-networks t i (omega arith) (omega arith)) (rw (eq-eqb _ 0 (rw n at e)))
 
   pub waits-part : h .network0 ≤ i → i < h .source0 → ((i - h .network0) % 2 ≡ 0 → ⊥) → atWaits ((i - h .network0) / 2) ≡ part t i
-  unfolding part
-  waits-part a b e =
-      let n = laid .network0 in
-      rw n
-      (simp (le-ltb i 3 (omega arith), le-ltb i (networksFrom t) (omega arith), lt-ltb i (sourcesFrom t) (omega arith), ne-eqb _ 0 (rw n at e)))
+  waits-part a b e = let n = laid .network0 in rw (n, in-networks t i (omega arith) (omega arith)) (rw (ne-eqb _ 0 (rw n at e)))
 
   pub source-part : h .source0 ≤ i → i < h .expression0 → atSource (i - h .source0) ≡ part t i
-  unfolding part
-  source-part a b =
-      rw (laid .source0)
-      (simp (le-ltb i 3 (omega arith), le-ltb i (networksFrom t) (omega arith), le-ltb i (sourcesFrom t) (omega arith), lt-ltb i (expressionsFrom t) (omega arith)))
+  source-part a b = rw (laid .source0) (sym (in-sources t i (omega arith) (omega arith)))
 
   pub expression-part : h .expression0 ≤ i → i < h .rule0 → atExpression (i - h .expression0) ≡ part t i
-  unfolding part
-  expression-part a b =
-      rw (laid .expression0)
-      (simp (
-        le-ltb i 3 (omega arith),
-        le-ltb i (networksFrom t) (omega arith),
-        le-ltb i (sourcesFrom t) (omega arith),
-        le-ltb i (expressionsFrom t) (omega arith),
-        lt-ltb i (rulesFrom t) (omega arith),
-      ))
+  expression-part a b = rw (laid .expression0) (sym (in-expressions t i (omega arith) (omega arith)))
 
   pub rule-part : h .rule0 ≤ i → i < h .list0 → atRule (i - h .rule0) ≡ part t i
-  unfolding part
-  rule-part a b =
-      rw (laid .rule0)
-      (simp (
-        le-ltb i 3 (omega arith),
-        le-ltb i (networksFrom t) (omega arith),
-        le-ltb i (sourcesFrom t) (omega arith),
-        le-ltb i (expressionsFrom t) (omega arith),
-        le-ltb i (rulesFrom t) (omega arith),
-        lt-ltb i (listsFrom t) (omega arith),
-      ))
+  rule-part a b = rw (laid .rule0) (sym (in-rules t i (omega arith) (omega arith)))
 
   pub list-part : h .list0 ≤ i → i < h .item0 → atList (i - h .list0) ≡ part t i
-  unfolding part
-  list-part a b =
-      rw (laid .list0)
-      (simp (
-        le-ltb i 3 (omega arith),
-        le-ltb i (networksFrom t) (omega arith),
-        le-ltb i (sourcesFrom t) (omega arith),
-        le-ltb i (expressionsFrom t) (omega arith),
-        le-ltb i (rulesFrom t) (omega arith),
-        le-ltb i (listsFrom t) (omega arith),
-        lt-ltb i (itemsFrom t) (omega arith),
-      ))
+  list-part a b = rw (laid .list0) (sym (in-lists t i (omega arith) (omega arith)))
 
   pub item-part : h .item0 ≤ i → atItem (i - h .item0) ≡ part t i
-  unfolding part
-  item-part a =
-      rw (laid .item0)
-      (simp (
-        le-ltb i 3 (omega arith),
-        le-ltb i (networksFrom t) (omega arith),
-        le-ltb i (sourcesFrom t) (omega arith),
-        le-ltb i (expressionsFrom t) (omega arith),
-        le-ltb i (rulesFrom t) (omega arith),
-        le-ltb i (listsFrom t) (omega arith),
-        le-ltb i (itemsFrom t) (omega arith),
-      ))
+  item-part a = rw (laid .item0) (sym (in-items t i (omega arith)))
 
 -- the expressions start within the first 1,024 words, by the widths of the counts before them
 pub expressions-near : (t : List ℕ) → expressionsFrom t < 1024
