@@ -39,7 +39,12 @@ module _ (t : List ℕ) (h : Layout) (laid : Laid t h) (i : ℕ) where
   unfolding part
   source-part a b =
       rw (laid .source0)
-      (simp (le-ltb i 3 (omega arith), le-ltb i (networksFrom t) (omega arith), le-ltb i (sourcesFrom t) (omega arith), lt-ltb i (expressionsFrom t) (omega arith)))
+      (simp (
+        le-ltb i 3 (omega arith),
+        le-ltb i (networksFrom t) (omega arith),
+        le-ltb i (sourcesFrom t) (omega arith),
+        lt-ltb i (expressionsFrom t) (omega arith),
+      ))
 
   pub expression-part : h .expression0 ≤ i → i < h .rule0 → atExpression (i - h .expression0) ≡ part t i
   unfolding part
