@@ -172,7 +172,9 @@ module _ (d l : ℕ) (t depths costs : List ℕ) (few : d < 7) (found : Depths 7
       let room : l < length costs = rw (a .long) inside in
       record {
         long = simp length-set (a .long);
-        old = set-all (λ k w. listWithin d t k ≡ true → w ≡ capped (costWithin 7 t k)) costs l v room (λ h. is ∙ next-cost (rw add-one (within-more t d l h))) (λ k _ h. a .old k h);
+        old =
+            set-all (λ k w. listWithin d t k ≡ true → w ≡ capped (costWithin 7 t k)) costs l v room
+            (λ h. is ∙ next-cost (rw add-one (within-more t d l h))) (λ k _ h. a .old k h);
         new =
             set-all (λ k w. k < l + 1 → listWithin (d + 1) t k ≡ true → w ≡ capped (costWithin 7 t k)) costs l v room (λ _ h. is ∙ next-cost h)
             (λ k isnt b h. a .new k (omega arith) h);

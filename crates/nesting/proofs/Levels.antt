@@ -99,7 +99,8 @@ pub record Passed (d l : ℕ) (t depths : List ℕ) : Type 0 where
   pub new : (k : ℕ) → k < l → foundBy depths (d + 1) k ≡ listWithin (d + 1) t k
 
 -- what a store at l leaves of every word
-pub set-all : (P : ℕ → ℕ → Type 0) (ws : List ℕ) (l v : ℕ) → l < length ws → P l v → ((k : ℕ) → (k ≡ l → ⊥) → P k (getD ws k 0)) → (k : ℕ) → P k (getD (set ws l v) k 0)
+pub set-all : (P : ℕ → ℕ → Type 0) (ws : List ℕ) (l v : ℕ) → l < length ws → P l v → ((k : ℕ) → (k ≡ l → ⊥) → P k (getD ws k 0))
+    → (k : ℕ) → P k (getD (set ws l v) k 0)
 set-all P ws l v inside here other k =
     split (eqb k l) (λ e. let is = eqb-true k l e in rw (is, getD-set-same ws l v 0 inside) here)
     (λ e. let isnt = eqb-false k l e in rw (getD-set-other ws l k v 0 isnt) (other k isnt))

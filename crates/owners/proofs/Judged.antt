@@ -58,7 +58,8 @@ module _ (t : List ℕ) (o i : ℕ) (x : Item) (read : ItemAt t i x) where
   abbrev owned : ℕ → Bool
   owned owner = eqb owner o
 
-  is-judged : itemOwned t o i ≡ judged (owned (listOwner t (x .a))) (owned (ruleOwner t (x .a))) (owned (portOwner t (x .a))) (owned (networkOwner t (x .a))) (eqb o 0) (x .kind)
+  is-judged : itemOwned t o i
+      ≡ judged (owned (listOwner t (x .a))) (owned (ruleOwner t (x .a))) (owned (portOwner t (x .a))) (owned (networkOwner t (x .a))) (eqb o 0) (x .kind)
   unfolding itemOwned judged
   is-judged = rw (read .kind .value, read .a .value)
 
@@ -101,7 +102,9 @@ module _ (t : List ℕ) (h : Layout) (entire : Whole t h) (r : ℕ) (hr : r ≡ 
 
   later : h .list0 ≤ r → lowest owners t ≡ first (listsFrom t) (lists t + items t) (breaks owners t)
   unfolding lowest
-  later b = rw rest (first-after 0 (listsFrom t) (lists t + items t) (breaks owners t) (omega arith) ∙ same-first (breaks owners t) (zero-add (listsFrom t)) refl)
+  later b =
+      rw rest
+      (first-after 0 (listsFrom t) (lists t + items t) (breaks owners t) (omega arith) ∙ same-first (breaks owners t) (zero-add (listsFrom t)) refl)
 
   module _ (s : ℕ) (hs : s ≡ first (listsFrom t) (lists t) (breaks owners t)) where
     pub clash-in-lists : h .list0 ≤ r → s < h .item0 → s ≡ lowest owners t

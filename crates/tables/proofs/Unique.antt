@@ -5,7 +5,8 @@ use lib.Dec.{eqb}
 use mathlib.Core.Path.{_≡_, refl, sym, ap, _∙_}
 use mathlib.Core.List.{List}
 use Rattle.tables.specs.declared.Checked.{Checked}
-use Rattle.tables.specs.declared.Checked.the-variants.{Accepted, TooShort, WrongEdition, WrongCounts, WrongLength, Misfit, Misnamed, TooDeep, OwnersClash, TooDear}
+use Rattle.tables.specs.declared.Checked.the-variants.{Accepted, TooShort, WrongEdition, WrongCounts, WrongLength}
+use Rattle.tables.specs.declared.Checked.the-variants.{Misfit, Misnamed, TooDeep, OwnersClash, TooDear}
 use Rattle.tables.specs.Finding.{Finding, finding, promised}
 
 -- the answer that tells a reason, a place and B

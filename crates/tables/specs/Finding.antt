@@ -5,7 +5,8 @@ use mathlib.Core.Bool.{cond}
 use mathlib.Core.List.{List}
 use Rattle.rulebook.specs.Reasons.{check, accepted, bound as boundOf}
 use Rattle.tables.specs.declared.Checked.{Checked}
-use Rattle.tables.specs.declared.Checked.the-variants.{Accepted, TooShort, WrongEdition, WrongCounts, WrongLength, Misfit, Misnamed, TooDeep, OwnersClash, TooDear}
+use Rattle.tables.specs.declared.Checked.the-variants.{Accepted, TooShort, WrongEdition, WrongCounts, WrongLength}
+use Rattle.tables.specs.declared.Checked.the-variants.{Misfit, Misnamed, TooDeep, OwnersClash, TooDear}
 
 pub record Finding : Type 0 where
   pub reason : ℕ

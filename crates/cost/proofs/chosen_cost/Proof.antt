@@ -9,7 +9,9 @@ returns : tie.Need-returns
 returns c = record { value = rw (eq-eqb (c .before .before .args .l) 255 (c .if1 .taken)); small = omega arith }
 
 returns-2 : tie.Need-returns-2
-returns-2 c = record { value = rw (ne-eqb (c .before .before .before .args .l) 255 (c .before .if1 .left)) (c .cost-in .ensures .value); small = c .cost-in .ensures .small }
+returns-2 c =
+    let cost = c .cost-in .ensures in
+    record { value = rw (ne-eqb (c .before .before .before .args .l) 255 (c .before .if1 .left)) (cost .value); small = cost .small }
 
 pub chosen-cost-spec : {M : Type 1} → statement M
 chosen-cost-spec = tie.close (tie.spec returns (λ c κs. search needs) returns-2)

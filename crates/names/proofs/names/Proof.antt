@@ -12,27 +12,9 @@ returns-2 : tie.Need-returns-2
 unfolding names
 returns-2 c = rw (c .enum-told2 .given .1)
 
-returns-3 : tie.Need-returns-3
-returns-3 c = rw (c .before .before .part .given .1) (c .network-names .ensures)
-
 returns-4 : tie.Need-returns-4
 unfolding names
 returns-4 c = rw (c .enum-told3 .given .1)
-
-returns-5 : tie.Need-returns-5
-returns-5 c = rw (c .before .before .part2 .given .1) (c .source-names .ensures)
-
-returns-6 : tie.Need-returns-6
-returns-6 c = rw (c .before .before .part3 .given .1) (c .expression-names .ensures)
-
-returns-7 : tie.Need-returns-7
-returns-7 c = rw (c .before .before .part4 .given .1) (c .rule-names .ensures)
-
-returns-8 : tie.Need-returns-8
-returns-8 c = rw (c .before .before .part5 .given .1) (c .list-names .ensures)
-
-returns-9 : tie.Need-returns-9
-returns-9 c = rw (c .before .before .part6 .given .1) (c .item-names .ensures)
 
 pub names-spec : {M : Type 1} → statement M
 names-spec =
@@ -55,10 +37,10 @@ names-spec =
     (λ c κs. search needs)
     returns
     returns-2
-    returns-3
+    (λ c. rw (c .before .before .part .given .1) (c .network-names .ensures))
     returns-4
-    returns-5
-    returns-6
-    returns-7
-    returns-8
-    returns-9)
+    (λ c. rw (c .before .before .part2 .given .1) (c .source-names .ensures))
+    (λ c. rw (c .before .before .part3 .given .1) (c .expression-names .ensures))
+    (λ c. rw (c .before .before .part4 .given .1) (c .rule-names .ensures))
+    (λ c. rw (c .before .before .part5 .given .1) (c .list-names .ensures))
+    (λ c. rw (c .before .before .part6 .given .1) (c .item-names .ensures)))

@@ -107,8 +107,8 @@ module _ (t : ℕ) where
       let named = right .before .before .before .before in
       let kind = named .before .before in
       c .mentions-stranger2 .ensures
-      ∙ mention-right _ _ _ _ _ (word kind .before .if1 .left) (word kind .expression-word .ensures) (kind .expression-kind .ensures .value) (strangers kind) _ _ _
-      (named .before .if2 .left) (named .left .ensures .value) (right .before .before .before .mentions-stranger .ensures) (right .before .before .if3 .left)
+      ∙ mention-right _ _ _ _ _ (word kind .before .if1 .left) (word kind .expression-word .ensures) (kind .expression-kind .ensures .value)
+      (strangers kind) _ _ _ (named .before .if2 .left) (named .left .ensures .value) (right .before .before .before .mentions-stranger .ensures) (right .before .before .if3 .left)
       (right .before .if4 .left) (right .right .ensures .value)
 
 pub +mentions-stranger-spec : {M : Type 1} → statement M

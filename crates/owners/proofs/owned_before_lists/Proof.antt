@@ -15,22 +15,13 @@ returns-2 : tie.Need-returns-2
 unfolding owners
 returns-2 c = rw (← c .before .before .part-at .ensures, c .enum-told2 .given .1)
 
-returns-3 : tie.Need-returns-3
-returns-3 c = rw (← c .before .before .before .before .part-at .ensures, c .before .before .part .given .1) (c .network-owned .ensures)
-
 returns-4 : tie.Need-returns-4
 unfolding owners
 returns-4 c = rw (← c .before .before .part-at .ensures, c .enum-told3 .given .1)
 
-returns-5 : tie.Need-returns-5
-returns-5 c = rw (← c .before .before .before .before .part-at .ensures, c .before .before .part2 .given .1) (c .source-owned .ensures)
-
 returns-6 : tie.Need-returns-6
 unfolding owners
 returns-6 c = rw (← c .before .before .part-at .ensures, c .enum-told4 .given .1)
-
-returns-7 : tie.Need-returns-7
-returns-7 c = rw (← c .before .before .before .before .part-at .ensures, c .before .before .part3 .given .1) (c .rule-owned .ensures)
 
 returns-8 : tie.Need-returns-8
 returns-8 c =
@@ -60,10 +51,10 @@ owned-before-lists-spec =
     (λ c. search needs)
     returns
     returns-2
-    returns-3
+    (λ c. rw (← c .before .before .before .before .part-at .ensures, c .before .before .part .given .1) (c .network-owned .ensures))
     returns-4
-    returns-5
+    (λ c. rw (← c .before .before .before .before .part-at .ensures, c .before .before .part2 .given .1) (c .source-owned .ensures))
     returns-6
-    returns-7
+    (λ c. rw (← c .before .before .before .before .part-at .ensures, c .before .before .part3 .given .1) (c .rule-owned .ensures))
     returns-8
     returns-9)

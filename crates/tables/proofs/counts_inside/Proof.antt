@@ -7,16 +7,8 @@ use Rattle.tables.proofs.counts_inside.Tie as tie
 returns : tie.Need-returns
 unfolding countsInside
 returns c =
-    simp (
-      leb·zero,
-      c .pre .ports .value,
-      c .pre .networks .value,
-      c .pre .sources .value,
-      c .pre .expressions .value,
-      c .pre .rules .value,
-      c .pre .lists .value,
-      c .pre .items .value,
-    )
+    let n = c .pre in
+    simp (leb·zero, n .ports .value, n .networks .value, n .sources .value, n .expressions .value, n .rules .value, n .lists .value, n .items .value)
 
 pub counts-inside-spec : {M : Type 1} → statement M
 counts-inside-spec = tie.close (tie.spec returns)

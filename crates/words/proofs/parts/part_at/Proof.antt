@@ -4,6 +4,9 @@ use borrow.Author.Needs.{needs}
 use Rattle.words.proofs.parts.part_at.Statement.{statement}
 use Rattle.words.proofs.parts.part_at.Tie as tie
 
+abbrev start : tie.Else5 → tie.Start
+start c = c .before .before .before .before .before
+
 returns : tie.Need-returns
 returns c = item-part _ _ (c .before .pre .laid) _ (c .if1 .taken)
 
@@ -20,16 +23,20 @@ returns-5 : tie.Need-returns-5
 returns-5 c = source-part _ _ (c .before .before .before .before .before .pre .laid) _ (c .if5 .taken) (c .before .if4 .left)
 
 returns-6 : tie.Need-returns-6
-returns-6 c = network-part _ _ (c .before .before .before .before .before .before .before .pre .laid) _ (c .before .if6 .taken) (c .before .before .if5 .left) (c .if7 .taken)
+returns-6 c =
+    let at = c .before .before in
+    network-part _ _ (start at .pre .laid) _ (c .before .if6 .taken) (at .if5 .left) (c .if7 .taken)
 
 returns-7 : tie.Need-returns-7
-returns-7 c = waits-part _ _ (c .before .before .before .before .before .before .before .pre .laid) _ (c .before .if6 .taken) (c .before .before .if5 .left) (c .if7 .left)
+returns-7 c =
+    let at = c .before .before in
+    waits-part _ _ (start at .pre .laid) _ (c .before .if6 .taken) (at .if5 .left) (c .if7 .left)
 
 returns-8 : tie.Need-returns-8
-returns-8 c = port-part _ _ (c .before .before .before .before .before .before .before .pre .laid) _ (c .if8 .taken) (c .before .if6 .left)
+returns-8 c = port-part _ _ (start (c .before .before) .pre .laid) _ (c .if8 .taken) (c .before .if6 .left)
 
 returns-9 : tie.Need-returns-9
-returns-9 c = header-part _ _ (c .before .before .before .before .before .before .before .pre .laid) _ (c .if8 .left)
+returns-9 c = header-part _ _ (start (c .before .before) .pre .laid) _ (c .if8 .left)
 
 pub part-at-spec : {M : Type 1} → statement M
 part-at-spec =

@@ -45,13 +45,17 @@ laid t hp hn hk he hr hl ha =
       length = omega arith;
     }
 
+abbrev header : tie.After-items → tie.After-word3
+header c = c .before .before .before .before .before .before .before
+
 returns : tie.Need-returns
 returns c =
-    let first = c .before .before .before .before .before .before .before .before .before .word .ensures in
-    let second = c .before .before .before .before .before .before .before .before .word2 .ensures in
-    let third = c .before .before .before .before .before .before .before .word3 .ensures in
-    laid (c .before .before .before .before .before .before .before .before .before .before .before .args .t .now) (rw first at (c .before .before .before .before .before .before .ports .ensures)) (rw first at (c .before .before .before .before .before .networks .ensures))
-    (rw first at (c .before .before .before .before .sources .ensures)) (rw second at (c .before .before .before .expressions .ensures)) (rw second at (c .before .before .rules .ensures))
+    let first = header c .before .before .word .ensures in
+    let second = header c .before .word2 .ensures in
+    let third = header c .word3 .ensures in
+    laid (header c .before .before .before .before .args .t .now) (rw first at (c .before .before .before .before .before .before .ports .ensures))
+    (rw first at (c .before .before .before .before .before .networks .ensures)) (rw first at (c .before .before .before .before .sources .ensures))
+    (rw second at (c .before .before .before .expressions .ensures)) (rw second at (c .before .before .rules .ensures))
     (rw third at (c .before .lists .ensures)) (rw third at (c .items .ensures))
 
 pub read-layout-spec : {M : Type 1} → statement M
