@@ -19,7 +19,7 @@ use Rattle.words.proofs.Fill.{none-of-zeros, raise-more}
 use Rattle.laws.proofs.Tests.{split}
 use Rattle.laws.proofs.Walks.{any-at}
 use Rattle.laws.proofs.Order.{each-weaker, order-there}
-use Rattle.lists.specs.Runs.{Ran}
+use Rattle.lists.specs.Runs.{Ran, nothing}
 use Rattle.arbitration.specs.Outcomes.{Marked}
 use Rattle.arbitration.proofs.Passes.{raised-flag}
 use Rattle.arbitration.proofs.Picking.{none-chosen}
@@ -37,9 +37,6 @@ unfolding flagged
 set-flag-other flags p k v isnt = rw (getD-set-other flags p k v 0 isnt)
 
 -- the marked ports
-pub marked-by : (t s : List ℕ) (p n m w : ℕ) → n ≡ ports t → w ≡ word s p → m ≡ field 1 1 w → (ltb p n && eqb m 1) ≡ markedIn t s p
-unfolding markedIn
-marked-by t s p n m w hn hw hm = rw (hn, hm, hw)
 
 -- the flags of the ports before p are right, the others are down
 pub record MarkedBefore (p : ℕ) (t s flags : List ℕ) : Type 0 where
@@ -120,5 +117,5 @@ unfolding markedIn
 none-marked t s h p =
     split (ltb p (ports t)) (λ e. any-at (markedIn t s) 0 (ports t) p h (omega arith) (let z : p < ports t = ltb-true _ _ e in omega arith)) (λ e. rw e)
 
-pub nothing-marked : (t s T : List ℕ) → any 0 (ports t) (markedIn t s) ≡ false → Ran (arbitrate t (markedIn t s) s) s T T 0
+pub nothing-marked : (t s T : List ℕ) → any 0 (ports t) (markedIn t s) ≡ false → Ran (arbitrate t (markedIn t s) s) s T T nothing
 nothing-marked t s T h = rw (arbitrate-none t (markedIn t s) (none-marked t s h) s) (record { state = refl; words = refl; count = refl })

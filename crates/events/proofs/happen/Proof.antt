@@ -4,26 +4,59 @@ use borrow.Author.Needs.{needs}
 use Rattle.events.proofs.happen.Statement.{statement}
 use Rattle.events.proofs.happen.Tie as tie
 
+abbrev entry : tie.After-tick-arg2 → tie.Start
+entry c = c .before .before .before .before .before .before .before .before .before
+
+abbrev after-kind : tie.After-slice-known4 → tie.After-kind
+after-kind c = c .before .before .before .before .before .before .before .before .before .before
+
+abbrev entry-2 : tie.After-request-arg2 → tie.Start
+entry-2 c = c .before .before .before .before .before .before .before .before .before .before
+
+abbrev after-value : tie.After-slice-known6 → tie.After-value
+after-value c = c .before .before .before .before .before .before .before .before .before
+
+abbrev entry-3 : tie.After-request-arg4 → tie.Start
+entry-3 c = c .before .before .before .before .before .before .before .before .before .before .before
+
+abbrev after-index : tie.After-slice-known8 → tie.After-index
+after-index c = c .before .before .before .before .before .before .before .before .before .before .before
+
+abbrev after-index-2 : tie.After-nothing → tie.After-index
+after-index-2 c = c .before .before .before .before .before .before .before .before .before
+
 tick-requires : tie.Need-tick-requires
-tick-requires c κs = (c .before .before .before .before .before .before .before .before .before .pre .0, c .before .before .before .before .before .before .before .before .before .pre .1, rw (happens-tick _ _ _ _ (c .before .before .before .before .before .kind .ensures .value) (c .before .before .if1 .taken)) at (c .before .before .before .before .before .before .before .before .before .pre .2))
+tick-requires c κs =
+    record { laid = entry c .pre .laid; few = entry c .pre .few; safe = rw (happens-tick _ _ _ _ (c .before .before .before .before .before .kind .ensures .value) (c .before .before .if1 .taken)) at (entry c .pre .safe) }
 
 returns : tie.Need-returns
-returns c = rw (happens-tick _ _ _ _ (c .before .before .before .before .before .before .before .before .before .before .kind .ensures .value) (c .before .before .before .before .before .before .before .if1 .taken)) (c .before .before .before .before .tick .ensures)
+returns c =
+    rw (happens-tick _ _ _ _ (after-kind c .kind .ensures .value) (c .before .before .before .before .before .before .before .if1 .taken)) (c .before .before .before .before .tick .ensures)
 
 request-requires : tie.Need-request-requires
-request-requires c κs = (c .before .before .before .before .before .before .before .before .before .before .pre .0, c .before .before .before .before .before .before .before .before .before .before .pre .1, c .before .before .before .before .before .index .ensures .small, rw (happens-mode _ _ _ _ (c .before .before .before .before .before .before .kind .ensures .value) _ _ (c .before .before .before .before .before .index .ensures .value) (c .before .before .before .before .value .ensures .value) (c .before .before .if2 .taken)) at (c .before .before .before .before .before .before .before .before .before .before .pre .2))
+request-requires c κs =
+    record { laid = entry-2 c .pre .laid; few = entry-2 c .pre .few; port = c .before .before .before .before .before .index .ensures .small; safe = rw (happens-mode _ _ _ _ (c .before .before .before .before .before .before .kind .ensures .value) _ _ (c .before .before .before .before .before .index .ensures .value) (c .before .before .before .before .value .ensures .value) (c .before .before .if2 .taken)) at (entry-2 c .pre .safe) }
 
 returns-2 : tie.Need-returns-2
-returns-2 c = rw (happens-mode _ _ _ _ (c .before .before .before .before .before .before .before .before .before .before .before .kind .ensures .value) _ _ (c .before .before .before .before .before .before .before .before .before .before .index .ensures .value) (c .before .before .before .before .before .before .before .before .before .value .ensures .value) (c .before .before .before .before .before .before .before .if2 .taken)) (c .before .before .before .before .request .ensures)
+returns-2 c =
+    rw (happens-mode _ _ _ _ (after-value c .before .before .kind .ensures .value) _ _ (after-value c .before .index .ensures .value) (after-value c .value .ensures .value) (c .before .before .before .before .before .before .before .if2 .taken)) (c .before .before .before .before .request .ensures)
 
 request-requires-2 : tie.Need-request-requires-2
-request-requires-2 c κs = (c .before .before .before .before .before .before .before .before .before .before .before .pre .0, c .before .before .before .before .before .before .before .before .before .before .before .pre .1, c .before .before .before .before .before .before .index .ensures .small, rw (happens-request _ _ _ _ (c .before .before .before .before .before .before .before .kind .ensures .value) _ (c .before .before .before .before .before .before .index .ensures .value) (c .before .before .if3 .taken)) at (c .before .before .before .before .before .before .before .before .before .before .before .pre .2))
+request-requires-2 c κs =
+    record { laid = entry-3 c .pre .laid; few = entry-3 c .pre .few; port = c .before .before .before .before .before .before .index .ensures .small; safe = rw (happens-request _ _ _ _ (c .before .before .before .before .before .before .before .kind .ensures .value) _ (c .before .before .before .before .before .before .index .ensures .value) (c .before .before .if3 .taken)) at (entry-3 c .pre .safe) }
 
 returns-3 : tie.Need-returns-3
-returns-3 c = rw (happens-request _ _ _ _ (c .before .before .before .before .before .before .before .before .before .before .before .before .kind .ensures .value) _ (c .before .before .before .before .before .before .before .before .before .before .before .index .ensures .value) (c .before .before .before .before .before .before .before .if3 .taken)) (c .before .before .before .before .request2 .ensures)
+returns-3 c =
+    rw (happens-request _ _ _ _ (after-index c .before .kind .ensures .value) _ (after-index c .index .ensures .value) (c .before .before .before .before .before .before .before .if3 .taken)) (c .before .before .before .before .request2 .ensures)
 
 returns-4 : tie.Need-returns-4
-returns-4 c = rw (happens-change _ _ _ _ (c .before .before .before .before .before .before .before .before .before .kind .ensures .value) _ (c .before .before .before .before .before .before .before .before .index .ensures .value) (c .before .before .before .before .before .before .if1 .left) (c .before .before .before .before .before .if2 .left) (c .before .before .before .before .if3 .left), ← (c .before .before .change .ensures)) (ran-start _ _)
+returns-4 c =
+    rw (
+      happens-change _ _ _ _ (after-index-2 c .before .kind .ensures .value) _ (after-index-2 c .index .ensures .value) (c .before .before .before .before .before .before .before .if1 .left) (c .before .before .before .before .before .before .if2 .left) (c .before .before .before .before .before .if3 .left),
+      ← (c .before .before .before .change .ensures),
+      c .nothing .ensures,
+    )
+    (ran-start _ _)
 
 pub happen-spec : {M : Type 1} → statement M
 happen-spec =
@@ -44,6 +77,7 @@ happen-spec =
     (λ c. search needs)
     (λ c. search needs)
     returns-3
+    (λ c κs. search needs)
     (λ c κs. search needs)
     (λ c. search needs)
     returns-4)

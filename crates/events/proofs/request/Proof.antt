@@ -4,14 +4,27 @@ use borrow.Author.Needs.{needs}
 use Rattle.events.proofs.request.Statement.{statement}
 use Rattle.events.proofs.request.Tie as tie
 
+abbrev entry : tie.After-arbitrate-one-arg2 → tie.Start
+entry c = c .before .before .before .before .before .before .before .before .before .before
+
+abbrev after-request-port : tie.After-slice-known5 → tie.After-request-port
+after-request-port c = c .before .before .before .before .before .before .before .before .before .before
+
 arbitrate-one-requires : tie.Need-arbitrate-one-requires
-arbitrate-one-requires c κs = (c .before .before .before .before .before .before .before .before .before .before .pre .0, c .before .before .before .before .before .before .before .before .before .before .pre .1, c .before .before .before .before .before .before .before .before .before .before .pre .2, rw (request-now _ _ _ _ _ _ (c .before .before .before .before .before .request-port .ensures) (c .before .before .if1 .taken)) at (c .before .before .before .before .before .before .before .before .before .before .pre .3))
+arbitrate-one-requires c κs =
+    record { laid = entry c .pre .laid; few = entry c .pre .few; port = entry c .pre .port; safe = rw (request-now _ _ _ _ _ _ (c .before .before .before .before .before .request-port .ensures) (c .before .before .if1 .taken)) at (entry c .pre .safe) }
 
 returns : tie.Need-returns
-returns c = rw (request-now _ _ _ _ _ _ (c .before .before .before .before .before .before .before .before .before .before .request-port .ensures) (c .before .before .before .before .before .before .before .if1 .taken)) (c .before .before .before .before .arbitrate-one .ensures)
+returns c =
+    rw (request-now _ _ _ _ _ _ (after-request-port c .request-port .ensures) (c .before .before .before .before .before .before .before .if1 .taken)) (c .before .before .before .before .arbitrate-one .ensures)
 
 returns-2 : tie.Need-returns-2
-returns-2 c = rw (request-late _ _ _ _ _ _ (c .before .before .before .request-port .ensures) (c .if1 .left)) (ran-start _ _)
+returns-2 c =
+    rw (
+      request-late _ _ _ _ _ _ (c .before .before .before .before .request-port .ensures) (c .before .if1 .left),
+      c .nothing .ensures,
+    )
+    (ran-start _ _)
 
 pub request-spec : {M : Type 1} → statement M
 request-spec =
@@ -22,5 +35,6 @@ request-spec =
     (λ c. search needs)
     (λ c. search needs)
     returns
+    (λ c κs. search needs)
     (λ c. search needs)
     returns-2)

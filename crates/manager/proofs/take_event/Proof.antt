@@ -17,7 +17,7 @@ returns-3 : tie.Need-returns-3
 returns-3 c = short-trace _ _ _ _ _ (told-bound _ _ _ (c .before .before .before .before .before .before .before .before .before .checked .given .1) (c .before .before .before .before .before .before .before .before .before .before .before .check .ensures) (is-accepted _ _ _ (c .before .before .before .before .before .before .before .before .before .checked .given .1) (c .before .before .before .before .before .before .before .before .before .before .before .check .ensures))) (is-accepted _ _ _ (c .before .before .before .before .before .before .before .before .before .checked .given .1) (c .before .before .before .before .before .before .before .before .before .before .before .check .ensures)) (sym (c .before .before .before .before .before .before .fits2 .ensures) ∙ sym (c .before .before .before .before .before .told .ensures) ∙ ap passes (c .before .before .before .enum-told .given .1)) (sym (c .before .before .told2 .ensures) ∙ ap passes (c .enum-told4 .given .1))
 
 handle-requires : tie.Need-handle-requires
-handle-requires c κs = (c .before .before .read-layout .ensures, few-rules _ _ (is-accepted _ _ _ (c .before .before .before .before .before .before .before .before .before .before .before .before .checked .given .1) (c .before .before .before .before .before .before .before .before .before .before .before .before .before .before .check .ensures)) (c .before .before .read-layout .ensures .rules .value), safe _ _ _ _ _ (told-bound _ _ _ (c .before .before .before .before .before .before .before .before .before .before .before .before .checked .given .1) (c .before .before .before .before .before .before .before .before .before .before .before .before .before .before .check .ensures) (is-accepted _ _ _ (c .before .before .before .before .before .before .before .before .before .before .before .before .checked .given .1) (c .before .before .before .before .before .before .before .before .before .before .before .before .before .before .check .ensures))) (is-accepted _ _ _ (c .before .before .before .before .before .before .before .before .before .before .before .before .checked .given .1) (c .before .before .before .before .before .before .before .before .before .before .before .before .before .before .check .ensures)) (sym (c .before .before .before .before .before .told2 .ensures) ∙ ap passes (c .before .before .before .enum-told3 .given .1)))
+handle-requires c κs = record { laid = c .before .before .read-layout .ensures; few = few-rules _ _ (is-accepted _ _ _ (c .before .before .before .before .before .before .before .before .before .before .before .before .checked .given .1) (c .before .before .before .before .before .before .before .before .before .before .before .before .before .before .check .ensures)) (c .before .before .read-layout .ensures .rules .value); safe = safe _ _ _ _ _ (told-bound _ _ _ (c .before .before .before .before .before .before .before .before .before .before .before .before .checked .given .1) (c .before .before .before .before .before .before .before .before .before .before .before .before .before .before .check .ensures) (is-accepted _ _ _ (c .before .before .before .before .before .before .before .before .before .before .before .before .checked .given .1) (c .before .before .before .before .before .before .before .before .before .before .before .before .before .before .check .ensures))) (is-accepted _ _ _ (c .before .before .before .before .before .before .before .before .before .before .before .before .checked .given .1) (c .before .before .before .before .before .before .before .before .before .before .before .before .before .before .check .ensures)) (sym (c .before .before .before .before .before .told2 .ensures) ∙ ap passes (c .before .before .before .enum-told3 .given .1)) }
 
 returns-4 : tie.Need-returns-4
 returns-4 c = rw (goes-on _ _ _ _ _ (told-bound _ _ _ (c .before .before .before .before .before .before .before .before .before .before .before .before .before .before .before .before .before .checked .given .1) (c .before .before .before .before .before .before .before .before .before .before .before .before .before .before .before .before .before .before .before .check .ensures) (is-accepted _ _ _ (c .before .before .before .before .before .before .before .before .before .before .before .before .before .before .before .before .before .checked .given .1) (c .before .before .before .before .before .before .before .before .before .before .before .before .before .before .before .before .before .before .before .check .ensures))) (is-accepted _ _ _ (c .before .before .before .before .before .before .before .before .before .before .before .before .before .before .before .before .before .checked .given .1) (c .before .before .before .before .before .before .before .before .before .before .before .before .before .before .before .before .before .before .before .check .ensures)) (sym (c .before .before .before .before .before .before .before .before .before .before .before .before .before .before .fits2 .ensures) ∙ sym (c .before .before .before .before .before .before .before .before .before .before .before .before .before .told .ensures) ∙ ap passes (c .before .before .before .before .before .before .before .before .before .before .before .enum-told .given .1)) (sym (c .before .before .before .before .before .before .before .before .before .before .told2 .ensures) ∙ ap passes (c .before .before .before .before .before .before .before .before .enum-told3 .given .1))) (c .before .before .before .before .handle .ensures)

@@ -6,7 +6,7 @@ use Rattle.session.proofs.take_one.Statement.{statement}
 use Rattle.session.proofs.take_one.Tie as tie
 
 handle-requires : tie.Need-handle-requires
-handle-requires c κs = (c .before .before .before .before .before .before .pre .0, few-rules _ _ (c .before .before .before .before .before .before .pre .1 .table) (c .before .before .before .before .before .before .pre .0 .rules .value), run-safe _ _ _ _ (c .before .before .before .before .before .before .pre .1))
+handle-requires c κs = record { laid = c .before .before .before .before .before .before .pre .0; few = few-rules _ _ (c .before .before .before .before .before .before .pre .1 .table) (c .before .before .before .before .before .before .pre .0 .rules .value); safe = run-safe _ _ _ _ (c .before .before .before .before .before .before .pre .1) }
 
 lay-lines-requires : tie.Need-lay-lines-requires
 lay-lines-requires c κs = let r = c .before .before .before .before .before .before .before .before .before .handle .result in let h = c .before .before .before .before .before .before .before .before .before .handle .ensures in let a = c .before .before .before .before .number .ensures in let b = c .before .before .before .count .ensures in let ok = c .before .before .before .before .before .before .before .before .before .before .before .before .before .before .before .before .pre .1 in (number-small _ _ _ _ ok r _ _ h _ _ a b, count-few _ _ _ _ ok r _ _ h _ _ a b, room-enough _ _ _ _ ok r _ _ h _ _ a b _ _ (c .before .before .before .before .before .before .before .before .before .before .before .before .before .before .before .before .pre .2))

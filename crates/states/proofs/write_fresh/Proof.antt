@@ -1,11 +1,11 @@
 -- `states::write_fresh` meets its contract. The loop's invariant: the words passed are the fresh state's. Assumes nothing.
 use Prim.Native.Nat.{ℕ, _-_, _≤_, _<_}
 use mathlib.Core.Path.{_≡_, refl, ap, _∙_}
-use native.Mathlib.Omega.{arith}
 use lib.ListN.{length, length-set, getD}
 use Rattle.rulebook.specs.State.{freshAt}
 use Rattle.words.proofs.Fill.{set-more}
 use Rattle.states.proofs.Making.{fresh-here, all-fresh}
+use native.Mathlib.Omega.{arith}
 use Rattle.states.proofs.write_fresh.Statement.{statement}
 use Rattle.states.proofs.write_fresh.Tie as tie
 
@@ -15,27 +15,33 @@ Inv-loop t h s₀ end i₀ s i = (i ≤ end) × (length s ≡ end) × ((k : ℕ)
 abbrev μ-loop : tie.MeasureT-loop
 μ-loop t h s₀ end i₀ s i = end - i
 
+abbrev in-loop : tie.After-slice-known2 Inv-loop μ-loop → tie.In-loop Inv-loop μ-loop
+in-loop c = c .before .before .before .before .before .before
+
 loop-holds : tie.Need-loop-holds Inv-loop μ-loop
 loop-holds c = (omega arith, refl, λ k h. absurd (omega arith))
 
 thing-at-requires : tie.Need-thing-at-requires Inv-loop μ-loop
-thing-at-requires c κs = (c .before .before .before .before .pre .0, omega (arith, c .before .before .before .before .pre .1, c .loop-test .taken))
+thing-at-requires c κs =
+    record { laid = c .before .before .before .before .pre .laid; inside = omega (arith, c .before .before .before .before .pre .long, c .loop-test .taken) }
 
 fresh-word-requires : tie.Need-fresh-word-requires Inv-loop μ-loop
-fresh-word-requires c κs = c .before .before .before .before .before .pre .0
+fresh-word-requires c κs = c .before .before .before .before .before .pre .laid
 
 loop-again : tie.Need-loop-again Inv-loop μ-loop
 loop-again c = (
   omega arith,
-  ap length (c .before .before .put .ensures) ∙ simp length-set (c .before .before .before .before .before .before .before .loop .inv .1),
-  rw (c .before .before .put .ensures) (set-more (λ k w. w ≡ freshAt (c .before .before .before .before .before .before .before .before .before .before .args .t .now) k) (c .before .before .before .before .before .before .before .loop .s) (c .before .before .before .before .before .before .before .loop .i) (c .before .before .before .before .fresh-word .result) (omega (arith, c .before .before .before .before .before .before .before .loop .inv .1, c .before .before .before .before .before .before .loop-test .taken)) (fresh-here _ _ _ _ (c .before .before .before .before .fresh-word .ensures) (c .before .before .before .before .before .thing-at .ensures)) (c .before .before .before .before .before .before .before .loop .inv .2)),
+  ap length (c .before .before .put .ensures) ∙ simp length-set (in-loop c .before .loop .inv .1),
+  rw (c .before .before .put .ensures)
+      (set-more (λ k w. w ≡ freshAt (in-loop c .before .before .before .before .args .t .now) k) (in-loop c .before .loop .s) (in-loop c .before .loop .i) (c .before .before .before .before .fresh-word .result) (omega (arith, in-loop c .before .loop .inv .1, in-loop c .loop-test .taken))
+      (fresh-here _ _ _ _ (c .before .before .before .before .fresh-word .ensures) (c .before .before .before .before .before .thing-at .ensures)) (in-loop c .before .loop .inv .2)),
 )
 
 same-length : tie.Need-same-length Inv-loop μ-loop
 same-length c = c .before .loop .inv .1
 
 returns : tie.Need-returns Inv-loop μ-loop
-returns c = all-fresh _ _ _ (c .before .loop .inv .1) (c .before .before .before .before .pre .1) (λ k h. c .before .loop .inv .2 k (omega arith))
+returns c = all-fresh _ _ _ (c .before .loop .inv .1) (c .before .before .before .before .pre .long) (λ k h. c .before .loop .inv .2 k (omega arith))
 
 pub write-fresh-spec : {M : Type 1} → statement M
 write-fresh-spec =

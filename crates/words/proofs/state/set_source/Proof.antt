@@ -1,8 +1,8 @@
--- `things::sources::set_source` meets its contract: the word packed is the one that the rulebook sets. Assumes nothing.
+-- `words::state::set_source` meets its contract: the word packed is the one that the rulebook sets. Assumes nothing.
 use Rattle.rulebook.specs.Events.{setSource}
 use borrow.Author.Needs.{needs}
-use Rattle.things.proofs.sources.set_source.Statement.{statement}
-use Rattle.things.proofs.sources.set_source.Tie as tie
+use Rattle.words.proofs.state.set_source.Statement.{statement}
+use Rattle.words.proofs.state.set_source.Tie as tie
 
 source-index-requires : tie.Need-source-index-requires
 source-index-requires c κs = c .before .before .pre

@@ -1,8 +1,8 @@
--- `things::networks::set_network` meets its contract: the word packed is the one that the rulebook sets. Assumes nothing.
+-- `words::state::set_network` meets its contract: the word packed is the one that the rulebook sets. Assumes nothing.
 use Rattle.rulebook.specs.Lists.{setNetwork}
 use borrow.Author.Needs.{needs}
-use Rattle.things.proofs.networks.set_network.Statement.{statement}
-use Rattle.things.proofs.networks.set_network.Tie as tie
+use Rattle.words.proofs.state.set_network.Statement.{statement}
+use Rattle.words.proofs.state.set_network.Tie as tie
 
 network-index-requires : tie.Need-network-index-requires
 network-index-requires c κs = c .before .before .pre
