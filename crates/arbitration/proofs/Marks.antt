@@ -47,7 +47,8 @@ pub record MarkedBefore (p : ℕ) (t s flags : List ℕ) : Type 0 where
 pub marked-start : (t s : List ℕ) → MarkedBefore 0 t s (replicate 256 0)
 marked-start t s = record { long = refl; says = λ k h. absurd (omega arith); rest = λ k h. none-of-zeros 256 k }
 
-pub marked-more : (p v : ℕ) (t s flags : List ℕ) (b : Bool) → p < 256 → MarkedBefore p t s flags → v ≡ cond b 1 0 → b ≡ markedIn t s p → MarkedBefore (p + 1) t s (set flags p v)
+pub marked-more : (p v : ℕ) (t s flags : List ℕ) (b : Bool) → p < 256 → MarkedBefore p t s flags → v ≡ cond b 1 0 → b ≡ markedIn t s p
+    → MarkedBefore (p + 1) t s (set flags p v)
 marked-more p v t s flags b inside m hv hb =
     let room : p < length flags = rw (m .long) inside in
     record {
@@ -83,7 +84,8 @@ any-none p i (suc n) h = rw (h i) (any-none p (suc i) n h)
 module _ (t : List ℕ) (q : ℕ → Bool) (none : (p : ℕ) → q p ≡ false) where
   level-none : (below : ℕ → Bool) → ((e : ℕ) → below e ≡ false) → (e : ℕ) → expressionMentions t q below e ≡ false
   unfolding expressionMentions
-  level-none below h e = split (operator t e) (λ y. rw (y, expressionMentions) (rw (h (left t e), h (right t e), and-false))) (λ y. rw (y, expressionMentions) (none _))
+  level-none below h e =
+      split (operator t e) (λ y. rw (y, expressionMentions) (rw (h (left t e), h (right t e), and-false))) (λ y. rw (y, expressionMentions) (none _))
 
   mentions-none : (d e : ℕ) → mentions d t q e ≡ false
   unfolding mentions

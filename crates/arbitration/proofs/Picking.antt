@@ -150,7 +150,8 @@ module _ (t flags : List ℕ) (l : ℕ) (b : Best t flags (lists t) l) where
   pub chosen-end : lists t ≤ l → (x : Run) → runChosen t (flagged flags) (order t) x ≡ x
   chosen-end h x =
       none-chosen t (flagged flags) (order t) x
-      (each-weaker _ (λ k. flagged flags k ≡ false) (order t) (λ k z. split (flagged flags k) (λ u. absurd (past (b .first k z u .0) h)) (λ u. u)) (order-there t))
+      (each-weaker _ (λ k. flagged flags k ≡ false) (order t) (λ k z. split (flagged flags k) (λ u. absurd (past (b .first k z u .0) h)) (λ u. u))
+      (order-there t))
     where
       past : l < lists t → lists t ≤ l → ⊥
       past a b = omega arith

@@ -36,7 +36,8 @@ module _ (whole : Run) (rest : Run → Run) (framed : Framed rest) (x : Run) (ru
   begin-room : length (x .words) ≤ length before
   begin-room =
       let a : length (whole .words) ≤ length before = safe .room in
-      let b : length (whole .words) ≡ length (x .words) + length (rest (start (x .state)) .words) = ap length begin-words ∙ length-append (x .words) (rest (start (x .state)) .words) in
+      let b : length (whole .words) ≡ length (x .words) + length (rest (start (x .state)) .words) =
+      ap length begin-words ∙ length-append (x .words) (rest (start (x .state)) .words) in
       omega arith
 
   begin-shallow : x .deep ≡ false
@@ -118,7 +119,8 @@ module _ (whole : Run) (f rest : Run → Run) (ff : Framed f) (fr : Framed rest)
   next-room : at + length (f (start s) .words) ≤ length T
   next-room =
       let r : length (f (sofar s T at) .words) ≤ length before = begin-room whole rest fr (f (sofar s T at)) (a .run) before safe in
-      let e : length (f (sofar s T at) .words) ≡ length (take at T) + length (f (start s) .words) = ap length next-words ∙ length-append (take at T) (f (start s) .words) in
+      let e : length (f (sofar s T at) .words) ≡ length (take at T) + length (f (start s) .words) =
+      ap length next-words ∙ length-append (take at T) (f (start s) .words) in
       let k = front in
       let g = a .long in
       omega arith
@@ -148,13 +150,18 @@ module _ (whole : Run) (f rest : Run → Run) (ff : Framed f) (fr : Framed rest)
         (sym (append-assoc (take at T) (f (start s) .words) (drop (at + n) T))))
 
     done-long : length done ≡ at + n
-    done-long = let e : length done ≡ length (take at T) + length (f (start s) .words) = length-append (take at T) (f (start s) .words) in let k = front in let j = m in omega arith
+    done-long =
+        let e : length done ≡ length (take at T) + length (f (start s) .words) = length-append (take at T) (f (start s) .words) in
+        let k = front in
+        let j = m in
+        omega arith
 
     pub next : Along whole rest before s' (putMid at (length T - at) T part') (plus w v)
     next =
         let room = next-room in
         let j = m in
-        let l : length (done ++ drop (at + n) T) ≡ length done + (length T - (at + n)) = length-append done (drop (at + n) T) ∙ ap (λ (k : ℕ). length done + k) (length-drop (at + n) T) in
+        let l : length (done ++ drop (at + n) T) ≡ length done + (length T - (at + n)) =
+        length-append done (drop (at + n) T) ∙ ap (λ (k : ℕ). length done + k) (length-drop (at + n) T) in
         let d = done-long in
         let g = a .long in
         rw whole-again

@@ -79,7 +79,8 @@ module _ (t : List ℕ) (d o i end : ℕ) (whole : Run) (before s T : List ℕ) 
 
 -- a rule item
 module _ (t : List ℕ) (d o r : ℕ) (s T : List ℕ) (safe : Safe (runRule (runList d t) t o r (start s)) T) where
-  pub rule-undefined : unready t s r ≡ true → (v : ℕ) (T' : List ℕ) → v ≡ traceWord 6 o r 2 → T' ≡ set T 0 v → Ran (runRule (runList d t) t o r (start s)) s T T' oneWord
+  pub rule-undefined : unready t s r ≡ true → (v : ℕ) (T' : List ℕ) → v ≡ traceWord 6 o r 2 → T' ≡ set T 0 v
+      → Ran (runRule (runList d t) t o r (start s)) s T T' oneWord
   rule-undefined u v T' hv hT =
       let run = rule-unready (runList d t) t o r (start s) u in
       ran-as _ _ s T T' oneWord run (one-ran (emit (traceWord 6 o r 2) (start s)) s T T' v (rw hv) (safe-as _ _ T run safe) refl hT)

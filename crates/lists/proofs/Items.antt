@@ -8,7 +8,8 @@ use borrow.Author.Tests.{eq-eqb, ne-eqb}
 use Rattle.rulebook.specs.Words.{word}
 use Rattle.rulebook.specs.Table.{reload, itemKind, itemA}
 use Rattle.rulebook.specs.State.{markedOf}
-use Rattle.rulebook.specs.Lists.{Run, start, emit, traceWord, traceListStart, setPort, networkIn, asking, setNetwork, resultIn, previousIn, choice, choiceIn, setResult, effect, act, judge, runRule, runItem, runItems, runList}
+use Rattle.rulebook.specs.Lists.{Run, start, emit, traceWord, traceListStart, setPort, networkIn, asking, setNetwork, resultIn, previousIn, choice}
+use Rattle.rulebook.specs.Lists.{choiceIn, setResult, effect, act, judge, runRule, runItem, runItems, runList}
 use Rattle.walks.proofs.Walks.{whole}
 use Rattle.laws.proofs.Tests.{clash}
 use Rattle.laws.proofs.Cases.{item-list, item-rule, item-act}
@@ -56,7 +57,12 @@ module _ (t : List ℕ) (i : ℕ) (x : Item) (is : ItemAt t i x) where
     pub stops : (k ≡ 1 → ⊥) → (k ≡ 2 → ⊥) → k ≡ 3 → setPort (x .a) 1 0 0 s ≡ effect t i s
     unfolding effect
     stops n₁ n₂ h =
-        rw (names-it, ne-eqb (itemKind t i) 1 (λ e. n₁ (kind-is ∙ e)), ne-eqb (itemKind t i) 2 (λ e. n₂ (kind-is ∙ e)), eq-eqb (itemKind t i) 3 (sym kind-is ∙ h))
+        rw (
+          names-it,
+          ne-eqb (itemKind t i) 1 (λ e. n₁ (kind-is ∙ e)),
+          ne-eqb (itemKind t i) 2 (λ e. n₂ (kind-is ∙ e)),
+          eq-eqb (itemKind t i) 3 (sym kind-is ∙ h),
+        )
 
     pub asks : (k ≡ 1 → ⊥) → (k ≡ 2 → ⊥) → (k ≡ 3 → ⊥) → k ≡ 4 → setNetwork t (x .a) (asking (x .b) (networkIn t (x .a) s)) s ≡ effect t i s
     unfolding effect

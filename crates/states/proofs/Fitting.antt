@@ -1,26 +1,13 @@
--- The fields of a network as read, and the exits of the state check. Assumes nothing.
+-- The exits of the state check. Assumes nothing.
 use Prim.Native.Nat.{ℕ, _-_}
-use mathlib.Core.Path.{_≡_, sym, ap, _∙_}
+use mathlib.Core.Path.{_≡_, sym, _∙_}
 use mathlib.Core.Bool.{Bool, false}
 use mathlib.Core.List.{List}
 use native.Mathlib.Nat.{sub-zero}
 use lib.ListN.{length}
 use borrow.Author.Tests.{eq-eqb, ne-eqb}
 use Rattle.rulebook.specs.Words.{word, all}
-use Rattle.rulebook.specs.State.{Thing, Network, thing, stateLength, thingFits, fitsAt, fits}
-
-module _ {a b : Network} (same : a ≡ b) where
-  pub same-asked : a .asked ≡ b .asked
-  same-asked = ap (λ (c : Network). c .asked) same
-
-  pub same-state : a .state ≡ b .state
-  same-state = ap (λ (c : Network). c .state) same
-
-  pub same-counter : a .counter ≡ b .counter
-  same-counter = ap (λ (c : Network). c .counter) same
-
-  pub same-remaining : a .remaining ≡ b .remaining
-  same-remaining = ap (λ (c : Network). c .remaining) same
+use Rattle.rulebook.specs.State.{Thing, thing, stateLength, thingFits, fitsAt, fits}
 
 module _ (t s : List ℕ) (n : ℕ) (asked : n ≡ stateLength t) where
   pub wrong-length : (length s ≡ n → ⊥) → false ≡ fits t s

@@ -15,7 +15,8 @@ use Rattle.rulebook.specs.Reasons.{check, accepted}
 use Rattle.rulebook.specs.State.{Thing, thing, freshThing, freshAt, fresh, freshAnswer, freshState, stateLength}
 use Rattle.walks.proofs.Walks.{length-listed, getD-listed}
 use Rattle.tables.specs.declared.Checked.{Checked}
-use Rattle.tables.specs.declared.Checked.the-variants.{Accepted, TooShort, WrongEdition, WrongCounts, WrongLength as LengthDiffers, Misfit, Misnamed, TooDeep, OwnersClash, TooDear}
+use Rattle.tables.specs.declared.Checked.the-variants.{Accepted, TooShort, WrongEdition, WrongCounts, WrongLength as LengthDiffers, Misfit, Misnamed}
+use Rattle.tables.specs.declared.Checked.the-variants.{TooDeep, OwnersClash, TooDear}
 use Rattle.tables.proofs.Checked.{the-type}
 use Rattle.tables.specs.Told.{Told, told, promised}
 use Rattle.states.specs.declared.Made.{Made}

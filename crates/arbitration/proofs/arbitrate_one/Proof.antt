@@ -14,20 +14,21 @@ entry c = c .before .before .before .before .before .before .before .before .bef
 
 arbitrate-requires : tie.Need-arbitrate-requires
 arbitrate-requires c κs =
-    record { laid = c .before .before .before .before .before .before .pre .laid; few = c .before .before .before .before .before .before .pre .few; safe = safe-as _ _ _ (ap (λ (q : ℕ → Bool). arbitrate (c .before .before .before .before .before .before .args .t .now) q (c .before .before .before .before .before .before .args .s .now)) (only-one _ (c .before .before .before .before .before .before .pre .port))) (c .before .before .before .before .before .before .pre .safe) }
+    record {
+      laid = c .before .before .before .before .before .before .pre .laid;
+      few = c .before .before .before .before .before .before .pre .few;
+      safe = safe-as _ _ _ (ap (λ (q : ℕ → Bool). arbitrate (c .before .before .before .before .before .before .args .t .now) q
+          (c .before .before .before .before .before .before .args .s .now)) (only-one _ (c .before .before .before .before .before .before .pre .port)))
+          (c .before .before .before .before .before .before .pre .safe);
+    }
 
 returns : tie.Need-returns
 returns c =
-    ran-as _ _ _ _ _ _ (ap (λ (q : ℕ → Bool). arbitrate (entry c .args .t .now) q (entry c .args .s .now)) (only-one _ (entry c .pre .port))) (c .before .before .before .before .arbitrate .ensures)
+    ran-as _ _ _ _ _ _ (ap (λ (q : ℕ → Bool). arbitrate (entry c .args .t .now) q (entry c .args .s .now)) (only-one _ (entry c .pre .port)))
+    (c .before .before .before .before .arbitrate .ensures)
 
 pub arbitrate-one-spec : {M : Type 1} → statement M
 arbitrate-one-spec =
     tie.close
     (tie.spec
-    (λ c. search needs)
-    (λ c. search needs)
-    (λ c. search needs)
-    arbitrate-requires
-    (λ c. search needs)
-    (λ c. search needs)
-    returns)
+    (λ c. search needs) (λ c. search needs) (λ c. search needs) arbitrate-requires (λ c. search needs) (λ c. search needs) returns)

@@ -6,11 +6,8 @@ use borrow.Author.Needs.{needs}
 use Rattle.arbitration.proofs.better.Statement.{statement}
 use Rattle.arbitration.proofs.better.Tie as tie
 
-abbrev entry : tie.Then2 → tie.Start
-entry c = c .before .before .before .before .before .before .before .before .before
-
-abbrev entry-2 : tie.Else2 → tie.Start
-entry-2 c = c .before .before .before .before .before .before .before .before .before
+abbrev entry : tie.After-struct-known2 → tie.Start
+entry c = c .before .before .before .before .before .before .before .before
 
 returns : tie.Need-returns
 unfolding better
@@ -21,7 +18,7 @@ unfolding better
 returns-2 c =
     rw (
       sym (c .before .before .before .before .before .before .flag .ensures) ∙ not-false _ (c .before .before .before .before .before .if1 .left),
-      ← entry c .pre .lists .value,
+      ← entry (c .before) .pre .lists .value,
       ← c .before .before .before .before .list-at .ensures .priority .value,
       ← c .before .before .before .list-at2 .ensures .priority .value,
       c .if2 .taken,
@@ -32,7 +29,7 @@ unfolding better
 returns-3 c =
     rw (
       sym (c .before .before .before .before .before .before .flag .ensures) ∙ not-false _ (c .before .before .before .before .before .if1 .left),
-      ← entry-2 c .pre .lists .value,
+      ← entry (c .before) .pre .lists .value,
       ← c .before .before .before .before .list-at .ensures .priority .value,
       ← c .before .before .before .list-at2 .ensures .priority .value,
       c .if2 .left,

@@ -9,6 +9,7 @@ use Rattle.words.specs.Flags.{flagged}
 use Rattle.arbitration.specs.Outcomes.{choosesBy}
 use Rattle.arbitration.proofs.Passes.{chose-none, chose-more, chose-all}
 use native.Mathlib.Omega.{arith}
+use borrow.Author.Needs.{needs}
 use Rattle.arbitration.proofs.choose.Statement.{statement}
 use Rattle.arbitration.proofs.choose.Tie as tie
 
@@ -24,11 +25,12 @@ abbrev entry : tie.After-slice-known2 Inv-loop μ-loop → tie.Start Inv-loop μ
 entry c = c .before .before .before .before .before .before .before .before .before .before .before
 
 loop-holds : tie.Need-loop-holds Inv-loop μ-loop
-loop-holds c =
-    (omega arith, ap length (c .before .before .before .before .pre .down), λ k. rw (c .before .before .before .before .pre .down) (chose-none _ _ _ _ k))
-
-pick-requires : tie.Need-pick-requires Inv-loop μ-loop
-pick-requires c κs = c .before .before .before .before .before .before .pre .laid
+loop-holds c = (
+  omega arith,
+  ap length (c .before .before .before .before .pre .down),
+  λ k. rw (c .before .before .before .before .pre .down)
+      (chose-none _ _ _ _ k),
+)
 
 add-r : tie.Need-add-r Inv-loop μ-loop
 add-r c = omega (arith, c .before .before .before .before .before .loop-test .taken, entry c .pre .laid .rules .small)
@@ -41,7 +43,9 @@ loop-again c = (
   omega (arith, c .before .before .before .before .before .loop-test .taken),
   c .before .before .put .kept .0 ∙ c .before .before .before .before .before .before .loop .inv .1,
   λ k. rw (c .before .before .put .ensures)
-      (chose-more _ _ _ _ _ _ (c .before .before .before .before .before .before .loop .inv .1) (c .before .before .before .before .pick .ensures) _ k (omega (arith, c .before .before .before .before .before .loop-test .taken, entry c .pre .laid .rules .value)) (c .before .before .before .before .before .before .loop .inv .2 k)),
+      (chose-more _ _ _ _ _ _ (c .before .before .before .before .before .before .loop .inv .1) (c .before .before .before .before .pick .ensures) _ k
+      (omega (arith, c .before .before .before .before .before .loop-test .taken, entry c .pre .laid .rules .value))
+      (c .before .before .before .before .before .before .loop .inv .2 k)),
 )
 
 same-length : tie.Need-same-length Inv-loop μ-loop
@@ -49,8 +53,11 @@ same-length c = c .before .loop .inv .1 ∙ sym (ap length (c .before .before .b
 
 returns : tie.Need-returns Inv-loop μ-loop
 returns c =
-    chose-all _ _ _ _ _ (c .before .loop .inv .1) (omega (arith, c .loop-test .left, c .before .before .before .before .before .before .pre .laid .rules .value)) (c .before .loop .inv .2)
+    chose-all _ _ _ _ _ (c .before .loop .inv .1) (omega
+    (arith, c .loop-test .left, c .before .before .before .before .before .before .pre .laid .rules .value)) (c .before .loop .inv .2)
 
 pub choose-spec : {M : Type 1} → statement M
 choose-spec =
-    tie.close (tie.spec Inv-loop μ-loop loop-holds pick-requires (λ c. omega arith) (λ c κs. tt) add-r loop-less loop-again same-length returns)
+    tie.close
+    (tie.spec
+    Inv-loop μ-loop loop-holds (λ c κs. search needs) (λ c. omega arith) (λ c κs. tt) add-r loop-less loop-again same-length returns)

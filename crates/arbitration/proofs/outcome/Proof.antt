@@ -7,6 +7,9 @@ use borrow.Author.Needs.{needs}
 use Rattle.arbitration.proofs.outcome.Statement.{statement}
 use Rattle.arbitration.proofs.outcome.Tie as tie
 
+abbrev after-rule-at : tie.After-result → tie.After-rule-at
+after-rule-at c = c .before .before .before .before .before .before .before
+
 returns : tie.Need-returns
 unfolding outcome evaluated
 returns c = rw (← c .before .before .rule-at .ensures .nested-only .value, ne-eqb _ _ (c .if1 .taken))
@@ -36,9 +39,9 @@ returns-4 : tie.Need-returns-4
 unfolding outcome evaluated
 returns-4 c =
     rw (
-      ← c .before .before .before .before .before .before .before .rule-at .ensures .nested-only .value,
+      ← after-rule-at c .rule-at .ensures .nested-only .value,
       eq-eqb _ _ (c .before .before .before .before .before .if1 .left),
-      ← c .before .before .before .before .before .before .before .rule-at .ensures .expression .value,
+      ← after-rule-at c .rule-at .ensures .expression .value,
       sym (c .before .before .before .before .mentions .ensures) ∙ not-false _ (c .before .before .before .if2 .left),
       sym (c .before .before .unready .ensures) ∙ c .before .if3 .left,
     )
@@ -48,11 +51,4 @@ pub outcome-spec : {M : Type 1} → statement M
 outcome-spec =
     tie.close
     (tie.spec
-    (λ c κs. search needs)
-    returns
-    (λ c κs. search needs)
-    returns-2
-    (λ c κs. search needs)
-    returns-3
-    (λ c κs. search needs)
-    returns-4)
+    (λ c κs. search needs) returns (λ c κs. search needs) returns-2 (λ c κs. search needs) returns-3 (λ c κs. search needs) returns-4)

@@ -26,46 +26,57 @@ Inv-loop t h flags₀ s₀ trace₀ lists written₀ l₀ flags s trace written 
 abbrev μ-loop : tie.MeasureT-loop
 μ-loop t h flags₀ s₀ trace₀ lists written₀ l₀ flags s trace written l = sum 0 lists (upIn flags)
 
-abbrev entry : tie.After-best-arg2 Inv-loop μ-loop → tie.Start Inv-loop μ-loop
-entry c = c .before .before .before .before .before .before .before .before .before .before .before .before .before .before .before .before .before .before .before .before .before .before
+abbrev entry : tie.After-loop Inv-loop μ-loop → tie.Start Inv-loop μ-loop
+entry c = c .before .before .before .before .before .before .before .before .before
 
 abbrev entry-2 : tie.After-run-list-arg Inv-loop μ-loop → tie.Start Inv-loop μ-loop
 entry-2 c = c .before .before .before .before .before .before .before .before .before .before .before .before .before .before
 
-abbrev entry-3 : tie.After-run-list-arg2 Inv-loop μ-loop → tie.Start Inv-loop μ-loop
-entry-3 c = c .before .before .before .before .before .before .before .before .before .before .before .before .before .before .before
+abbrev entry-3 : tie.After-slice-known6 Inv-loop μ-loop → tie.Start Inv-loop μ-loop
+entry-3 c = entry-2 (c .before .before .before .before .before .before)
 
-abbrev entry-4 : tie.After-slice-known6 Inv-loop μ-loop → tie.Start Inv-loop μ-loop
-entry-4 c = c .before .before .before .before .before .before .before .before .before .before .before .before .before .before .before .before .before .before .before .before
+abbrev entry-4 : tie.After-best2 Inv-loop μ-loop → tie.Start Inv-loop μ-loop
+entry-4 c = entry-3 (c .before .before .before)
 
-abbrev after-put : tie.After-best2 Inv-loop μ-loop → tie.After-put Inv-loop μ-loop
-after-put c = c .before .before .before .before .before .before .before .before .before .before .before .before
+abbrev at-loop : tie.After-run-list-arg2 Inv-loop μ-loop → tie.At-loop Inv-loop μ-loop
+at-loop c = c .before .before .before .before .before .before .before
 
-abbrev entry-5 : tie.After-best2 Inv-loop μ-loop → tie.Start Inv-loop μ-loop
-entry-5 c = c .before .before .before .before .before .before .before .before .before .before .before .before .before .before .before .before .before .before .before .before .before .before .before
+abbrev at-loop-2 : tie.After-best2 Inv-loop μ-loop → tie.At-loop Inv-loop μ-loop
+at-loop-2 c = at-loop (c .before .before .before .before .before .before .before .before)
 
-abbrev entry-6 : tie.After-loop Inv-loop μ-loop → tie.Start Inv-loop μ-loop
-entry-6 c = c .before .before .before .before .before .before .before .before .before
+abbrev after-put : tie.After-slice-known6 Inv-loop μ-loop → tie.After-put Inv-loop μ-loop
+after-put c = c .before .before .before .before .before .before .before .before .before
+
+abbrev after-put-2 : tie.After-best2 Inv-loop μ-loop → tie.After-put Inv-loop μ-loop
+after-put-2 c = after-put (c .before .before .before)
+
+abbrev after-run-list : tie.After-best2 Inv-loop μ-loop → tie.After-run-list Inv-loop μ-loop
+after-run-list c = c .before .before .before .before .before .before .before
 
 -- when the list is back, its flag is down and the loop stands at the next one
 run-next : (c : tie.After-slice-known6 Inv-loop μ-loop)
-    → let a = c .before .before .before .before .before .before .before .before .before .before .before .before .before .before .before .before .before .before .before .before .args in let x = c .before .before .before .before .before .before .before .before .before .before .before .before .loop in
+    → let a = entry-3 c .args in let x = after-put c .before .before .before .loop in
     Along (runChosen (a .t .now) (flagged (a .flags .now)) (order (a .t .now)) (start (a .s .now)))
-    (runChosen (a .t .now) (flagged (c .before .before .before .before .before .before .before .before .before .put .last .0)) (order (a .t .now))) (a .trace .now)
-    (c .before .before .before .before .run-list .last .1 .1 .1 .1 .0) (anew (x .written) (x .trace) (c .before .before .before .before .run-list .last .1 .1 .1 .1 .1 .0)) (plus (x .written) (c .before .before .before .before .run-list .result))
+    (runChosen (a .t .now) (flagged (after-put c .put .last .0)) (order (a .t .now))) (a .trace .now)
+    (c .before .before .before .before .run-list .last .1 .1 .1 .1 .0)
+    (anew (x .written) (x .trace) (c .before .before .before .before .run-list .last .1 .1 .1 .1 .1 .0))
+    (plus (x .written) (c .before .before .before .before .run-list .result))
 run-next c =
-    list-next _ _ _ (c .before .before .before .before .before .before .before .before .before .before .before .before .loop .inv .2) _ _ _ _ _ (c .before .before .before .before .before .before .before .before .before .before .before .before .loop .inv .3) _ (c .before .before .before .before .before .before .before .before .before .put .ensures) (omega (arith, c .before .before .before .before .before .before .before .before .before .before .before .loop-test .taken, c .before .before .before .before .before .before .before .before .before .before .before .before .before .before .before .before .before .before .before .before .pre .laid .lists .value))
-    (c .before .before .before .before .before .before .before .before .before .before .before .before .before .before .before .before .before .before .before .before .pre .safe) _ _ _ (c .before .before .before .before .run-list .ensures)
-
-best-requires : tie.Need-best-requires Inv-loop μ-loop
-best-requires c κs = c .before .before .before .before .before .before .pre .laid
+    list-next _ _ _ (after-put c .before .before .before .loop .inv .2) _ _ _ _ _ (after-put c .before .before .before .loop .inv .3) _
+    (after-put c .put .ensures) (omega (arith, after-put c .before .before .loop-test .taken, entry-3 c .pre .laid .lists .value))
+    (entry-3 c .pre .safe) _ _ _ (c .before .before .before .before .run-list .ensures)
 
 loop-holds : tie.Need-loop-holds Inv-loop μ-loop
 loop-holds c = (refl, refl, c .best .ensures, rw (c .before .before .nothing .ensures) (along-none _ _ _ _ refl))
 
 mul-run-list : tie.Need-mul-run-list Inv-loop μ-loop
 mul-run-list c =
-    omega (arith, c .before .before .before .before .before .before .loop .inv .3 .inside, c .before .before .before .before .before .before .loop .inv .3 .long, entry-2 c .good .1 .1 .1 .1 .0)
+    omega (
+      arith,
+      c .before .before .before .before .before .before .loop .inv .3 .inside,
+      c .before .before .before .before .before .before .loop .inv .3 .long,
+      entry-2 c .good .1 .1 .1 .1 .0,
+    )
 
 sub-run-list : tie.Need-sub-run-list Inv-loop μ-loop
 sub-run-list c = c .before .before .before .before .before .before .loop .inv .3 .inside
@@ -76,26 +87,25 @@ part-run-list-start c = c .before .before .before .before .before .before .loop 
 run-list-requires : tie.Need-run-list-requires Inv-loop μ-loop
 run-list-requires c κs =
     record {
-      laid = entry-3 c .pre .laid;
-      safe = list-safe _ _ _ (c .before .before .before .before .before .before .before .loop .inv .2) _ _ _ _ _ (c .before .before .before .before .before .before .before .loop .inv .3) _ (c .before .before .before .before .put .ensures)
-          (omega (arith, c .before .before .before .before .before .before .loop-test .taken, entry-3 c .pre .laid .lists .value)) (entry-3 c .pre .safe);
+      laid = entry-2 (c .before) .pre .laid;
+      safe = list-safe _ _ _ (at-loop c .loop .inv .2) _ _ _ _ _ (at-loop c .loop .inv .3) _ (c .before .before .before .before .put .ensures)
+          (omega (arith, c .before .before .before .before .before .before .loop-test .taken, entry-2 (c .before) .pre .laid .lists .value))
+          (entry-2 (c .before) .pre .safe);
     }
 
 plus-requires : tie.Need-plus-requires Inv-loop μ-loop
-plus-requires c κs = along-addable _ _ _ _ _ _ _ (run-next c) (omega (arith, entry-4 c .good .1 .1 .1 .1 .0))
-
-best-requires-2 : tie.Need-best-requires-2 Inv-loop μ-loop
-best-requires-2 c κs = entry c .pre .laid
+plus-requires c κs = along-addable _ _ _ _ _ _ _ (run-next c) (omega (arith, entry-3 c .good .1 .1 .1 .1 .0))
 
 loop-less : tie.Need-loop-less Inv-loop μ-loop
 loop-less c =
-    rw (after-put c .put .ensures)
-    (fewer _ _ _ (after-put c .before .before .loop-test .taken) (after-put c .before .before .before .loop .inv .2 .up (omega (arith, after-put c .before .before .loop-test .taken, entry-5 c .pre .laid .lists .value))))
+    rw (after-put-2 c .put .ensures) (fewer _ _ _ (after-put-2 c .before .before .loop-test .taken)
+    (after-put-2 c .before .before .before .loop .inv .2 .up
+    (omega (arith, after-put-2 c .before .before .loop-test .taken, entry-4 c .pre .laid .lists .value))))
 
 loop-again : tie.Need-loop-again Inv-loop μ-loop
 loop-again c = (
-  after-put c .put .kept .0 ∙ after-put c .before .before .before .loop .inv .0,
-  c .before .before .before .before .before .before .before .run-list .kept .1 .1 .1 .1 .0 ∙ after-put c .before .before .before .loop .inv .1,
+  after-run-list c .before .before .before .before .before .put .kept .0 ∙ at-loop-2 c .loop .inv .0,
+  after-run-list c .run-list .kept .1 .1 .1 .1 .0 ∙ at-loop-2 c .loop .inv .1,
   c .best2 .ensures,
   rw (c .before .before .plus .ensures) (run-next (c .before .before .before)),
 )
@@ -111,29 +121,13 @@ same-length-3 c = c .before .loop .inv .3 .long
 
 returns : tie.Need-returns Inv-loop μ-loop
 returns c =
-    chosen-ran _ _ _ (c .before .loop .inv .2) _ _ _ _ _ (c .before .loop .inv .3) (omega (arith, c .loop-test .left, entry-6 c .pre .laid .lists .value))
+    chosen-ran _ _ _ (c .before .loop .inv .2) _ _ _ _ _ (c .before .loop .inv .3)
+    (omega (arith, c .loop-test .left, entry c .pre .laid .lists .value))
 
 pub run-chosen-spec : {M : Type 1} → statement M
 run-chosen-spec =
     tie.close
     (tie.spec
-    Inv-loop
-    μ-loop
-    (λ c κs. tt)
-    best-requires
-    loop-holds
-    (λ c. search needs)
-    (λ c κs. search needs)
-    mul-run-list
-    sub-run-list
-    part-run-list-start
-    (λ c. search needs)
-    run-list-requires
-    plus-requires
-    best-requires-2
-    loop-less
-    loop-again
-    same-length
-    same-length-2
-    same-length-3
-    returns)
+    Inv-loop μ-loop (λ c κs. tt) (λ c κs. search needs) loop-holds (λ c. search needs) (λ c κs. search needs) mul-run-list sub-run-list
+    part-run-list-start (λ c. search needs) run-list-requires plus-requires (λ c κs. search needs) loop-less loop-again same-length same-length-2
+    same-length-3 returns)

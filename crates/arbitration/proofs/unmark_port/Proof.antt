@@ -5,11 +5,14 @@ use borrow.Author.Needs.{needs}
 use Rattle.arbitration.proofs.unmark_port.Statement.{statement}
 use Rattle.arbitration.proofs.unmark_port.Tie as tie
 
+abbrev after-flag : tie.After-slice-known2 → tie.After-flag
+after-flag c = c .before .before .before .before .before .before .before
+
 returns : tie.Need-returns
 unfolding unmarkPort
 returns c =
     rw (
-      sym (c .before .before .before .before .before .before .before .flag .ensures) ∙ c .before .before .before .before .before .before .if1 .taken,
+      sym (after-flag c .flag .ensures) ∙ c .before .before .before .before .before .before .if1 .taken,
       ← c .before .before .before .before .port-in .ensures .defined .value,
       ← c .before .before .before .before .port-in .ensures .value .value,
       ← c .before .before .before .before .port-in .ensures .remaining .value,

@@ -7,16 +7,24 @@ use Rattle.events.proofs.request.Tie as tie
 abbrev entry : tie.After-arbitrate-one-arg2 → tie.Start
 entry c = c .before .before .before .before .before .before .before .before .before .before
 
-abbrev after-request-port : tie.After-slice-known5 → tie.After-request-port
-after-request-port c = c .before .before .before .before .before .before .before .before .before .before
+abbrev then1 : tie.After-slice-known5 → tie.Then1
+then1 c = c .before .before .before .before .before .before .before
 
 arbitrate-one-requires : tie.Need-arbitrate-one-requires
 arbitrate-one-requires c κs =
-    record { laid = entry c .pre .laid; few = entry c .pre .few; port = entry c .pre .port; safe = rw (request-now _ _ _ _ _ _ (c .before .before .before .before .before .request-port .ensures) (c .before .before .if1 .taken)) at (entry c .pre .safe) }
+    record {
+      laid = entry c .pre .laid;
+      few = entry c .pre .few;
+      port = entry c .pre .port;
+      safe = rw
+          (request-now _ _ _ _ _ _ (c .before .before .before .before .before .request-port .ensures) (c .before .before .if1 .taken)) at
+          (entry c .pre .safe);
+    }
 
 returns : tie.Need-returns
 returns c =
-    rw (request-now _ _ _ _ _ _ (after-request-port c .request-port .ensures) (c .before .before .before .before .before .before .before .if1 .taken)) (c .before .before .before .before .arbitrate-one .ensures)
+    rw (request-now _ _ _ _ _ _ (then1 c .before .before .before .request-port .ensures) (then1 c .if1 .taken))
+    (c .before .before .before .before .arbitrate-one .ensures)
 
 returns-2 : tie.Need-returns-2
 returns-2 c =
@@ -30,11 +38,5 @@ pub request-spec : {M : Type 1} → statement M
 request-spec =
     tie.close
     (tie.spec
-    (λ c κs. search needs)
-    arbitrate-one-requires
-    (λ c. search needs)
-    (λ c. search needs)
-    returns
-    (λ c κs. search needs)
-    (λ c. search needs)
+    (λ c κs. search needs) arbitrate-one-requires (λ c. search needs) (λ c. search needs) returns (λ c κs. search needs) (λ c. search needs)
     returns-2)

@@ -13,7 +13,12 @@ after-tick-things c = c .before .before .before .before .before .before .before 
 arbitrate-marked-requires : tie.Need-arbitrate-marked-requires
 unfolding tick
 arbitrate-marked-requires c κs =
-    record { laid = entry c .pre .laid; few = entry c .pre .few; safe = rw (c .before .before .before .before .tick-things .ensures) (entry c .pre .safe) }
+    record {
+      laid = entry c .pre .laid;
+      few = entry c .pre .few;
+      safe = rw (c .before .before .before .before .tick-things .ensures)
+          (entry c .pre .safe);
+    }
 
 returns : tie.Need-returns
 unfolding tick

@@ -13,7 +13,8 @@ use Rattle.laws.proofs.Frame.{list-framed}
 use Rattle.lists.specs.Runs.{oneWord, plus, itemsFrom}
 use Rattle.lists.proofs.Along.{Along, along-none, along-addable}
 use Rattle.lists.proofs.Items.{runs-list, runs-rule, runs-act, level-left, items-framed}
-use Rattle.lists.proofs.Cycle.{safe-as, ran-as, anew, last-safe, last-ran, last-addable, list-begun, items-end, item-safe, item-next, rule-undefined, judge-safe, rule-done, rule-begun}
+use Rattle.lists.proofs.Cycle.{safe-as, ran-as, anew, last-safe, last-ran, last-addable, list-begun, items-end, item-safe, item-next}
+use Rattle.lists.proofs.Cycle.{rule-undefined, judge-safe, rule-done, rule-begun}
 use Rattle.lists.proofs.run_item.Reads as run-item
 use Rattle.lists.proofs.run_item.Kinds as run-item-kinds
 use Rattle.lists.proofs.+run_item+run_items+run_list+run_rule.Lts-run_item as run-item-lts
@@ -133,20 +134,22 @@ module _ (t : ℕ) where
     plus-reads.Learnt,
   )
 
-  abbrev run-item-start : run-item-lts.After-run-list-arg2 run-item-calls run-item-at run-item.Post → run-item-lts.Start run-item-calls run-item-at run-item.Post
-  run-item-start c = c .before .before .before .before .before .before .before .before
+  abbrev run-item-entry : run-item-lts.After-run-list-arg2 run-item-calls run-item-at run-item.Post
+      → run-item-lts.Start run-item-calls run-item-at run-item.Post
+  run-item-entry c = c .before .before .before .before .before .before .before .before
+
+  abbrev run-item-entry-2 : run-item-lts.After-run-rule-arg2 run-item-calls run-item-at run-item.Post
+      → run-item-lts.Start run-item-calls run-item-at run-item.Post
+  run-item-entry-2 c = c .before .before .before .before .before .before .before .before .before .before
+
+  abbrev run-item-entry-3 : run-item-lts.After-act-arg2 run-item-calls run-item-at run-item.Post → run-item-lts.Start run-item-calls run-item-at run-item.Post
+  run-item-entry-3 c = c .before .before .before .before .before .before .before .before .before .before
 
   abbrev run-item-then1 : run-item-lts.After-slice-known4 run-item-calls run-item-at run-item.Post → run-item-lts.Then1 run-item-calls run-item-at run-item.Post
   run-item-then1 c = c .before .before .before .before .before .before .before
 
-  abbrev run-item-after-item-at : run-item-lts.After-run-rule-arg2 run-item-calls run-item-at run-item.Post → run-item-lts.After-item-at run-item-calls run-item-at run-item.Post
-  run-item-after-item-at c = c .before .before .before .before .before .before
-
   abbrev run-item-then2 : run-item-lts.After-slice-known6 run-item-calls run-item-at run-item.Post → run-item-lts.Then2 run-item-calls run-item-at run-item.Post
   run-item-then2 c = c .before .before .before .before .before .before .before
-
-  abbrev run-item-after-item-at-2 : run-item-lts.After-act-arg2 run-item-calls run-item-at run-item.Post → run-item-lts.After-item-at run-item-calls run-item-at run-item.Post
-  run-item-after-item-at-2 c = c .before .before .before .before .before .before
 
   abbrev run-item-else2 : run-item-lts.After-slice-known8 run-item-calls run-item-at run-item.Post → run-item-lts.Else2 run-item-calls run-item-at run-item.Post
   run-item-else2 c = c .before .before .before .before .before .before .before
@@ -155,60 +158,84 @@ module _ (t : ℕ) where
   run-item-item-at-requires c κs = c .before .before .before .pre .1 .laid
 
   run-item-run-list-requires : run-item-lts.Need-run-list-requires run-item-calls run-item-at run-item.Post
-  run-item-run-list-requires c κs =
-      (omega (arith, run-item-start c .pre .0), record { laid = run-item-start c .pre .1 .laid; safe = safe-as _ _ _ (runs-list _ _ _ (c .before .before .before .before .item-at .ensures) _ _ _ (c .before .before .if1 .taken)) (run-item-start c .pre .1 .safe) })
+  run-item-run-list-requires c κs = (
+    omega (arith, run-item-entry c .pre .0),
+    record {
+      laid = run-item-entry c .pre .1 .laid;
+      safe = safe-as _ _ _
+          (runs-list _ _ _ (c .before .before .before .before .item-at .ensures) _ _ _ (c .before .before .if1 .taken)) (run-item-entry c .pre .1 .safe);
+    },
+  )
 
   run-item-returns : run-item-lts.Need-returns run-item-calls run-item-at run-item.Post
   run-item-returns c =
-      ran-as _ _ _ _ _ _ (runs-list _ _ _ (run-item-then1 c .before .before .item-at .ensures) _ _ _ (run-item-then1 c .if1 .taken)) (c .before .before .before .before .run-list .ensures)
+      ran-as _ _ _ _ _ _ (runs-list _ _ _ (run-item-then1 c .before .before .item-at .ensures) _ _ _ (run-item-then1 c .if1 .taken))
+      (c .before .before .before .before .run-list .ensures)
 
   run-item-run-rule-requires : run-item-lts.Need-run-rule-requires run-item-calls run-item-at run-item.Post
-  run-item-run-rule-requires c κs =
-      (omega (arith, run-item-after-item-at c .before .before .before .before .pre .0), record { laid = run-item-after-item-at c .before .before .before .before .pre .1 .laid; safe = safe-as _ _ _ (runs-rule _ _ _ (run-item-after-item-at c .item-at .ensures) _ _ _ (c .before .before .before .before .if1 .left) (c .before .before .if2 .taken)) (run-item-after-item-at c .before .before .before .before .pre .1 .safe) })
+  run-item-run-rule-requires c κs = (
+    omega (arith, run-item-entry-2 c .pre .0),
+    record {
+      laid = run-item-entry-2 c .pre .1 .laid;
+      safe = safe-as _ _ _
+          (runs-rule _ _ _ (c .before .before .before .before .before .before .item-at .ensures) _ _ _ (c .before .before .before .before .if1 .left)
+          (c .before .before .if2 .taken)) (run-item-entry-2 c .pre .1 .safe);
+    },
+  )
 
   run-item-returns-2 : run-item-lts.Need-returns-2 run-item-calls run-item-at run-item.Post
   run-item-returns-2 c =
-      ran-as _ _ _ _ _ _ (runs-rule _ _ _ (run-item-then2 c .before .before .before .before .item-at .ensures) _ _ _ (run-item-then2 c .before .before .if1 .left) (run-item-then2 c .if2 .taken)) (c .before .before .before .before .run-rule .ensures)
+      ran-as _ _ _ _ _ _ (runs-rule _ _ _ (run-item-then2 c .before .before .before .before .item-at .ensures) _ _ _
+      (run-item-then2 c .before .before .if1 .left) (run-item-then2 c .if2 .taken)) (c .before .before .before .before .run-rule .ensures)
 
   run-item-act-requires : run-item-lts.Need-act-requires run-item-calls run-item-at run-item.Post
   run-item-act-requires c κs =
-      record { laid = run-item-after-item-at-2 c .before .before .before .before .pre .1 .laid; safe = safe-as _ _ _ (runs-act _ _ _ (run-item-after-item-at-2 c .item-at .ensures) _ _ _ (c .before .before .before .before .if1 .left) (c .before .before .if2 .left)) (run-item-after-item-at-2 c .before .before .before .before .pre .1 .safe) }
+      record {
+        laid = run-item-entry-3 c .pre .1 .laid;
+        safe = safe-as _ _ _
+            (runs-act _ _ _ (c .before .before .before .before .before .before .item-at .ensures) _ _ _ (c .before .before .before .before .if1 .left)
+            (c .before .before .if2 .left)) (run-item-entry-3 c .pre .1 .safe);
+      }
 
   run-item-returns-3 : run-item-lts.Need-returns-3 run-item-calls run-item-at run-item.Post
   run-item-returns-3 c =
-      ran-as _ _ _ _ _ _ (runs-act _ _ _ (run-item-else2 c .before .before .before .before .item-at .ensures) _ _ _ (run-item-else2 c .before .before .if1 .left) (run-item-else2 c .if2 .left)) (c .before .before .before .before .act .ensures)
+      ran-as _ _ _ _ _ _ (runs-act _ _ _ (run-item-else2 c .before .before .before .before .item-at .ensures) _ _ _
+      (run-item-else2 c .before .before .if1 .left) (run-item-else2 c .if2 .left)) (c .before .before .before .before .act .ensures)
 
-  abbrev run-items-start : run-items-lts.After-run-item-arg run-items-calls run-items-at run-items.Post run-items-Inv-loop run-items-μ-loop → run-items-lts.Start run-items-calls run-items-at run-items.Post run-items-Inv-loop run-items-μ-loop
-  run-items-start c = c .before .before .before .before .before .before .before
+  abbrev run-items-entry : run-items-lts.After-run-item-arg run-items-calls run-items-at run-items.Post run-items-Inv-loop run-items-μ-loop
+      → run-items-lts.Start run-items-calls run-items-at run-items.Post run-items-Inv-loop run-items-μ-loop
+  run-items-entry c = c .before .before .before .before .before .before .before
 
-  abbrev run-items-start-2 : run-items-lts.After-run-item-arg2 run-items-calls run-items-at run-items.Post run-items-Inv-loop run-items-μ-loop → run-items-lts.Start run-items-calls run-items-at run-items.Post run-items-Inv-loop run-items-μ-loop
-  run-items-start-2 c = c .before .before .before .before .before .before .before .before
+  abbrev run-items-entry-2 : run-items-lts.After-slice-known4 run-items-calls run-items-at run-items.Post run-items-Inv-loop run-items-μ-loop
+      → run-items-lts.Start run-items-calls run-items-at run-items.Post run-items-Inv-loop run-items-μ-loop
+  run-items-entry-2 c = run-items-entry (c .before .before .before .before .before .before)
 
-  abbrev run-items-start-3 : run-items-lts.After-slice-known4 run-items-calls run-items-at run-items.Post run-items-Inv-loop run-items-μ-loop → run-items-lts.Start run-items-calls run-items-at run-items.Post run-items-Inv-loop run-items-μ-loop
-  run-items-start-3 c = c .before .before .before .before .before .before .before .before .before .before .before .before .before
-
-  abbrev run-items-in-loop : run-items-lts.After-plus run-items-calls run-items-at run-items.Post run-items-Inv-loop run-items-μ-loop → run-items-lts.In-loop run-items-calls run-items-at run-items.Post run-items-Inv-loop run-items-μ-loop
-  run-items-in-loop c = c .before .before .before .before .before .before .before .before
-
-  abbrev run-items-start-4 : run-items-lts.After-plus run-items-calls run-items-at run-items.Post run-items-Inv-loop run-items-μ-loop → run-items-lts.Start run-items-calls run-items-at run-items.Post run-items-Inv-loop run-items-μ-loop
-  run-items-start-4 c = c .before .before .before .before .before .before .before .before .before .before .before .before .before .before
-
-  abbrev run-items-at-loop : run-items-lts.After-plus run-items-calls run-items-at run-items.Post run-items-Inv-loop run-items-μ-loop → run-items-lts.At-loop run-items-calls run-items-at run-items.Post run-items-Inv-loop run-items-μ-loop
+  abbrev run-items-at-loop : run-items-lts.After-plus run-items-calls run-items-at run-items.Post run-items-Inv-loop run-items-μ-loop
+      → run-items-lts.At-loop run-items-calls run-items-at run-items.Post run-items-Inv-loop run-items-μ-loop
   run-items-at-loop c = c .before .before .before .before .before .before .before .before .before
+
+  abbrev run-items-in-loop : run-items-lts.After-slice-known4 run-items-calls run-items-at run-items.Post run-items-Inv-loop run-items-μ-loop
+      → run-items-lts.In-loop run-items-calls run-items-at run-items.Post run-items-Inv-loop run-items-μ-loop
+  run-items-in-loop c = c .before .before .before .before .before .before .before
 
   -- when the item is back, the loop stands at the next one
   run-items-next : (c : run-items-lts.After-slice-known4 run-items-calls run-items-at run-items.Post run-items-Inv-loop run-items-μ-loop)
-      → let a = c .before .before .before .before .before .before .before .before .before .before .before .before .before .args in let x = c .before .before .before .before .before .before .before .before .loop in
-      Along (itemsFrom (a .t .now) (a .below) (a .o) (a .first) (a .end) (start (a .s .now))) (itemsFrom (a .t .now) (a .below) (a .o) (x .i + 1) (a .end)) (a .trace .now)
-      (c .before .before .before .before .run-item .last .1 .1 .1 .1 .1 .0) (anew (x .written) (x .trace) (c .before .before .before .before .run-item .last .1 .1 .1 .1 .1 .1 .0)) (plus (x .written) (c .before .before .before .before .run-item .result))
-  run-items-next c = item-next _ _ _ _ _ _ _ _ _ _ (c .before .before .before .before .before .before .before .before .loop .inv .1) (c .before .before .before .before .before .before .before .loop-test .taken) (c .before .before .before .before .before .before .before .before .before .before .before .before .before .pre .1 .safe) _ _ _ (c .before .before .before .before .run-item .ensures)
+      → let a = run-items-in-loop c .before .before .before .before .before .before .args in let x = run-items-in-loop c .before .loop in
+      Along (itemsFrom (a .t .now) (a .below) (a .o) (a .first) (a .end) (start (a .s .now)))
+      (itemsFrom (a .t .now) (a .below) (a .o) (x .i + 1) (a .end)) (a .trace .now)
+      (c .before .before .before .before .run-item .last .1 .1 .1 .1 .1 .0)
+      (anew (x .written) (x .trace) (c .before .before .before .before .run-item .last .1 .1 .1 .1 .1 .1 .0))
+      (plus (x .written) (c .before .before .before .before .run-item .result))
+  run-items-next c =
+      item-next _ _ _ _ _ _ _ _ _ _ (run-items-in-loop c .before .loop .inv .1) (run-items-in-loop c .loop-test .taken)
+      (run-items-in-loop c .before .before .before .before .before .before .pre .1 .safe) _ _ _ (c .before .before .before .before .run-item .ensures)
 
   run-items-loop-holds : run-items-lts.Need-loop-holds run-items-calls run-items-at run-items.Post run-items-Inv-loop run-items-μ-loop
   run-items-loop-holds c = (refl, rw (c .nothing .ensures) (along-none _ _ _ _ refl))
 
   run-items-mul-run-item : run-items-lts.Need-mul-run-item run-items-calls run-items-at run-items.Post run-items-Inv-loop run-items-μ-loop
   run-items-mul-run-item c =
-      omega (arith, c .before .before .loop .inv .1 .inside, c .before .before .loop .inv .1 .long, run-items-start c .good .1 .1 .1 .1 .1 .1 .1 .0)
+      omega (arith, c .before .before .loop .inv .1 .inside, c .before .before .loop .inv .1 .long, run-items-entry c .good .1 .1 .1 .1 .1 .1 .1 .0)
 
   run-items-sub-run-item : run-items-lts.Need-sub-run-item run-items-calls run-items-at run-items.Post run-items-Inv-loop run-items-μ-loop
   run-items-sub-run-item c = c .before .before .loop .inv .1 .inside
@@ -217,59 +244,73 @@ module _ (t : ℕ) where
   run-items-part-run-item-start c = c .before .before .loop .inv .1 .inside
 
   run-items-run-item-requires : run-items-lts.Need-run-item-requires run-items-calls run-items-at run-items.Post run-items-Inv-loop run-items-μ-loop
-  run-items-run-item-requires c κs =
-      (omega (arith, run-items-start-2 c .pre .0), record { laid = run-items-start-2 c .pre .1 .laid; safe = item-safe _ _ _ _ _ _ _ _ _ _ (c .before .before .before .loop .inv .1) (c .before .before .loop-test .taken) (run-items-start-2 c .pre .1 .safe) })
+  run-items-run-item-requires c κs = (
+    omega (arith, run-items-entry (c .before) .pre .0),
+    record {
+      laid = run-items-entry (c .before) .pre .1 .laid;
+      safe = item-safe _ _ _ _ _ _ _ _ _ _ (c .before .before .before .loop .inv .1)
+          (c .before .before .loop-test .taken) (run-items-entry (c .before) .pre .1 .safe);
+    },
+  )
 
   run-items-plus-requires : run-items-lts.Need-plus-requires run-items-calls run-items-at run-items.Post run-items-Inv-loop run-items-μ-loop
-  run-items-plus-requires c κs = along-addable _ _ _ _ _ _ _ (run-items-next c) (omega (arith, run-items-start-3 c .good .1 .1 .1 .1 .1 .1 .1 .0))
+  run-items-plus-requires c κs = along-addable _ _ _ _ _ _ _ (run-items-next c) (omega (arith, run-items-entry-2 c .good .1 .1 .1 .1 .1 .1 .1 .0))
 
   run-items-add-i : run-items-lts.Need-add-i run-items-calls run-items-at run-items.Post run-items-Inv-loop run-items-μ-loop
-  run-items-add-i c = omega (arith, run-items-in-loop c .loop-test .taken, run-items-start-4 c .fits .end)
+  run-items-add-i c =
+      omega (
+        arith,
+        run-items-in-loop (c .before) .loop-test .taken,
+        run-items-in-loop
+            (c .before) .before .before .before .before .before .before .fits .end,
+      )
 
   run-items-loop-less : run-items-lts.Need-loop-less run-items-calls run-items-at run-items.Post run-items-Inv-loop run-items-μ-loop
-  run-items-loop-less c = omega (arith, run-items-in-loop c .loop-test .taken)
+  run-items-loop-less c = omega (arith, run-items-in-loop (c .before) .loop-test .taken)
 
   run-items-loop-again : run-items-lts.Need-loop-again run-items-calls run-items-at run-items.Post run-items-Inv-loop run-items-μ-loop
-  run-items-loop-again c =
-      (c .before .before .before .before .before .run-item .kept .1 .1 .1 .1 .1 .0 ∙ run-items-at-loop c .loop .inv .0, rw (c .plus .ensures) (run-items-next (c .before)))
+  run-items-loop-again c = (
+    c .before .before .before .before .before .run-item .kept .1 .1 .1 .1 .1 .0 ∙ run-items-at-loop c .loop .inv .0,
+    rw (c .plus .ensures)
+        (run-items-next (c .before)),
+  )
 
   run-items-returns : run-items-lts.Need-returns run-items-calls run-items-at run-items.Post run-items-Inv-loop run-items-μ-loop
   run-items-returns c = items-end _ _ _ _ _ _ _ _ _ _ (c .before .loop .inv .1) (c .loop-test .left)
 
-  abbrev run-list-after-list-at : run-list-lts.After-struct-known run-list-calls run-list-at run-list.Post → run-list-lts.After-list-at run-list-calls run-list-at run-list.Post
-  run-list-after-list-at c = c .before .before .before .before .before .before
+  abbrev run-list-entry : run-list-lts.After-slice-known3 run-list-calls run-list-at run-list.Post → run-list-lts.Start run-list-calls run-list-at run-list.Post
+  run-list-entry c = c .before .before .before .before .before .before .before .before .before
 
-  abbrev run-list-start : run-list-lts.After-struct-known run-list-calls run-list-at run-list.Post → run-list-lts.Start run-list-calls run-list-at run-list.Post
-  run-list-start c = c .before .before .before .before .before .before .before .before .before .before
+  abbrev run-list-entry-2 : run-list-lts.After-run-items-arg2 run-list-calls run-list-at run-list.Post
+      → run-list-lts.Start run-list-calls run-list-at run-list.Post
+  run-list-entry-2 c = run-list-entry (c .before .before .before)
 
-  abbrev run-list-start-2 : run-list-lts.After-run-items-arg2 run-list-calls run-list-at run-list.Post → run-list-lts.Start run-list-calls run-list-at run-list.Post
-  run-list-start-2 c = c .before .before .before .before .before .before .before .before .before .before .before .before
-
-  abbrev run-list-start-3 : run-list-lts.After-one-word run-list-calls run-list-at run-list.Post → run-list-lts.Start run-list-calls run-list-at run-list.Post
-  run-list-start-3 c = c .before .before .before .before .before .before .before .before .before .before .before .before .before .before .before .before .before .before
-
-  abbrev run-list-after-run-items : run-list-lts.After-plus run-list-calls run-list-at run-list.Post → run-list-lts.After-run-items run-list-calls run-list-at run-list.Post
-  run-list-after-run-items c = c .before .before .before .before .before .before
-
-  abbrev run-list-start-4 : run-list-lts.After-plus run-list-calls run-list-at run-list.Post → run-list-lts.Start run-list-calls run-list-at run-list.Post
-  run-list-start-4 c = c .before .before .before .before .before .before .before .before .before .before .before .before .before .before .before .before .before .before .before
+  abbrev run-list-entry-3 : run-list-lts.After-one-word run-list-calls run-list-at run-list.Post → run-list-lts.Start run-list-calls run-list-at run-list.Post
+  run-list-entry-3 c = run-list-entry-2 (c .before .before .before .before .before .before)
 
   -- the list's first word is written
   run-list-begun : (c : run-list-lts.After-slice-known3 run-list-calls run-list-at run-list.Post)
-      → let a = c .before .before .before .before .before .before .before .before .before .args in let x = c .before .before .before .before .before .list-at .result in
+      → let a = run-list-entry c .args in let x = c .before .before .before .before .before .list-at .result in
       Along (runList (a .levels) (a .t .now) (a .l) (start (a .s .now)))
-      (itemsFrom (a .t .now) (a .levels - 1) (x .owner) (x .«first_item») (x .«first_item» + x .«item_count»)) (a .trace .now) (a .s .now) (c .before .before .put .last .0) oneWord
-  run-list-begun c = list-begun _ _ _ _ _ _ _ _ (c .before .before .before .before .before .list-at .ensures) (c .before .before .before .trace-word .ensures) (c .before .before .put .ensures) (c .before .before .before .before .before .before .before .before .before .pre .1 .safe)
+      (itemsFrom (a .t .now) (a .levels - 1) (x .owner) (x .«first_item») (x .«first_item» + x .«item_count»)) (a .trace .now) (a .s .now)
+      (c .before .before .put .last .0) oneWord
+  run-list-begun c =
+      list-begun _ _ _ _ _ _ _ _ (c .before .before .before .before .before .list-at .ensures) (c .before .before .before .trace-word .ensures)
+      (c .before .before .put .ensures) (run-list-entry c .pre .1 .safe)
 
   run-list-list-at-requires : run-list-lts.Need-list-at-requires run-list-calls run-list-at run-list.Post
   run-list-list-at-requires c κs = c .before .before .before .pre .1 .laid
 
   run-list-add-run-items : run-list-lts.Need-add-run-items run-list-calls run-list-at run-list.Post
   run-list-add-run-items c =
-      omega (arith, run-list-after-list-at c .list-at .ensures .first-item .small, run-list-after-list-at c .list-at .ensures .item-count .small)
+      omega (
+        arith,
+        c .before .before .before .before .before .before .list-at .ensures .first-item .small,
+        c .before .before .before .before .before .before .list-at .ensures .item-count .small,
+      )
 
   run-list-sub-run-items : run-list-lts.Need-sub-run-items run-list-calls run-list-at run-list.Post
-  run-list-sub-run-items c = level-left _ _ _ _ _ (run-list-start c .pre .1 .safe)
+  run-list-sub-run-items c = level-left _ _ _ _ _ (run-list-entry (c .before) .pre .1 .safe)
 
   run-list-sub-run-items-2 : run-list-lts.Need-sub-run-items-2 run-list-calls run-list-at run-list.Post
   run-list-sub-run-items-2 c = run-list-begun (c .before .before) .inside
@@ -279,69 +320,81 @@ module _ (t : ℕ) where
 
   run-list-run-items-requires : run-list-lts.Need-run-items-requires run-list-calls run-list-at run-list.Post
   run-list-run-items-requires c κs = (
-    omega (arith, run-list-start-2 c .pre .0, level-left _ _ _ _ _ (run-list-start-2 c .pre .1 .safe)),
-    record { laid = run-list-start-2 c .pre .1 .laid; safe = last-safe _ _ (items-framed _ _ _ _ _) _ _ _ _ (run-list-begun (c .before .before .before)) (run-list-start-2 c .pre .1 .safe) },
+    omega (arith, run-list-entry-2 c .pre .0, level-left _ _ _ _ _ (run-list-entry-2 c .pre .1 .safe)),
+    record {
+      laid = run-list-entry-2 c .pre .1 .laid;
+      safe = last-safe _ _ (items-framed _ _ _ _ _) _ _ _ _
+          (run-list-begun (c .before .before .before)) (run-list-entry-2 c .pre .1 .safe);
+    },
   )
 
   run-list-plus-requires : run-list-lts.Need-plus-requires run-list-calls run-list-at run-list.Post
   run-list-plus-requires c κs =
       rw (c .one-word .ensures)
-      (last-addable _ _ (items-framed _ _ _ _ _) _ _ _ _ (run-list-begun (c .before .before .before .before .before .before .before .before .before)) (run-list-start-3 c .pre .1 .safe) _ _ _ (c .before .before .before .before .before .run-items .ensures)
-      (omega (arith, run-list-start-3 c .good .1 .1 .1 .1 .1 .0)))
+      (last-addable _ _ (items-framed _ _ _ _ _) _ _ _ _ (run-list-begun (c .before .before .before .before .before .before .before .before .before))
+      (run-list-entry-3 c .pre .1 .safe) _ _ _ (c .before .before .before .before .before .run-items .ensures)
+      (omega (arith, run-list-entry-3 c .good .1 .1 .1 .1 .1 .0)))
 
   run-list-returns : run-list-lts.Need-returns run-list-calls run-list-at run-list.Post
   run-list-returns c =
       rw (c .plus .ensures, c .before .one-word .ensures)
-      (last-ran _ _ (items-framed _ _ _ _ _) _ _ _ _ (run-list-begun (c .before .before .before .before .before .before .before .before .before .before)) (run-list-start-4 c .pre .1 .safe) _ _ _ (run-list-after-run-items c .run-items .ensures))
+      (last-ran _ _ (items-framed _ _ _ _ _) _ _ _ _ (run-list-begun
+      (c .before .before .before .before .before .before .before .before .before .before)) (run-list-entry-3 (c .before) .pre .1 .safe) _ _ _
+      (c .before .before .before .before .before .before .run-items .ensures))
 
-  abbrev run-rule-then1 : run-rule-lts.After-one-word run-rule-calls run-rule-at run-rule.Post → run-rule-lts.Then1 run-rule-calls run-rule-at run-rule.Post
-  run-rule-then1 c = c .before .before .before .before .before .before
+  abbrev run-rule-entry : run-rule-lts.After-judge-arg2 run-rule-calls run-rule-at run-rule.Post → run-rule-lts.Start run-rule-calls run-rule-at run-rule.Post
+  run-rule-entry c = c .before .before .before .before .before .before .before .before
 
-  abbrev run-rule-start : run-rule-lts.After-one-word run-rule-calls run-rule-at run-rule.Post → run-rule-lts.Start run-rule-calls run-rule-at run-rule.Post
-  run-rule-start c = c .before .before .before .before .before .before .before .before .before .before .before .before
+  abbrev run-rule-entry-2 : run-rule-lts.After-run-list-arg2 run-rule-calls run-rule-at run-rule.Post
+      → run-rule-lts.Start run-rule-calls run-rule-at run-rule.Post
+  run-rule-entry-2 c = run-rule-entry (c .before .before .before .before .before .before .before .before)
 
-  abbrev run-rule-start-2 : run-rule-lts.After-judge-arg2 run-rule-calls run-rule-at run-rule.Post → run-rule-lts.Start run-rule-calls run-rule-at run-rule.Post
-  run-rule-start-2 c = c .before .before .before .before .before .before .before .before
+  abbrev run-rule-entry-3 : run-rule-lts.After-one-word3 run-rule-calls run-rule-at run-rule.Post → run-rule-lts.Start run-rule-calls run-rule-at run-rule.Post
+  run-rule-entry-3 c = run-rule-entry-2 (c .before .before .before .before .before .before)
 
-  abbrev run-rule-after-judge : run-rule-lts.After-one-word2 run-rule-calls run-rule-at run-rule.Post → run-rule-lts.After-judge run-rule-calls run-rule-at run-rule.Post
-  run-rule-after-judge c = c .before .before .before .before .before .before
+  abbrev run-rule-after-unready : run-rule-lts.After-one-word run-rule-calls run-rule-at run-rule.Post
+      → run-rule-lts.After-unready run-rule-calls run-rule-at run-rule.Post
+  run-rule-after-unready c = c .before .before .before .before .before .before .before
 
-  abbrev run-rule-start-3 : run-rule-lts.After-one-word2 run-rule-calls run-rule-at run-rule.Post → run-rule-lts.Start run-rule-calls run-rule-at run-rule.Post
-  run-rule-start-3 c = c .before .before .before .before .before .before .before .before .before .before .before .before .before .before .before
-
-  abbrev run-rule-start-4 : run-rule-lts.After-run-list-arg2 run-rule-calls run-rule-at run-rule.Post → run-rule-lts.Start run-rule-calls run-rule-at run-rule.Post
-  run-rule-start-4 c = c .before .before .before .before .before .before .before .before .before .before .before .before .before .before .before .before
-
-  abbrev run-rule-start-5 : run-rule-lts.After-one-word3 run-rule-calls run-rule-at run-rule.Post → run-rule-lts.Start run-rule-calls run-rule-at run-rule.Post
-  run-rule-start-5 c = c .before .before .before .before .before .before .before .before .before .before .before .before .before .before .before .before .before .before .before .before .before .before
-
-  abbrev run-rule-after-run-list : run-rule-lts.After-plus run-rule-calls run-rule-at run-rule.Post → run-rule-lts.After-run-list run-rule-calls run-rule-at run-rule.Post
-  run-rule-after-run-list c = c .before .before .before .before .before .before
-
-  abbrev run-rule-start-6 : run-rule-lts.After-plus run-rule-calls run-rule-at run-rule.Post → run-rule-lts.Start run-rule-calls run-rule-at run-rule.Post
-  run-rule-start-6 c = c .before .before .before .before .before .before .before .before .before .before .before .before .before .before .before .before .before .before .before .before .before .before .before
+  abbrev run-rule-else1 : run-rule-lts.After-slice-known5 run-rule-calls run-rule-at run-rule.Post → run-rule-lts.Else1 run-rule-calls run-rule-at run-rule.Post
+  run-rule-else1 c = c .before .before .before .before .before .before .before
 
   -- the rule's word is written, and it starts a list
   run-rule-begun : (c : run-rule-lts.Else2 run-rule-calls run-rule-at run-rule.Post)
-      → let a = c .before .before .before .before .before .before .before .before .before .before .before .before .before .before .args in
-      Along (runRule (runList (a .below) (a .t .now)) (a .t .now) (a .o) (a .r) (start (a .s .now))) (runList (a .below) (a .t .now) (c .before .before .before .before .before .judge .result)) (a .trace .now)
-      (c .before .before .before .before .before .judge .last .1 .1 .1 .1 .0) (c .before .before .before .before .before .judge .last .1 .1 .1 .1 .1 .0) oneWord
-  run-rule-begun c = rule-begun _ _ _ _ _ _ (c .before .before .before .before .before .before .before .before .before .before .before .before .before .before .pre .1 .safe) (sym (c .before .before .before .before .before .before .before .before .before .unready .ensures) ∙ c .before .before .before .before .before .before .before .before .if1 .left) _ (c .before .before .before .before .before .judge .ensures .0) _ _ (c .before .before .before .before .before .judge .ensures .1) (c .if2 .left)
+      → let a = run-rule-else1 (c .before) .before .before .before .before .before .before .args in
+      Along (runRule (runList (a .below) (a .t .now)) (a .t .now) (a .o) (a .r) (start (a .s .now)))
+      (runList (a .below) (a .t .now) (c .before .before .before .before .before .judge .result)) (a .trace .now)
+      (c .before .before .before .before .before .judge .last .1 .1 .1 .1 .0)
+      (c .before .before .before .before .before .judge .last .1 .1 .1 .1 .1 .0) oneWord
+  run-rule-begun c =
+      rule-begun _ _ _ _ _ _ (run-rule-else1 (c .before) .before .before .before .before .before .before .pre .1 .safe)
+      (sym (run-rule-else1 (c .before) .before .unready .ensures) ∙ run-rule-else1 (c .before) .if1 .left) _
+      (c .before .before .before .before .before .judge .ensures .0) _ _ (c .before .before .before .before .before .judge .ensures .1) (c .if2 .left)
 
   run-rule-unready-requires : run-rule-lts.Need-unready-requires run-rule-calls run-rule-at run-rule.Post
   run-rule-unready-requires c κs = c .before .before .before .before .pre .1 .laid
 
   run-rule-returns : run-rule-lts.Need-returns run-rule-calls run-rule-at run-rule.Post
   run-rule-returns c =
-      rw (c .one-word .ensures) (rule-undefined _ _ _ _ _ _ (run-rule-start c .pre .1 .safe) (sym (run-rule-then1 c .before .unready .ensures) ∙ run-rule-then1 c .if1 .taken) _ _ (c .before .before .before .before .trace-word .ensures) (c .before .before .before .put .ensures))
+      rw (c .one-word .ensures) (rule-undefined _ _ _ _ _ _ (run-rule-after-unready c .before .before .before .before .before .pre .1 .safe)
+      (sym (run-rule-after-unready c .unready .ensures) ∙ c .before .before .before .before .before .before .if1 .taken) _ _
+      (c .before .before .before .before .trace-word .ensures) (c .before .before .before .put .ensures))
 
   run-rule-judge-requires : run-rule-lts.Need-judge-requires run-rule-calls run-rule-at run-rule.Post
   run-rule-judge-requires c κs =
-      record { laid = run-rule-start-2 c .pre .1 .laid; safe = judge-safe _ _ _ _ _ _ (run-rule-start-2 c .pre .1 .safe) (sym (c .before .before .before .unready .ensures) ∙ c .before .before .if1 .left) }
+      record {
+        laid = run-rule-entry c .pre .1 .laid;
+        safe = judge-safe _ _ _ _ _ _ (run-rule-entry c .pre .1 .safe)
+            (sym (c .before .before .before .unready .ensures) ∙ c .before .before .if1 .left);
+      }
 
   run-rule-returns-2 : run-rule-lts.Need-returns-2 run-rule-calls run-rule-at run-rule.Post
   run-rule-returns-2 c =
-      rw (c .one-word2 .ensures) (rule-done _ _ _ _ _ _ (run-rule-start-3 c .pre .1 .safe) (sym (run-rule-after-judge c .before .before .before .before .unready .ensures) ∙ run-rule-after-judge c .before .before .before .if1 .left) _ (run-rule-after-judge c .judge .ensures .0) _ _ (run-rule-after-judge c .judge .ensures .1) (c .before .if2 .taken))
+      rw (c .one-word2 .ensures) (rule-done _ _ _ _ _ _ (run-rule-else1
+      (c .before .before) .before .before .before .before .before .before .pre .1 .safe)
+      (sym (run-rule-else1 (c .before .before) .before .unready .ensures) ∙ run-rule-else1 (c .before .before) .if1 .left) _
+      (c .before .before .before .before .before .before .judge .ensures .0) _ _
+      (c .before .before .before .before .before .before .judge .ensures .1) (c .before .if2 .taken))
 
   run-rule-sub-run-list : run-rule-lts.Need-sub-run-list run-rule-calls run-rule-at run-rule.Post
   run-rule-sub-run-list c = run-rule-begun (c .before) .inside
@@ -351,20 +404,26 @@ module _ (t : ℕ) where
 
   run-rule-run-list-requires : run-rule-lts.Need-run-list-requires run-rule-calls run-rule-at run-rule.Post
   run-rule-run-list-requires c κs = (
-    omega (arith, run-rule-start-4 c .pre .0),
-    record { laid = run-rule-start-4 c .pre .1 .laid; safe = last-safe _ _ (list-framed _ _ _) _ _ _ _ (run-rule-begun (c .before .before)) (run-rule-start-4 c .pre .1 .safe) },
+    omega (arith, run-rule-entry-2 c .pre .0),
+    record {
+      laid = run-rule-entry-2 c .pre .1 .laid;
+      safe = last-safe _ _ (list-framed _ _ _) _ _ _ _ (run-rule-begun (c .before .before))
+          (run-rule-entry-2 c .pre .1 .safe);
+    },
   )
 
   run-rule-plus-requires : run-rule-lts.Need-plus-requires run-rule-calls run-rule-at run-rule.Post
   run-rule-plus-requires c κs =
       rw (c .one-word3 .ensures)
-      (last-addable _ _ (list-framed _ _ _) _ _ _ _ (run-rule-begun (c .before .before .before .before .before .before .before .before)) (run-rule-start-5 c .pre .1 .safe) _ _ _ (c .before .before .before .before .before .run-list .ensures)
-      (omega (arith, run-rule-start-5 c .good .1 .1 .1 .1 .1 .1 .0)))
+      (last-addable _ _ (list-framed _ _ _) _ _ _ _ (run-rule-begun (c .before .before .before .before .before .before .before .before))
+      (run-rule-entry-3 c .pre .1 .safe) _ _ _ (c .before .before .before .before .before .run-list .ensures)
+      (omega (arith, run-rule-entry-3 c .good .1 .1 .1 .1 .1 .1 .0)))
 
   run-rule-returns-3 : run-rule-lts.Need-returns-3 run-rule-calls run-rule-at run-rule.Post
   run-rule-returns-3 c =
       rw (c .plus .ensures, c .before .one-word3 .ensures)
-      (last-ran _ _ (list-framed _ _ _) _ _ _ _ (run-rule-begun (c .before .before .before .before .before .before .before .before .before)) (run-rule-start-6 c .pre .1 .safe) _ _ _ (run-rule-after-run-list c .run-list .ensures))
+      (last-ran _ _ (list-framed _ _ _) _ _ _ _ (run-rule-begun (c .before .before .before .before .before .before .before .before .before))
+      (run-rule-entry-3 (c .before) .pre .1 .safe) _ _ _ (c .before .before .before .before .before .before .run-list .ensures))
 
 pub +run-item+run-items+run-list+run-rule-spec : {M : Type 1} → statement M
 +run-item+run-items+run-list+run-rule-spec =

@@ -6,13 +6,14 @@ use borrow.Author.Needs.{needs}
 use Rattle.lists.proofs.ask.Statement.{statement}
 use Rattle.lists.proofs.ask.Tie as tie
 
-abbrev start : tie.After-slice-known2 → tie.Start
-start c = c .before .before .before .before .before .before .before .before
+abbrev entry : tie.After-slice-known2 → tie.Start
+entry c = c .before .before .before .before .before .before .before .before
 
 returns : tie.Need-returns
 returns c =
     c .before .before .set-network .ensures
-    ∙ ap (λ (x : Network). setNetwork (start c .args .t .now) (start c .args .n) (asking (start c .args .mode) x) (start c .args .s .now)) (c .before .before .before .before .network-in .ensures)
+    ∙ ap (λ (x : Network). setNetwork (entry c .args .t .now) (entry c .args .n) (asking (entry c .args .mode) x) (entry c .args .s .now))
+    (c .before .before .before .before .network-in .ensures)
 
 pub ask-spec : {M : Type 1} → statement M
 ask-spec =

@@ -6,8 +6,8 @@ use borrow.Author.Needs.{needs}
 use Rattle.refusals.proofs.suited.Statement.{statement}
 use Rattle.refusals.proofs.suited.Tie as tie
 
-abbrev start : tie.After-struct-known → tie.Start
-start c = c .before .before .before .before .before .before .before
+abbrev entry : tie.After-struct-known → tie.Start
+entry c = c .before .before .before .before .before .before .before
 
 returns : tie.Need-returns
 unfolding suited
@@ -17,8 +17,8 @@ returns c =
       ← c .before .before .before .port-at .ensures .kind .value,
       ← c .before .before .before .before .before .kind .ensures .value,
       c .before .before .if1 .taken,
-      ← start c .pre .networks .value,
-      ← start c .pre .sources .value,
+      ← entry c .pre .networks .value,
+      ← entry c .pre .sources .value,
       ← c .before .held .ensures,
       and-true,
     )

@@ -7,6 +7,7 @@ use Rattle.rulebook.specs.State as State
 use Rattle.walks.proofs.Walks.{all-turn, all-fails, all-end}
 use Rattle.states.proofs.Fitting.{wrong-length, right-length, fits-here}
 use native.Mathlib.Omega.{arith}
+use borrow.Author.Needs.{needs}
 use Rattle.states.proofs.fits.Statement.{statement}
 use Rattle.states.proofs.fits.Tie as tie
 
@@ -16,12 +17,6 @@ Inv-loop t s h end i₀ i = (i ≤ end) × (State.fits t s ≡ all i (end - i) (
 abbrev μ-loop : tie.MeasureT-loop
 μ-loop t s h end i₀ i = end - i
 
-abbrev after-read-layout : tie.After-word Inv-loop μ-loop → tie.After-read-layout Inv-loop μ-loop
-after-read-layout c = c .before .before .before .before .before .before
-
-length-requires : tie.Need-length-requires Inv-loop μ-loop
-length-requires c κs = c .read-layout .ensures
-
 returns : tie.Need-returns Inv-loop μ-loop
 returns c = wrong-length _ _ _ (c .before .length .ensures) (c .if1 .taken)
 
@@ -30,21 +25,24 @@ loop-holds c = (omega arith, right-length _ _ _ (c .before .length .ensures) (c 
 
 thing-at-requires : tie.Need-thing-at-requires Inv-loop μ-loop
 thing-at-requires c κs =
-    record { laid = c .before .before .before .before .read-layout .ensures; inside = omega (arith, c .before .before .before .length .ensures, c .loop-test .taken) }
-
-thing-fits-requires : tie.Need-thing-fits-requires Inv-loop μ-loop
-thing-fits-requires c κs = after-read-layout c .read-layout .ensures
+    record {
+      laid = c .before .before .before .before .read-layout .ensures;
+      inside = omega
+          (arith, c .before .before .before .length .ensures, c .loop-test .taken);
+    }
 
 returns-2 : tie.Need-returns-2 Inv-loop μ-loop
 returns-2 c =
     sym (c .before .before .before .before .before .loop .inv .1 ∙ all-fails _ _ _ (c .before .before .before .before .loop-test .taken)
-    (fits-here _ _ _ _ _ _ (c .before .thing-fits .ensures) (c .before .before .before .thing-at .ensures) (c .before .before .word .ensures) ∙ not-true _ (c .if2 .taken)))
+    (fits-here _ _ _ _ _ _ (c .before .thing-fits .ensures) (c .before .before .before .thing-at .ensures) (c .before .before .word .ensures) ∙
+    not-true _ (c .if2 .taken)))
 
 loop-again : tie.Need-loop-again Inv-loop μ-loop
 loop-again c = (
   omega arith,
   c .before .before .before .before .before .loop .inv .1 ∙ all-turn _ _ _ (c .before .before .before .before .loop-test .taken)
-      (fits-here _ _ _ _ _ _ (c .before .thing-fits .ensures) (c .before .before .before .thing-at .ensures) (c .before .before .word .ensures) ∙ not-false _ (c .if2 .left)),
+      (fits-here _ _ _ _ _ _ (c .before .thing-fits .ensures) (c .before .before .before .thing-at .ensures) (c .before .before .word .ensures) ∙
+      not-false _ (c .if2 .left)),
 )
 
 returns-3 : tie.Need-returns-3 Inv-loop μ-loop
@@ -54,17 +52,5 @@ pub fits-spec : {M : Type 1} → statement M
 fits-spec =
     tie.close
     (tie.spec
-    Inv-loop
-    μ-loop
-    (λ c κs. tt)
-    length-requires
-    returns
-    loop-holds
-    thing-at-requires
-    (λ c κs. tt)
-    thing-fits-requires
-    returns-2
-    (λ c. omega arith)
-    (λ c. omega arith)
-    loop-again
-    returns-3)
+    Inv-loop μ-loop (λ c κs. tt) (λ c κs. search needs) returns loop-holds thing-at-requires (λ c κs. tt) (λ c κs. search needs) returns-2
+    (λ c. omega arith) (λ c. omega arith) loop-again returns-3)

@@ -1,7 +1,7 @@
 -- `states::network_fits` meets its contract: the fields read are the rulebook's. Assumes nothing.
 use Rattle.rulebook.specs.State.{networkFits}
 use Rattle.walks.proofs.Walks.{either}
-use Rattle.states.proofs.Fitting.{same-asked, same-state, same-counter, same-remaining}
+use Rattle.words.proofs.Things.{same-asked, same-state, same-counter, same-remaining}
 use borrow.Author.Needs.{needs}
 use Rattle.states.proofs.network_fits.Statement.{statement}
 use Rattle.states.proofs.network_fits.Tie as tie

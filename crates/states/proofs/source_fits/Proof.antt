@@ -5,17 +5,17 @@ use borrow.Author.Needs.{needs}
 use Rattle.states.proofs.source_fits.Statement.{statement}
 use Rattle.states.proofs.source_fits.Tie as tie
 
-abbrev after-source-of : tie.After-struct-known6 → tie.After-source-of
-after-source-of c = c .before .before .before .before .before .before
+abbrev after-state-source-zero : tie.After-struct-known6 → tie.After-state-source-zero
+after-state-source-zero c = c .before .before .before .before .before .before .before
 
 returns : tie.Need-returns
 unfolding sourceFits
 returns c =
     rw (
-      ← after-source-of c .before .before .source-at .ensures .timeout .value,
-      ← after-source-of c .before .state-source-zero .ensures .value,
-      ← after-source-of c .source-of .ensures .status .value,
-      ← after-source-of c .source-of .ensures .remaining .value,
+      ← after-state-source-zero c .before .source-at .ensures .timeout .value,
+      ← after-state-source-zero c .state-source-zero .ensures .value,
+      ← c .before .before .before .before .before .before .source-of .ensures .status .value,
+      ← c .before .before .before .before .before .before .source-of .ensures .remaining .value,
       either,
     )
 

@@ -1,21 +1,21 @@
 -- `things::networks::bus_off` meets its contract: one answer for a bus-off that is taken and one for the others. Assumes nothing.
 use mathlib.Core.Path.{sym, _∙_}
 use Rattle.rulebook.specs.Events.{busOff}
-use Rattle.things.proofs.Parts.{same-counter}
+use Rattle.words.proofs.Things.{same-counter}
 use borrow.Author.Needs.{needs}
 use Rattle.things.proofs.networks.bus_off.Statement.{statement}
 use Rattle.things.proofs.networks.bus_off.Tie as tie
 
-abbrev then1 : tie.After-slice-known2 → tie.Then1
-then1 c = c .before .before .before .before .before .before
+abbrev after-takes : tie.After-slice-known2 → tie.After-takes
+after-takes c = c .before .before .before .before .before .before .before
 
 returns : tie.Need-returns
 unfolding busOff
 returns c =
     rw (
-      ← then1 c .before .before .network-in .ensures,
-      ← same-counter (then1 c .before .before .network-in .ensures),
-      sym (then1 c .before .takes .ensures) ∙ then1 c .if1 .taken,
+      ← after-takes c .before .network-in .ensures,
+      ← same-counter (after-takes c .before .network-in .ensures),
+      sym (after-takes c .takes .ensures) ∙ c .before .before .before .before .before .before .if1 .taken,
       ← c .before .before .before .before .before .counted-up .ensures,
       ← c .before .before .before .before .off-bus .ensures,
     )
@@ -29,12 +29,5 @@ pub bus-off-spec : {M : Type 1} → statement M
 bus-off-spec =
     tie.close
     (tie.spec
-    (λ c κs. search needs)
-    (λ c κs. search needs)
-    (λ c κs. search needs)
-    (λ c κs. search needs)
-    (λ c κs. search needs)
-    (λ c. search needs)
-    returns
-    (λ c. search needs)
-    returns-2)
+    (λ c κs. search needs) (λ c κs. search needs) (λ c κs. search needs) (λ c κs. search needs) (λ c κs. search needs) (λ c. search needs) returns
+    (λ c. search needs) returns-2)

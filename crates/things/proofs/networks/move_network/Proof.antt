@@ -1,13 +1,13 @@
 -- `things::networks::move_network` meets its contract: one answer where the shown mode stays and one where it changes. Assumes nothing.
 use Rattle.rulebook.specs.Events.{moveNetwork}
 use borrow.Author.Tests.{eq-eqb, ne-eqb}
-use Rattle.things.proofs.Parts.{same-state}
+use Rattle.words.proofs.Things.{same-state}
 use borrow.Author.Needs.{needs}
 use Rattle.things.proofs.networks.move_network.Statement.{statement}
 use Rattle.things.proofs.networks.move_network.Tie as tie
 
-abbrev after-shown : tie.Then1 → tie.After-shown
-after-shown c = c .before .before .before .before .before .before
+abbrev after-network-in : tie.Then1 → tie.After-network-in
+after-network-in c = c .before .before .before .before .before .before .before
 
 abbrev after-set-network : tie.After-slice-known3 → tie.After-set-network
 after-set-network c = c .before .before .before .before .before .before .before .before
@@ -16,8 +16,8 @@ returns : tie.Need-returns
 unfolding moveNetwork
 returns c =
     rw (
-      ← same-state (after-shown c .before .network-in .ensures),
-      ← after-shown c .shown .ensures,
+      ← same-state (after-network-in c .network-in .ensures),
+      ← c .before .before .before .before .before .before .shown .ensures,
       ← c .before .before .before .before .before .shown2 .ensures,
       eq-eqb _ _ (c .if1 .taken),
     )
@@ -40,13 +40,5 @@ pub move-network-spec : {M : Type 1} → statement M
 move-network-spec =
     tie.close
     (tie.spec
-    (λ c κs. search needs)
-    (λ c κs. search needs)
-    (λ c κs. search needs)
-    (λ c κs. search needs)
-    (λ c. search needs)
-    returns
-    (λ c κs. search needs)
-    (λ c κs. search needs)
-    (λ c. search needs)
-    returns-2)
+    (λ c κs. search needs) (λ c κs. search needs) (λ c κs. search needs) (λ c κs. search needs) (λ c. search needs) returns (λ c κs. search needs)
+    (λ c κs. search needs) (λ c. search needs) returns-2)

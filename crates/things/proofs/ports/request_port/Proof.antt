@@ -4,30 +4,20 @@ use borrow.Author.Needs.{needs}
 use Rattle.things.proofs.ports.request_port.Statement.{statement}
 use Rattle.things.proofs.ports.request_port.Tie as tie
 
-abbrev after-port-at : tie.After-slice-known2 → tie.After-port-at
-after-port-at c = c .before .before .before .before .before .before
-
-abbrev after-port-at-2 : tie.After-slice-known3 → tie.After-port-at
-after-port-at-2 c = c .before .before .before .before .before .before
-
 returns : tie.Need-returns
 returns c =
-    let deferred = rw (after-port-at c .port-at .ensures .deferred .value) at (eq-eqb _ _ (c .before .before .before .before .if1 .taken)) in
+    let deferred = rw (c .before .before .before .before .before .before .port-at .ensures .deferred .value) at
+    (eq-eqb _ _ (c .before .before .before .before .if1 .taken)) in
     record { written = rw deferred (c .before .before .set-port .ensures); answered = rw deferred }
 
 returns-2 : tie.Need-returns-2
 returns-2 c =
-    let immediate = rw (after-port-at-2 c .port-at .ensures .deferred .value) at (ne-eqb _ _ (c .before .before .before .before .if1 .left)) in
+    let immediate = rw (c .before .before .before .before .before .before .port-at .ensures .deferred .value) at
+    (ne-eqb _ _ (c .before .before .before .before .if1 .left)) in
     record { written = rw immediate (c .before .before .set-port2 .ensures); answered = rw immediate }
 
 pub request-port-spec : {M : Type 1} → statement M
 request-port-spec =
     tie.close
     (tie.spec
-    (λ c κs. search needs)
-    (λ c κs. search needs)
-    (λ c. search needs)
-    returns
-    (λ c κs. search needs)
-    (λ c. search needs)
-    returns-2)
+    (λ c κs. search needs) (λ c κs. search needs) (λ c. search needs) returns (λ c κs. search needs) (λ c. search needs) returns-2)

@@ -5,20 +5,20 @@ use borrow.Author.Needs.{needs}
 use Rattle.things.proofs.ports.tick_timer.Statement.{statement}
 use Rattle.things.proofs.ports.tick_timer.Tie as tie
 
-abbrev then1 : tie.After-slice-known2 → tie.Then1
-then1 c = c .before .before .before .before .before .before
+abbrev after-port-in : tie.After-slice-known2 → tie.After-port-in
+after-port-in c = c .before .before .before .before .before .before .before .before .before
 
-abbrev then1-2 : tie.After-slice-known3 → tie.Then1
-then1-2 c = c .before .before .before .before .before .before .before
+abbrev then1 : tie.After-slice-known3 → tie.Then1
+then1 c = c .before .before .before .before .before .before .before
 
 returns : tie.Need-returns
 unfolding tickTimer
 returns c =
     rw (
-      ← then1 c .before .before .before .before .before .port-at .ensures .kind .value,
-      ← then1 c .before .before .before .port-in .ensures .value .value,
-      ← then1 c .before .before .before .port-in .ensures .remaining .value,
-      then1 c .if1 .taken,
+      ← after-port-in c .before .before .port-at .ensures .kind .value,
+      ← after-port-in c .port-in .ensures .value .value,
+      ← after-port-in c .port-in .ensures .remaining .value,
+      c .before .before .before .before .before .before .if1 .taken,
       le-leb _ _ (c .before .before .before .before .if2 .taken),
     )
     (c .before .before .set-port .ensures)
@@ -27,11 +27,11 @@ returns-2 : tie.Need-returns-2
 unfolding tickTimer
 returns-2 c =
     rw (
-      ← then1-2 c .before .before .before .before .before .port-at .ensures .kind .value,
-      ← then1-2 c .before .before .before .port-in .ensures .value .value,
-      ← then1-2 c .before .before .before .port-in .ensures .remaining .value,
-      ← then1-2 c .before .before .before .port-in .ensures .marked .value,
-      then1-2 c .if1 .taken,
+      ← then1 c .before .before .before .before .before .port-at .ensures .kind .value,
+      ← then1 c .before .before .before .port-in .ensures .value .value,
+      ← then1 c .before .before .before .port-in .ensures .remaining .value,
+      ← then1 c .before .before .before .port-in .ensures .marked .value,
+      then1 c .if1 .taken,
       lt-leb _ _ (c .before .before .before .before .before .if2 .left),
     )
     (c .before .before .set-port2 .ensures)
@@ -49,14 +49,5 @@ pub tick-timer-spec : {M : Type 1} → statement M
 tick-timer-spec =
     tie.close
     (tie.spec
-    (λ c κs. search needs)
-    (λ c κs. search needs)
-    (λ c κs. search needs)
-    (λ c. search needs)
-    (λ c κs. search needs)
-    (λ c. search needs)
-    returns
-    (λ c. search needs)
-    returns-2
-    (λ c. search needs)
-    returns-3)
+    (λ c κs. search needs) (λ c κs. search needs) (λ c κs. search needs) (λ c. search needs) (λ c κs. search needs) (λ c. search needs) returns
+    (λ c. search needs) returns-2 (λ c. search needs) returns-3)

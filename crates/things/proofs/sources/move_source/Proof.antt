@@ -5,9 +5,6 @@ use borrow.Author.Needs.{needs}
 use Rattle.things.proofs.sources.move_source.Statement.{statement}
 use Rattle.things.proofs.sources.move_source.Tie as tie
 
-abbrev after-source-in : tie.Then1 → tie.After-source-in
-after-source-in c = c .before .before .before .before .before .before
-
 abbrev after-set-source : tie.After-slice-known3 → tie.After-set-source
 after-set-source c = c .before .before .before .before .before .before .before .before .before
 
@@ -15,7 +12,7 @@ returns : tie.Need-returns
 unfolding moveSource
 returns c =
     rw (
-      ← after-source-in c .source-in .ensures .status .value,
+      ← c .before .before .before .before .before .before .source-in .ensures .status .value,
       eq-eqb _ _ (c .if1 .taken),
     )
     (c .before .before .before .before .set-source .ensures)
@@ -35,11 +32,5 @@ pub move-source-spec : {M : Type 1} → statement M
 move-source-spec =
     tie.close
     (tie.spec
-    (λ c κs. search needs)
-    (λ c κs. search needs)
-    (λ c. search needs)
-    returns
-    (λ c κs. search needs)
-    (λ c κs. search needs)
-    (λ c. search needs)
+    (λ c κs. search needs) (λ c κs. search needs) (λ c. search needs) returns (λ c κs. search needs) (λ c κs. search needs) (λ c. search needs)
     returns-2)

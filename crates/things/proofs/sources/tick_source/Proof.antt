@@ -5,19 +5,19 @@ use borrow.Author.Needs.{needs}
 use Rattle.things.proofs.sources.tick_source.Statement.{statement}
 use Rattle.things.proofs.sources.tick_source.Tie as tie
 
-abbrev then1 : tie.After-slice-known2 → tie.Then1
-then1 c = c .before .before .before .before .before .before
+abbrev after-source-in : tie.After-slice-known2 → tie.After-source-in
+after-source-in c = c .before .before .before .before .before .before .before .before
 
-abbrev then1-2 : tie.After-slice-known3 → tie.Then1
-then1-2 c = c .before .before .before .before .before .before .before
+abbrev then1 : tie.After-slice-known3 → tie.Then1
+then1 c = c .before .before .before .before .before .before .before
 
 returns : tie.Need-returns
 unfolding tickSource
 returns c =
     rw (
-      ← then1 c .before .before .source-in .ensures .status .value,
-      ← then1 c .before .before .source-in .ensures .remaining .value,
-      eq-eqb _ _ (then1 c .if1 .taken),
+      ← after-source-in c .source-in .ensures .status .value,
+      ← after-source-in c .source-in .ensures .remaining .value,
+      eq-eqb _ _ (c .before .before .before .before .before .before .if1 .taken),
       le-leb _ _ (c .before .before .before .before .if2 .taken),
     )
     (c .before .before .move-source .ensures)
@@ -26,9 +26,9 @@ returns-2 : tie.Need-returns-2
 unfolding tickSource
 returns-2 c =
     rw (
-      ← then1-2 c .before .before .source-in .ensures .status .value,
-      ← then1-2 c .before .before .source-in .ensures .remaining .value,
-      eq-eqb _ _ (then1-2 c .if1 .taken),
+      ← then1 c .before .before .source-in .ensures .status .value,
+      ← then1 c .before .before .source-in .ensures .remaining .value,
+      eq-eqb _ _ (then1 c .if1 .taken),
       lt-leb _ _ (c .before .before .before .before .before .if2 .left),
     )
     (c .before .before .move-source2 .ensures)
@@ -41,13 +41,5 @@ pub tick-source-spec : {M : Type 1} → statement M
 tick-source-spec =
     tie.close
     (tie.spec
-    (λ c κs. search needs)
-    (λ c κs. search needs)
-    (λ c. search needs)
-    (λ c κs. search needs)
-    (λ c. search needs)
-    returns
-    (λ c. search needs)
-    returns-2
-    (λ c. search needs)
-    returns-3)
+    (λ c κs. search needs) (λ c κs. search needs) (λ c. search needs) (λ c κs. search needs) (λ c. search needs) returns (λ c. search needs) returns-2
+    (λ c. search needs) returns-3)

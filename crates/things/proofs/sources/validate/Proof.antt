@@ -5,14 +5,11 @@ use borrow.Author.Needs.{needs}
 use Rattle.things.proofs.sources.validate.Statement.{statement}
 use Rattle.things.proofs.sources.validate.Tie as tie
 
-abbrev after-source-in : tie.After-slice-known2 → tie.After-source-in
-after-source-in c = c .before .before .before .before .before .before
-
 returns : tie.Need-returns
 unfolding validate
 returns c =
     rw (
-      ← after-source-in c .source-in .ensures .status .value,
+      ← c .before .before .before .before .before .before .source-in .ensures .status .value,
       eq-eqb _ _ (c .before .before .before .before .if1 .taken),
     )
     (c .before .before .move-source .ensures)

@@ -4,15 +4,15 @@ use borrow.Author.Needs.{needs}
 use Rattle.things.proofs.sources.wake.Statement.{statement}
 use Rattle.things.proofs.sources.wake.Tie as tie
 
-abbrev then1 : tie.After-slice-known2 → tie.Then1
-then1 c = c .before .before .before .before .before .before
+abbrev after-source-in : tie.After-slice-known2 → tie.After-source-in
+after-source-in c = c .before .before .before .before .before .before .before .before .before
 
 returns : tie.Need-returns
 unfolding wake
 returns c =
     rw (
-      ← then1 c .before .before .before .source-in .ensures .status .value,
-      then1 c .if1 .taken,
+      ← after-source-in c .source-in .ensures .status .value,
+      c .before .before .before .before .before .before .if1 .taken,
       ← c .before .before .before .before .before .source-at .ensures .timeout .value,
       ← c .before .before .before .before .woken .ensures,
     )
@@ -26,11 +26,5 @@ pub wake-spec : {M : Type 1} → statement M
 wake-spec =
     tie.close
     (tie.spec
-    (λ c κs. search needs)
-    (λ c κs. search needs)
-    (λ c κs. search needs)
-    (λ c κs. search needs)
-    (λ c. search needs)
-    returns
-    (λ c. search needs)
+    (λ c κs. search needs) (λ c κs. search needs) (λ c κs. search needs) (λ c κs. search needs) (λ c. search needs) returns (λ c. search needs)
     returns-2)

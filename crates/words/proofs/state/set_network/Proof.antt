@@ -4,14 +4,15 @@ use borrow.Author.Needs.{needs}
 use Rattle.words.proofs.state.set_network.Statement.{statement}
 use Rattle.words.proofs.state.set_network.Tie as tie
 
-network-index-requires : tie.Need-network-index-requires
-network-index-requires c κs = c .before .before .pre
-
 returns : tie.Need-returns
 unfolding setNetwork
-returns c = rw (← c .before .before .before .before .before .network-index .ensures, ← c .before .before .before .before .pack-network .ensures) (c .before .before .put .ensures)
+returns c =
+    rw (
+      ← c .before .before .before .before .before .network-index .ensures,
+      ← c .before .before .before .before .pack-network .ensures,
+    )
+    (c .before .before .put .ensures)
 
 pub set-network-spec : {M : Type 1} → statement M
 set-network-spec =
-    tie.close
-    (tie.spec network-index-requires (λ c κs. tt) (λ c κs. tt) (λ c. search needs) returns)
+    tie.close (tie.spec (λ c κs. search needs) (λ c κs. tt) (λ c κs. tt) (λ c. search needs) returns)

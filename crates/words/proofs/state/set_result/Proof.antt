@@ -4,9 +4,12 @@ use borrow.Author.Needs.{needs}
 use Rattle.words.proofs.state.set_result.Statement.{statement}
 use Rattle.words.proofs.state.set_result.Tie as tie
 
+abbrev entry : tie.After-slice-known2 → tie.Start
+entry c = c .before .before .before .before .before .before .before .before
+
 returns : tie.Need-returns
 unfolding setResult
-returns c = rw (← c .before .before .before .before .before .before .before .before .pre .ports .value, ← c .before .before .before .before .before .pack-rule .ensures) (c .before .before .put .ensures)
+returns c = rw (← entry c .pre .ports .value, ← c .before .before .before .before .before .pack-rule .ensures) (c .before .before .put .ensures)
 
 pub set-result-spec : {M : Type 1} → statement M
 set-result-spec =

@@ -4,14 +4,15 @@ use borrow.Author.Needs.{needs}
 use Rattle.words.proofs.state.set_source.Statement.{statement}
 use Rattle.words.proofs.state.set_source.Tie as tie
 
-source-index-requires : tie.Need-source-index-requires
-source-index-requires c κs = c .before .before .pre
-
 returns : tie.Need-returns
 unfolding setSource
-returns c = rw (← c .before .before .before .before .before .source-index .ensures, ← c .before .before .before .before .pack-source .ensures) (c .before .before .put .ensures)
+returns c =
+    rw (
+      ← c .before .before .before .before .before .source-index .ensures,
+      ← c .before .before .before .before .pack-source .ensures,
+    )
+    (c .before .before .put .ensures)
 
 pub set-source-spec : {M : Type 1} → statement M
 set-source-spec =
-    tie.close
-    (tie.spec source-index-requires (λ c κs. tt) (λ c κs. tt) (λ c. search needs) returns)
+    tie.close (tie.spec (λ c κs. search needs) (λ c κs. tt) (λ c κs. tt) (λ c. search needs) returns)
