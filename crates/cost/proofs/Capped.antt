@@ -9,21 +9,23 @@ use native.Mathlib.Omega.{arith}
 use lib.Dec.{ltb, leb, eqb}
 use lib.ListN.{length, set, length-set, replicate}
 use borrow.Author.Tests.{lt-ltb, le-ltb, ltb-true, ltb-false, eq-eqb, ne-eqb, eqb-false, leb-true}
-use Rattle.rulebook.specs.Words.{field, sum, all, word}
-use Rattle.rulebook.specs.Table.{lists, itemWord, listWord, itemKind, itemA, trueList, falseList, noList, firstItem, itemCount}
+use Rattle.rulebook.specs.Words.{sum, all, word}
+use Rattle.rulebook.specs.Table.{lists, itemKind, itemA, itemList, itemRule, trueList, falseList, noList, firstItem, itemCount}
 use Rattle.rulebook.specs.Reasons.{ruleNests, itemNests, listNests, listWithin, ruleCost, itemCost, listCost, costWithin, bound}
 use Rattle.words.specs.declared.sections.Layout.{Layout}
-use Rattle.words.specs.Sections.{Laid}
+use Rattle.words.specs.declared.sections.List.{List as ListRead}
+use Rattle.words.specs.Sections.{Laid, ListAt}
 use Rattle.walks.proofs.Walks.{sum-turn, sum-end}
 use Rattle.laws.proofs.Tests.{split, clash, and-left, and-right, or-elim}
+use Rattle.laws.proofs.Nesting.{nests-list, nests-rule, cost-list, cost-rule, cost-act}
 use Rattle.nesting.specs.Depths.{foundBy, Depths}
 use Rattle.nesting.proofs.Levels.{within-more, within-absent, found-yes, set-all}
 use Rattle.cost.specs.Costs.{capped, costIn, nextCost, Costs, Nested}
 
 -- numbers that are equal once held, and what is made of them
 
-add-held : (a b c d : ℕ) → capped a ≡ capped b → capped c ≡ capped d → capped (a + c) ≡ capped (b + d)
-add-held a b c d p q = omega arith
+add-capped : (a b c d : ℕ) → capped a ≡ capped b → capped c ≡ capped d → capped (a + c) ≡ capped (b + d)
+add-capped a b c d p q = omega arith
 
 max-left : (a b c : ℕ) → capped a ≡ capped b → capped (1 + max a c) ≡ capped (1 + max b c)
 max-left a b c p = omega arith
@@ -31,79 +33,56 @@ max-left a b c p = omega arith
 max-right : (b c d : ℕ) → capped c ≡ capped d → capped (1 + max b c) ≡ capped (1 + max b d)
 max-right b c d p = omega arith
 
-held-twice : (a : ℕ) → capped (capped a) ≡ capped a
-held-twice a = omega arith
+capped-twice : (a : ℕ) → capped (capped a) ≡ capped a
+capped-twice a = omega arith
 
-turn-held : (total x y r rest : ℕ) → capped x ≡ capped y → r ≡ capped (total + x) → capped (total + (y + rest)) ≡ capped (r + rest)
-turn-held total x y r rest p q = omega arith
+turn-capped : (total x y r rest : ℕ) → capped x ≡ capped y → r ≡ capped (total + x) → capped (total + (y + rest)) ≡ capped (r + rest)
+turn-capped total x y r rest p q = omega arith
 
 -- a turn of a loop that adds up the walk of g from i to e and holds the total: x was added, and r is the next total
 pub cost-turn : (g : ℕ → ℕ) (i e total x r : ℕ) → i < e → capped x ≡ capped (g i) → r ≡ capped (total + x)
     → capped (total + sum i (e - i) g) ≡ capped (r + sum (i + 1) (e - (i + 1)) g)
-cost-turn g i e total x r h p q = rw (sum-turn i e g h) (turn-held total x (g i) r (sum (i + 1) (e - (i + 1)) g) p q)
+cost-turn g i e total x r h p q = rw (sum-turn i e g h) (turn-capped total x (g i) r (sum (i + 1) (e - (i + 1)) g) p q)
 
 pub cost-end : (g : ℕ → ℕ) (i e total : ℕ) → e ≤ i → total ≤ 4097 → capped (total + sum i (e - i) g) ≡ total
 cost-end g i e total h s = rw (sum-end i e g h) (omega arith)
 
-sum-held : (f g : ℕ → ℕ) → ((k : ℕ) → capped (f k) ≡ capped (g k)) → (i n : ℕ) → capped (sum i n f) ≡ capped (sum i n g)
+sum-capped : (f g : ℕ → ℕ) → ((k : ℕ) → capped (f k) ≡ capped (g k)) → (i n : ℕ) → capped (sum i n f) ≡ capped (sum i n g)
 unfolding sum
-sum-held f g h i zero = refl
-sum-held f g h i (suc n) = add-held (f i) (g i) (sum (suc i) n f) (sum (suc i) n g) (h i) (sum-held f g h (suc i) n)
+sum-capped f g h i zero = refl
+sum-capped f g h i (suc n) = add-capped (f i) (g i) (sum (suc i) n f) (sum (suc i) n g) (h i) (sum-capped f g h (suc i) n)
 
 -- a level by costs that are equal once held
 
 module _ (t : List ℕ) (f g : ℕ → ℕ) (same : (l : ℕ) → capped (f l) ≡ capped (g l)) where
-  chosen-held : (l : ℕ) → capped (cond (eqb l noList) 0 (f l)) ≡ capped (cond (eqb l noList) 0 (g l))
-  chosen-held l = split (eqb l noList) (λ y. rw y) (λ y. rw y (same l))
+  chosen-capped : (l : ℕ) → capped (cond (eqb l noList) 0 (f l)) ≡ capped (cond (eqb l noList) 0 (g l))
+  chosen-capped l = split (eqb l noList) (λ y. rw y) (λ y. rw y (same l))
 
-  rule-held : (r : ℕ) → capped (ruleCost t f r) ≡ capped (ruleCost t g r)
+  rule-capped : (r : ℕ) → capped (ruleCost t f r) ≡ capped (ruleCost t g r)
   unfolding ruleCost
-  rule-held r = max-left _ _ _ (chosen-held (trueList t r)) ∙ max-right _ _ _ (chosen-held (falseList t r))
+  rule-capped r = max-left _ _ _ (chosen-capped (trueList t r)) ∙ max-right _ _ _ (chosen-capped (falseList t r))
 
-  item-held : (i : ℕ) → capped (itemCost t f i) ≡ capped (itemCost t g i)
-  unfolding itemCost
-  item-held i =
-      split (eqb (itemKind t i) 5) (λ y. rw (y, itemCost) (same (itemA t i)))
+  item-capped : (i : ℕ) → capped (itemCost t f i) ≡ capped (itemCost t g i)
+  item-capped i =
+      split (eqb (itemKind t i) itemList) (λ y. rw (cost-list t f i y, cost-list t g i y) (same (itemA t i)))
       (λ y.
-      rw (y, itemCost)
-      (split (eqb (itemKind t i) 6) (λ z. rw (z, itemCost) (rule-held (itemA t i))) (λ z. rw (z, itemCost))))
+      split (eqb (itemKind t i) itemRule) (λ z. rw (cost-rule t f i y z, cost-rule t g i y z) (rule-capped (itemA t i)))
+      (λ z. rw (cost-act t f i y z, cost-act t g i y z)))
 
-  list-held : (l : ℕ) → capped (listCost t f l) ≡ capped (listCost t g l)
+  list-capped : (l : ℕ) → capped (listCost t f l) ≡ capped (listCost t g l)
   unfolding listCost
-  list-held l =
-      split (ltb l (lists t)) (λ y. rw y (add-held 1 1 _ _ refl (sum-held (itemCost t f) (itemCost t g) item-held _ _)))
+  list-capped l =
+      split (ltb l (lists t)) (λ y. rw y (add-capped 1 1 _ _ refl (sum-capped (itemCost t f) (itemCost t g) item-capped _ _)))
       (λ y. rw y)
-
--- item i has the word w, of kind k and with a
-module _ (t : List ℕ) (below : ℕ → ℕ) (i w k a : ℕ) (hw : w ≡ itemWord t i) (hk : k ≡ field 0 4 w) (ha : a ≡ field 4 12 w) where
-  is-kind : k ≡ itemKind t i
-  is-kind = hk ∙ ap (field 0 4) hw
-
-  is-a : a ≡ itemA t i
-  is-a = ha ∙ ap (field 4 12) hw
-
-  pub cost-of-list : k ≡ 5 → below a ≡ itemCost t below i
-  unfolding itemCost
-  cost-of-list e = sym (rw (eq-eqb (itemKind t i) 5 (sym is-kind ∙ e), itemCost) (ap below (sym is-a)))
-
-  pub cost-of-rule : (k ≡ 5 → ⊥) → k ≡ 6 → ruleCost t below a ≡ itemCost t below i
-  unfolding itemCost
-  cost-of-rule f e =
-      sym (rw (ne-eqb (itemKind t i) 5 (rw is-kind at f), itemCost)
-      (rw (eq-eqb (itemKind t i) 6 (sym is-kind ∙ e), itemCost) (ap (ruleCost t below) (sym is-a))))
-
-  pub cost-of-other : (k ≡ 5 → ⊥) → (k ≡ 6 → ⊥) → 1 ≡ itemCost t below i
-  unfolding itemCost
-  cost-of-other f g = sym (rw (ne-eqb (itemKind t i) 5 (rw is-kind at f), itemCost) (rw (ne-eqb (itemKind t i) 6 (rw is-kind at g), itemCost)))
 
 module _ (t : List ℕ) (h : Layout) (laid : Laid t h) (below : ℕ → ℕ) (l : ℕ) where
   pub absent-free : h .lists ≤ l → 0 ≡ listCost t below l
   unfolding listCost
   absent-free b = rw (le-ltb l (lists t) (omega arith))
 
-  pub list-costs : (w f n : ℕ) → l < h .lists → w ≡ listWord t l → f ≡ field 13 11 w → n ≡ field 24 8 w → listCost t below l ≡ 1 + sum f n (itemCost t below)
+  pub list-costs : (x : ListRead) → ListAt t l x → l < h .lists → listCost t below l ≡ 1 + sum (x .«first_item») (x .«item_count») (itemCost t below)
   unfolding listCost
-  list-costs w f n b hw hf hn = rw (lt-ltb l (lists t) (omega arith), hf, hn, hw)
+  list-costs x read b = rw (lt-ltb l (lists t) (omega arith), read .first-item .value, read .item-count .value)
 
 -- A list's cost goes by the costs of the lists it names alone.
 
@@ -119,12 +98,11 @@ module _ (t : List ℕ) (p : ℕ → Bool) (f g : ℕ → ℕ) (same : (n : ℕ)
       rw (chosen-same (trueList t r) on-true, chosen-same (falseList t r) on-false)
 
   item-same : (i : ℕ) → itemNests t p i ≡ true → itemCost t f i ≡ itemCost t g i
-  unfolding itemNests itemCost
   item-same i h =
-      split (eqb (itemKind t i) 5) (λ y. rw (y, itemCost) (same (itemA t i) (rw (y, itemNests) at h)))
+      split (eqb (itemKind t i) itemList) (λ y. rw (cost-list t f i y, cost-list t g i y) (same (itemA t i) (sym (nests-list t p i y) ∙ h)))
       (λ y.
-      split (eqb (itemKind t i) 6) (λ z. rw (y, z, itemCost) (rule-same (itemA t i) (rw (y, z, itemNests) at h)))
-      (λ z. rw (y, z, itemCost)))
+      split (eqb (itemKind t i) itemRule) (λ z. rw (cost-rule t f i y z, cost-rule t g i y z) (rule-same (itemA t i) (sym (nests-rule t p i y z) ∙ h)))
+      (λ z. rw (cost-act t f i y z, cost-act t g i y z)))
 
   items-same : (i n : ℕ) → all i n (itemNests t p) ≡ true → sum i n (itemCost t f) ≡ sum i n (itemCost t g)
   unfolding all sum
@@ -168,14 +146,14 @@ module _ (d l : ℕ) (t depths costs : List ℕ) (few : d < 7) (found : Depths 7
   unfolding costIn heldBelow
   held-there n h =
       let six : d + (6 - d) ≡ 6 = omega arith in
-      rw (a .old n h, cost-settled t 6 n (rw six at (within-up t d (6 - d) n h))) (held-twice (costWithin 6 t n))
+      rw (a .old n h, cost-settled t 6 n (rw six at (within-up t d (6 - d) n h))) (capped-twice (costWithin 6 t n))
 
   -- a list of depth d + 1
   cost-found : listWithin (d + 1) t l ≡ true → capped (listCost t (costIn costs) l) ≡ capped (costWithin 7 t l)
   unfolding listWithin costWithin heldBelow
   cost-found h =
       rw (list-same t (listWithin d t) (costIn costs) (heldBelow t) held-there l (rw add-one at h))
-      (list-held t (heldBelow t) (costWithin 6 t) (λ k. held-twice (costWithin 6 t k)) l)
+      (list-capped t (heldBelow t) (costWithin 6 t) (λ k. capped-twice (costWithin 6 t k)) l)
 
   next-cost : listWithin (d + 1) t l ≡ true → nextCost t depths costs d l ≡ capped (costWithin 7 t l)
   unfolding nextCost foundBy
@@ -231,4 +209,4 @@ bound-start t h laid = rw (laid .lists .value, sub-zero, zero-add)
 pub cost-is : (t costs : List ℕ) → Costs 7 t costs → Nested t → (l x : ℕ) → l < lists t → x ≡ costIn costs l → capped x ≡ capped (costWithin 7 t l)
 unfolding costIn
 cost-is t costs right nested l x b h =
-    ap capped (h ∙ ap capped (right .says l (nested l b))) ∙ held-twice (capped (costWithin 7 t l)) ∙ held-twice (costWithin 7 t l)
+    ap capped (h ∙ ap capped (right .says l (nested l b))) ∙ capped-twice (capped (costWithin 7 t l)) ∙ capped-twice (costWithin 7 t l)

@@ -9,6 +9,8 @@ use Rattle.rulebook.specs.Words.{word}
 use Rattle.rulebook.specs.Table.{lists}
 use Rattle.rulebook.specs.Expressions.{deepest}
 use Rattle.rulebook.specs.Reasons.{listWithin, listCost, costWithin}
+use Rattle.words.specs.declared.sections.Layout.{Layout}
+use Rattle.nesting.specs.Depths.{Searched}
 
 abbrev pub capped : ℕ → ℕ
 capped n = min 4097 n
@@ -29,3 +31,18 @@ pub record Costs (d : ℕ) (t costs : List ℕ) : Type 0 where
 -- every list keeps rule 7
 abbrev pub Nested : List ℕ → Type 0
 Nested t = (l : ℕ) → l < lists t → listWithin deepest t l ≡ true
+
+-- a table with the depths of its lists, and the costs of those that are at most d deep
+pub record Costed (d : ℕ) (t : List ℕ) (h : Layout) (depths costs : List ℕ) : Type 0 where
+  pub searched : Searched deepest t h depths
+  pub found : Costs d t costs
+
+-- the same, where a round is still to come
+pub record NextCosts (d : ℕ) (t : List ℕ) (h : Layout) (depths costs : List ℕ) : Type 0 where
+  pub costed : Costed d t h depths costs
+  pub shallow : d < 7
+
+-- a table whose lists keep rule 7, with their depths
+pub record Kept (t : List ℕ) (h : Layout) (depths : List ℕ) : Type 0 where
+  pub searched : Searched deepest t h depths
+  pub nested : Nested t

@@ -6,35 +6,26 @@ use native.Mathlib.Omega.{arith}
 use lib.ListN.{length, drop}
 use lib.Dec.{ltb}
 use borrow.Author.Tests.{eq-eqb, ne-eqb}
-use Rattle.rulebook.specs.Reasons.{Verdict, bound, accepted, check}
+use Rattle.rulebook.specs.Reasons.{bound, accepted, check}
 use Rattle.rulebook.specs.State.{stateLength, fits, freshAnswer, freshState}
 use Rattle.rulebook.specs.Step.{refusedState, firstFault, wellFormed, known, sentByOwner, finish, conclude, step}
-use Rattle.laws.specs.Acceptance.{Given}
 use Rattle.laws.proofs.Tests.{split}
-use Rattle.laws.proofs.Acceptance.{Exact, clean, given, check-exact}
+use Rattle.laws.proofs.Acceptance.{reason-given, no-place}
 use Rattle.laws.proofs.Facts.{facts}
 use Rattle.laws.proofs.Steps.{refusal-changes-nothing, happen-shallow}
-use Rattle.tables.specs.Told.{promised}
+use Rattle.tables.specs.Finding.{promised}
 use Rattle.manager.specs.Promises.{ChecksTableIn, MakesFreshIn, ChecksStateIn, TakesEventIn}
 use Rattle.demands.specs.Demand1.{TableAnswered, FreshAnswered, StateAnswered, EventAnswered, Demand1}
 
 -- The table check.
-
-check-first : (t : List ℕ) (v : Verdict) → Exact t v → (v .reason ≡ 0 → ⊥) → Given t (v .reason) (v .place)
-check-first t v (clean b is) n = absurd (n (ap (λ (u : Verdict). u .reason) is))
-check-first t v (given g is) n = rw is g
-
-check-place : (t : List ℕ) (v : Verdict) → Exact t v → v .reason ≡ 0 → v .place ≡ 0
-check-place t v (clean b is) z = ap (λ (u : Verdict). u .place) is
-check-place t v (given g is) z = let y = ap (λ (u : Verdict). u .reason) is in let one = g .atLeast in absurd (omega arith)
 
 pub table-answered : (t : List ℕ) (reason place b : ℕ) → ChecksTableIn t reason place b → TableAnswered t reason place b
 unfolding promised
 table-answered t reason place b p =
     let is : reason ≡ check t .reason = p .0 in
     record {
-      first = λ n. rw (is, p .1) (check-first t (check t) (check-exact t) (λ z. n (is ∙ z)));
-      noPlace = λ z. p .1 ∙ check-place t (check t) (check-exact t) (sym is ∙ z);
+      first = λ n. rw (is, p .1) (reason-given t (λ z. n (is ∙ z)));
+      noPlace = λ z. p .1 ∙ no-place t (sym is ∙ z);
       bound = λ z. p .2 ∙ rw (eq-eqb _ 0 (sym is ∙ z));
       noBound = λ n. p .2 ∙ rw (ne-eqb (check t .reason) 0 (λ z. n (is ∙ z)));
     }

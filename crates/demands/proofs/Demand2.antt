@@ -15,25 +15,27 @@ use Rattle.laws.specs.Chosen.{Arbitrated}
 use Rattle.laws.proofs.Acceptance.{accepted-exactly}
 use Rattle.laws.proofs.Facts.{facts}
 use Rattle.laws.proofs.Happen.{Taken}
-use Rattle.laws.proofs.Steps.{Callable, Stepped, refused, done, stepped, happen-paid}
+use Rattle.laws.specs.Callable.{Callable}
+use Rattle.laws.proofs.Steps.{step-cases, happen-paid}
 use Rattle.laws.proofs.Chosen.{happen-arbitrates}
-use Rattle.tables.specs.Told.{promised}
+use Rattle.tables.specs.Finding.{promised}
 use Rattle.manager.specs.Promises.{ChecksTableIn, TakesEventIn}
 use Rattle.demands.specs.Demand2.{Steps, Demand2}
 
 -- a call answered 0 went through the checks, and the step is what the event does
-pub record Done (t s : List ℕ) (room e : ℕ) : Type 0 where
+pub record DoneBy (t s : List ℕ) (room e : ℕ) (r : Result) : Type 0 where
   pub callable : Callable t s room
   pub taken : Taken t e
-  pub state : step t s room e .state ≡ happen t e s .state
-  pub words : step t s room e .words ≡ happen t e s .words
+  pub state : r .state ≡ happen t e s .state
+  pub words : r .words ≡ happen t e s .words
+
+abbrev pub Done : List ℕ → List ℕ → ℕ → ℕ → Type 0
+Done t s room e = DoneBy t s room e (step t s room e)
 
 pub done-step : (t s : List ℕ) (room e : ℕ) → step t s room e .answer ≡ 0 → Done t s room e
-done-step t s room e z = go (stepped t s room e)
-  where
-    go : Stepped t s room e (step t s room e) → Done t s room e
-    go (refused k a b is) = let y : step t s room e .answer ≡ k = ap (λ (v : Result). v .answer) is in absurd (omega arith)
-    go (done c w is) = record { callable = c; taken = w; state = ap (λ (v : Result). v .state) is; words = ap (λ (v : Result). v .words) is }
+done-step t s room e =
+    step-cases (λ r. r .answer ≡ 0 → DoneBy t s room e r) t s room e (λ k a b z. absurd (omega arith))
+    (λ c w z. record { callable = c; taken = w; state = refl; words = refl })
 
 module _ (t s trace : List ℕ) (e k n : ℕ) (s′ trace′ : List ℕ) (p : TakesEventIn t s trace e k n s′ trace′) (z : k ≡ 0) where
   pub call : Done t s (length trace) e

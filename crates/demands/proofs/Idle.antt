@@ -19,7 +19,7 @@ use Rattle.laws.proofs.Walks.{listed-length, listed-at}
 use Rattle.laws.proofs.Facts.{facts}
 use Rattle.laws.proofs.Order.{each-both}
 use Rattle.laws.proofs.Chosen.{behind}
-use Rattle.laws.proofs.Steps.{Stepped, refused, done, stepped, happen-paid}
+use Rattle.laws.proofs.Steps.{step-cases, happen-paid}
 use Rattle.events.specs.declared.Answer.{Answer}
 use Rattle.events.specs.declared.Answer.the-variants.{Done, BadTable, UnfitState, ShortTrace, Malformed, NoSuchThing, NotItsOwner}
 use Rattle.events.specs.Answers.{numberOf, countOf, Told}
@@ -260,17 +260,19 @@ no-count (suc (suc (suc (suc (suc (suc k)))))) = refl
 outcome : List ℕ → Result → Outcome
 outcome trace x = record { answer = answerWith (x .answer) (length (x .words)); state = x .state; trace = x .words ++ drop (length (x .words)) trace }
 
-told : (t s trace : List ℕ) (room e : ℕ) (x : Result) → Stepped t s room e x
-    → Told x trace (outcome trace x .answer) (outcome trace x .state) (outcome trace x .trace)
+told : (t s trace : List ℕ) (room e : ℕ)
+    → Told (step t s room e) trace (outcome trace (step t s room e) .answer) (outcome trace (step t s room e) .state) (outcome trace (step t s room e) .trace)
 unfolding outcome answerWith
-told t s trace room e x (refused k a b is) = rw is (record { answer = answer-number k 0 b; count = no-count k; state = refl; words = refl })
-told t s trace room e x (done c w is) = rw is (record { answer = refl; count = refl; state = refl; words = refl })
+told t s trace room e =
+    step-cases (λ x. Told x trace (outcome trace x .answer) (outcome trace x .state) (outcome trace x .trace)) t s room e
+    (λ k a b. record { answer = answer-number k 0 b; count = no-count k; state = refl; words = refl })
+    (λ c w. record { answer = refl; count = refl; state = refl; words = refl })
 
 pub meets-exists : (p : Program) × Meets p × LeavesWords p
 unfolding outcome
 meets-exists = (
   λ t s trace e. outcome trace (step t s (length trace) e),
-  λ t s trace e i. told t s trace (length trace) e _ (stepped t s (length trace) e),
+  λ t s trace e i. told t s trace (length trace) e,
   λ t s trace e i.
       let ws = step t s (length trace) e .words in
       let w = step-words t s (length trace) e (i .state) in

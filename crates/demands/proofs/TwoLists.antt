@@ -7,12 +7,12 @@ use Prim.Native.Nat.{ℕ, zero, suc, _+_, _<_}
 use native.Mathlib.Omega.{arith}
 use borrow.Author.Tests.{ne-eqb}
 use Rattle.rulebook.specs.Words.{digit, first, all, any, sum, listed, each}
-use Rattle.rulebook.specs.Table.{part, stranger, deferred}
+use Rattle.rulebook.specs.Table.{part, byItem, stranger, deferred}
 use Rattle.rulebook.specs.Expressions.{operator, expressionNests, expressionWithin, expressionMentions, mentions, condition, expressionHolds, holds}
 use Rattle.rulebook.specs.Reasons.{hasHeader, knownEdition, countsInside, exactLength, portFields, expressionFields, itemFields, ownFields}
 use Rattle.rulebook.specs.Reasons.{networkHas, held, mayShow, expressionNames, listOrNone, itemNames, names}
 use Rattle.rulebook.specs.Reasons.{itemNests, listNests, listWithin, nesting, strangersPort, ruleOwned, itemOwned, owners, itemCost, listCost}
-use Rattle.rulebook.specs.Reasons.{costWithin, bound, affordable, breaks, lowest, wholly, wordwise, check}
+use Rattle.rulebook.specs.Reasons.{costWithin, bound, affordable, breaks, lowest, orNext, firstOf, check}
 use Rattle.rulebook.specs.State.{thing, ownerOf, packPort, packRule, portFits, ruleFits, thingFits, fitsAt, fits}
 use Rattle.rulebook.specs.Lists.{Run, traceWord, setPort, effect, act, valueIn, undefinedIn, unready, resultIn, choice, choiceIn, setResult, runItem}
 use Rattle.rulebook.specs.Lists.{runItems, runList}
@@ -32,10 +32,10 @@ use Rattle.demands.proofs.Given.{Given, given}
 use Rattle.demands.specs.TwoLists.{table, fresh, bothRun}
 
 pub claim : bothRun ≡ true
-unfolding digit first all any sum listed each part stranger operator expressionNests expressionWithin expressionMentions mentions condition
+unfolding digit byItem first all any sum listed each part stranger operator expressionNests expressionWithin expressionMentions mentions condition
     expressionHolds holds hasHeader knownEdition countsInside exactLength portFields expressionFields itemFields ownFields networkHas
     held mayShow expressionNames listOrNone itemNames names itemNests listNests listWithin nesting strangersPort ruleOwned itemOwned
-    owners itemCost listCost costWithin bound affordable breaks lowest wholly wordwise check thing ownerOf packPort packRule portFits
+    owners itemCost listCost costWithin bound affordable breaks lowest orNext firstOf check thing ownerOf packPort packRule portFits
     ruleFits thingFits fitsAt fits traceWord setPort effect act valueIn undefinedIn unready resultIn choice choiceIn setResult runItem
     runItems runList unmarkPort unmarkPorts evaluated storeResult storeResults chooses chosen ofPriority orderBelow order runIf
     runChosen decide arbitrate only request happen wellFormed named present suited known sentByOwner
@@ -51,7 +51,7 @@ abbrev set : List ℕ
 set = setPort (eventIndex e) 0 (valueSet e) 0 fresh
 
 both-chosen : (l : ℕ) → l < 2 → Chosen table (only (eventIndex e)) (unmarkPorts table (only (eventIndex e)) set) l
-unfolding digit each mentions expressionMentions condition expressionHolds holds operator packPort setPort valueIn undefinedIn unready
+unfolding digit byItem each mentions expressionMentions condition expressionHolds holds operator packPort setPort valueIn undefinedIn unready
     resultIn unmarkPort unmarkPorts only table fresh
 both-chosen zero h =
     record { list = omega arith; rule = 0; there = omega arith; notNested = refl; arbitrated = refl; ready = refl; itsList = refl; because = inl refl }

@@ -22,7 +22,7 @@ use Rattle.laws.proofs.Facts.{facts}
 use Rattle.laws.proofs.Order.{each-both}
 use Rattle.laws.proofs.Runs.{KeptByActs, decide-keeps, KeptByWrites, arbitrate-keeps}
 use Rattle.laws.proofs.Happen.{happen-cases}
-use Rattle.laws.proofs.Steps.{Stepped, refused, done, stepped}
+use Rattle.laws.proofs.Steps.{step-cases}
 use Rattle.demands.specs.Idle.{Words}
 
 -- words by a computed test
@@ -60,7 +60,7 @@ unfolding setResult
 kept-by-writes t =
     record {
       clear = λ p s b k h. put-port p _ _ _ s h;
-      begin = λ p s b k h. put-port p _ _ _ s h;
+      timerStart = λ p s b k h. put-port p _ _ _ s h;
       stop = λ p s b k h. put-port p _ _ _ s h;
       ask = λ n mode s b m h. put-network t n _ s h;
       store = λ r result s b m h. set-words s _ _ (rule-word result) h;
@@ -71,7 +71,7 @@ kept-by-acts : (t : List ℕ) → KeptByActs t (λ x. Words (x .words))
 unfolding act judge
 kept-by-acts t =
     record {
-      begin = λ l x b h. one-more x _ _ _ _ h;
+      listStart = λ l x b h. one-more x _ _ _ _ h;
       act = λ l i x w a b h. one-more x _ _ _ _ h;
       undefined = λ l i x w e h. one-more x _ _ _ _ h;
       judge = λ l i x w e u h. one-more x _ _ _ _ h;
@@ -152,11 +152,9 @@ module _ (t : List ℕ) where
         (λ k. record { state = off-bus _ s h; words = tt }) (λ k. record { state = move-source _ _ _ s h; words = tt })
 
 pub step-words : (t s : List ℕ) (room e : ℕ) → Words s → Words (step t s room e .state) × Words (step t s room e .words)
-step-words t s room e h = go (step t s room e) (stepped t s room e)
-  where
-    go : (r : Result) → Stepped t s room e r → Words (r .state) × Words (r .words)
-    go r (refused k a b is) = rw is (h, tt)
-    go r (done c w is) = let p = happened t (facts t (c .table)) e s h in rw is (p .state, p .words)
+step-words t s room e h =
+    step-cases (λ r. Words (r .state) × Words (r .words)) t s room e (λ k a b. (h, tt))
+    (λ c w. let p = happened t (facts t (c .table)) e s h in (p .state, p .words))
 
 pub drop-words : (n : ℕ) (ws : List ℕ) → Words ws → Words (drop n ws)
 drop-words zero ws h = h

@@ -1,5 +1,5 @@
 // The entries of `manager`.
-ghost use Rattle.tables.specs.Told.{told};
+ghost use Rattle.tables.specs.Finding.{finding as told};
 ghost use Rattle.states.specs.Made.{numberOf as madeNumber};
 ghost use Rattle.events.specs.Answers.{numberOf, countOf};
 ghost use Rattle.manager.specs.Answers.{stateNumber};

@@ -1,10 +1,9 @@
 // Rule 5: each word of the table keeps its own field rules.
 ghost use mathlib.Core.Path.{_≡_};
-ghost use lib.ListN.{length};
 ghost use Rattle.rulebook.specs.Table.{atPort, atNetwork, atWaits, atSource, atExpression, atRule, atList, atItem};
 ghost use Rattle.rulebook.specs.Reasons.{ownFields, lowest};
 ghost use Rattle.words.specs.Parts.{partOf};
-ghost use Rattle.words.specs.Sections.{Laid};
+ghost use Rattle.words.specs.Sections.{Laid, Whole};
 use words::numbers::CONDITION_CLEARED;
 use words::numbers::CONDITION_SET;
 use words::numbers::ITEM_ASK;
@@ -21,17 +20,16 @@ use words::parts::Part;
 use words::parts::part_at;
 use words::sections;
 use words::sections::Layout;
-use words::table;
 
 fn port_fields(t: &[u32], p: u32) -> bool
     ensures { λ r. ⌜ r ≡ ownFields (now (t .entry)) (atPort p) ⌝ }
 {
-    let w = sections::port_word(t, p);
-    let kind = table::port_kind(w);
-    let deferred = table::port_deferred(w);
-    let has_initial = table::port_has_initial(w);
-    let initial = table::port_initial(w);
-    let reload = table::port_reload(w);
+    let port = sections::port_at(t, p);
+    let kind = port.kind;
+    let deferred = port.deferred;
+    let has_initial = port.has_initial;
+    let initial = port.initial;
+    let reload = port.reload;
     (kind <= PORT_TIMER)
         & ((has_initial == 1) & (kind == PORT_MODE) | !(has_initial == 1) & (initial == 0))
         & ((kind == PORT_TIMER) & (1 <= reload) | !(kind == PORT_TIMER) & (reload == 0))
@@ -42,8 +40,7 @@ fn network_fields(t: &[u32], h: Layout, n: u32) -> bool
     requires { ⌜ Laid (now t) h ⌝ }
     ensures { λ r. ⌜ r ≡ ownFields (now (t .entry)) (atNetwork n) ⌝ }
 {
-    let w = sections::network_word(t, h, n);
-    let zero = table::network_zero(w);
+    let zero = sections::network_at(t, h, n).zero;
     zero == 0
 }
 
@@ -51,19 +48,15 @@ fn waits_fields(t: &[u32], h: Layout, n: u32) -> bool
     requires { ⌜ Laid (now t) h ⌝ }
     ensures { λ r. ⌜ r ≡ ownFields (now (t .entry)) (atWaits n) ⌝ }
 {
-    let w = sections::waits_word(t, h, n);
-    let l1 = table::l1(w);
-    let l2 = table::l2(w);
-    let e_ticks = table::e_ticks(w);
-    (1 <= l1) & (1 <= l2) & (1 <= e_ticks)
+    let waits = sections::waits_at(t, h, n);
+    (1 <= waits.l1) & (1 <= waits.l2) & (1 <= waits.e_ticks)
 }
 
 fn source_fields(t: &[u32], h: Layout, k: u32) -> bool
     requires { ⌜ Laid (now t) h ⌝ }
     ensures { λ r. ⌜ r ≡ ownFields (now (t .entry)) (atSource k) ⌝ }
 {
-    let w = sections::source_word(t, h, k);
-    let zero = table::source_zero(w);
+    let zero = sections::source_at(t, h, k).zero;
     zero == 0
 }
 
@@ -71,11 +64,11 @@ fn expression_fields(t: &[u32], h: Layout, e: u32) -> bool
     requires { ⌜ Laid (now t) h ⌝ }
     ensures { λ r. ⌜ r ≡ ownFields (now (t .entry)) (atExpression e) ⌝ }
 {
-    let w = sections::expression_word(t, h.expression0, e);
-    let kind = table::expression_kind(w);
-    let value = table::condition_value(w);
-    let zero = table::condition_zero(w);
-    let right = table::right(w);
+    let expression = sections::expression_at(t, h.expression0, e);
+    let kind = expression.kind;
+    let value = expression.value;
+    let zero = expression.zero;
+    let right = expression.right;
     (kind <= OPERATOR_NOT)
         & (!!((OPERATOR_AND <= kind) & (kind <= OPERATOR_NOT)) | (zero == 0))
         & (!((CONDITION_SET <= kind) & (kind <= CONDITION_CLEARED)) | (value == 0))
@@ -86,8 +79,7 @@ fn rule_fields(t: &[u32], h: Layout, r: u32) -> bool
     requires { ⌜ Laid (now t) h ⌝ }
     ensures { λ b. ⌜ b ≡ ownFields (now (t .entry)) (atRule r) ⌝ }
 {
-    let w = sections::rule_word(t, h, r);
-    let first = table::first_result(w);
+    let first = sections::rule_at(t, h, r).first_result;
     first <= 2
 }
 
@@ -95,8 +87,7 @@ fn list_fields(t: &[u32], h: Layout, l: u32) -> bool
     requires { ⌜ Laid (now t) h ⌝ }
     ensures { λ r. ⌜ r ≡ ownFields (now (t .entry)) (atList l) ⌝ }
 {
-    let w = sections::list_word(t, h, l);
-    let count = table::item_count(w);
+    let count = sections::list_at(t, h, l).item_count;
     1 <= count
 }
 
@@ -104,10 +95,10 @@ fn item_fields(t: &[u32], h: Layout, i: u32) -> bool
     requires { ⌜ Laid (now t) h ⌝ }
     ensures { λ r. ⌜ r ≡ ownFields (now (t .entry)) (atItem i) ⌝ }
 {
-    let w = sections::item_word(t, h, i);
-    let kind = table::item_kind(w);
-    let a = table::item_a(w);
-    let b = table::item_b(w);
+    let item = sections::item_at(t, h, i);
+    let kind = item.kind;
+    let a = item.a;
+    let b = item.b;
     (kind <= ITEM_RULE)
         & (!(kind == ITEM_CALL) | (a == 0))
         & (!((ITEM_CLEAR <= kind) & (kind <= ITEM_STOP)) | (b == 0))
@@ -135,7 +126,7 @@ fn own_fields(t: &[u32], h: Layout, part: Part) -> bool
 
 // The place of the first word that breaks rule 5; the length where none does.
 pub fn first_misfit(t: &[u32], h: Layout) -> usize
-    requires { ⌜ Laid (now t) h × (length (now t) ≡ h .length) ⌝ }
+    requires { ⌜ Whole (now t) h ⌝ }
     ensures { λ r. ⌜ r ≡ lowest ownFields (now (t .entry)) ⌝ }
 {
     let end = h.length;

@@ -1,101 +1,21 @@
 -- The check gives 0 exactly if all nine rules hold, and reason k at place p exactly if no earlier reason holds and p is the lowest
--- word that breaks rule k. Assumes nothing.
+-- word that breaks rule k. By induction on the rules in their order: no law here knows how many they are or how they are numbered,
+-- but `Rules`, which names them. Assumes nothing.
 use mathlib.Core.Path.{_≡_, refl, sym, _∙_, ap}
-use mathlib.Core.Bool.{Bool, true, false}
+use mathlib.Core.Bool.{Bool, true, false, _&&_}
 use mathlib.Core.Logic.{_↔_}
-use mathlib.Core.List.{List}
-use Prim.Native.Nat.{ℕ, zero, suc, _≤_, _<_}
+use mathlib.Core.List.{List, [], _∷_}
+use Prim.Native.Nat.{ℕ, _≤_, _<_}
 use native.Mathlib.Omega.{arith}
 use lib.ListN.{length}
 use lib.Dec.{ltb, eqb}
-use borrow.Author.Tests.{ltb-true, ltb-false, lt-ltb, eqb-true, eq-eqb, not-false}
+use borrow.Author.Tests.{ltb-true, ltb-false, lt-ltb, eqb-true, eqb-false, not-false}
 use Rattle.rulebook.specs.Words.{first}
 use Rattle.rulebook.specs.Table.{Part, part}
-use Rattle.rulebook.specs.Reasons.{Verdict, verdict, hasHeader, knownEdition, countsInside, exactLength, ownFields, names, nesting, owners, affordable, breaks, lowest, wholly, wordwise, check, accepted}
-use Rattle.laws.specs.Acceptance.{Everywhere, Rules, brokenWhole, brokenAt, broken, KeptBefore, Given}
-use Rattle.laws.proofs.Tests.{split, clash, and-both}
+use Rattle.rulebook.specs.Reasons.{Verdict, verdict, breaks, lowest, Link, ofTable, ofWords, reasons, orNext, firstOf, check, accepted}
+use Rattle.laws.specs.Acceptance.{Everywhere, Rules, reasonOf, broken, GivenBy, here, later, Given}
+use Rattle.laws.proofs.Tests.{split, clash, and-both, and-left, and-right}
 use Rattle.laws.proofs.Walks.{first-holds, first-before}
-
--- what a verdict is: all kept and 0, or a reason given
-pub data Exact (t : List ℕ) (v : Verdict) : Type 0 where
-  clean : KeptBefore 10 t → v ≡ verdict 0 0 → Exact t v
-  given : {k p : ℕ} → Given t k p → v ≡ verdict k p → Exact t v
-
-kept-one-more : (t : List ℕ) (k : ℕ) → KeptBefore k t → ((i : ℕ) → broken k t i ≡ false) → KeptBefore (suc k) t
-kept-one-more t k b h m i lt =
-    split (eqb m k) (λ e. rw (eqb-true m k e) (h i))
-    (λ e. b m i (split (ltb m k) (ltb-true m k) (λ f. let ge : k ≤ m = ltb-false m k f in let eq : m ≡ k = omega arith in clash (eq-eqb m k eq) e)))
-
--- a rule of the whole table
-whole-link : (t : List ℕ) (k : ℕ) (kept : Bool) (next : Verdict) → 1 ≤ k → k ≤ 9 → ((i : ℕ) → broken k t i ≡ brokenWhole kept i)
-    → KeptBefore k t → (KeptBefore (suc k) t → Exact t next) → Exact t (wholly k kept next)
-unfolding wholly
-whole-link t k true next a b is before go = go (kept-one-more t k before is)
-whole-link t k false next a b is before go =
-    given (record { atLeast = a; atMost = b; earlier = before; here = is 0; lowest = λ j lt. absurd (omega arith) }) refl
-
--- a rule of each word
-word-kept : (rule : List ℕ → Part → Bool) (t : List ℕ) (i : ℕ) → (ltb i (length t) ≡ true → breaks rule t i ≡ false) → brokenAt rule t i ≡ false
-word-kept rule t i h = split (ltb i (length t)) (λ e. rw (e, h e)) (λ e. rw e)
-
-word-link : (t : List ℕ) (k : ℕ) (rule : List ℕ → Part → Bool) (next : Verdict) → 1 ≤ k → k ≤ 9 → ((i : ℕ) → broken k t i ≡ brokenAt rule t i)
-    → KeptBefore k t → (KeptBefore (suc k) t → Exact t next) → Exact t (wordwise k rule t next)
-unfolding wordwise lowest
-word-link t k rule next a b is before go =
-    split (ltb (first 0 (length t) (breaks rule t)) (length t))
-    (λ e. let lt : first 0 (length t) (breaks rule t) < length t = ltb-true _ _ e in
-    rw e
-    (given (record {
-      atLeast = a;
-      atMost = b;
-      earlier = before;
-      here = is (first 0 (length t) (breaks rule t)) ∙ and-both _ _ e (first-holds (breaks rule t) 0 (length t) (omega arith));
-      lowest = λ j c. is j ∙ word-kept rule t j (λ d. first-before (breaks rule t) 0 (length t) j (omega arith) c);
-    }) refl))
-    (λ e. let ge : length t ≤ first 0 (length t) (breaks rule t) = ltb-false _ _ e in
-    rw e
-    (go (kept-one-more t k before (λ i. is i ∙ word-kept rule t i (λ d.
-    let lt : i < length t = ltb-true i (length t) d in
-    first-before (breaks rule t) 0 (length t) i (omega arith) (omega arith))))))
-
-none-before-one : (t : List ℕ) → KeptBefore 1 t
-unfolding broken
-none-before-one t zero i h = refl
-none-before-one t (suc m) i h = absurd (omega arith)
-
-pub check-exact : (t : List ℕ) → Exact t (check t)
-unfolding check broken
-check-exact t =
-    whole-link t 1 (hasHeader t) _ (omega arith) (omega arith) (λ i. refl) (none-before-one t)
-    (λ b. whole-link t 2 (knownEdition t) _ (omega arith) (omega arith) (λ i. refl) b
-    (λ b. whole-link t 3 (countsInside t) _ (omega arith) (omega arith) (λ i. refl) b
-    (λ b. whole-link t 4 (exactLength t) _ (omega arith) (omega arith) (λ i. refl) b
-    (λ b. word-link t 5 ownFields _ (omega arith) (omega arith) (λ i. refl) b
-    (λ b. word-link t 6 names _ (omega arith) (omega arith) (λ i. refl) b
-    (λ b. word-link t 7 nesting _ (omega arith) (omega arith) (λ i. refl) b
-    (λ b. word-link t 8 owners _ (omega arith) (omega arith) (λ i. refl) b
-    (λ b. whole-link t 9 (affordable t) _ (omega arith) (omega arith) (λ i. refl) b
-    (λ b. clean b refl)))))))))
-
--- Two reasons given of one table are the same.
-
-same-reason : (t : List ℕ) (k p m q : ℕ) → Given t k p → Given t m q → k < m → ⊥
-same-reason t k p m q g h lt = clash (g .here) (h .earlier k p lt)
-
-same-place : (t : List ℕ) (k p q : ℕ) → Given t k p → Given t k q → p < q → ⊥
-same-place t k p q g h lt = clash (g .here) (h .lowest p lt)
-
-order-cases {ℓ} : {A : Type ℓ} (m n : ℕ) → (m < n → A) → (n < m → A) → (m ≡ n → A) → A
-order-cases m n f g h =
-    split (ltb m n) (λ e. f (ltb-true m n e))
-    (λ e. split (ltb n m) (λ d. g (ltb-true n m d))
-    (λ d. let a : n ≤ m = ltb-false m n e in let b : m ≤ n = ltb-false n m d in h (omega arith)))
-
-given-once : (t : List ℕ) (k p m q : ℕ) → Given t k p → Given t m q → verdict m q ≡ verdict k p
-given-once t k p m q g h =
-    order-cases k m (λ lt. absurd (same-reason t k p m q g h lt)) (λ lt. absurd (same-reason t m q k p h g lt))
-    (λ e. let h′ : Given t k q = rw (← e) at h in
-    order-cases p q (λ lt. absurd (same-place t k p q g h′ lt)) (λ lt. absurd (same-place t k q p h′ g lt)) (λ d. cc))
 
 reason-of : {v u : Verdict} → v ≡ u → v .reason ≡ u .reason
 reason-of e = ap (λ (w : Verdict). w .reason) e
@@ -103,72 +23,152 @@ reason-of e = ap (λ (w : Verdict). w .reason) e
 place-of : {v u : Verdict} → v ≡ u → v .place ≡ u .place
 place-of e = ap (λ (w : Verdict). w .place) e
 
-pub reason-exactly : (t : List ℕ) (k p : ℕ) → 1 ≤ k → (check t ≡ verdict k p) ↔ Given t k p
-reason-exactly t k p one = (given-of (check t) (check-exact t), λ g. verdict-of (check t) (check-exact t) g)
-  where
-    given-of : (v : Verdict) → Exact t v → v ≡ verdict k p → Given t k p
-    given-of v (clean b e) h = let z : 0 ≡ k = sym (reason-of e) ∙ reason-of h in absurd (omega arith)
-    given-of v (given {k = m} {p = q} g e) h = rw (sym (reason-of e) ∙ reason-of h, sym (place-of e) ∙ place-of h) at g
+-- One rule: it holds and is broken nowhere, or it fails at the lowest word that breaks it.
 
-    verdict-of : (v : Verdict) → Exact t v → Given t k p → v ≡ verdict k p
-    verdict-of v (clean b e) g = clash (g .here) (b k p (let le : k ≤ 9 = g .atMost in omega arith))
-    verdict-of v (given {k = m} {p = q} h e) g = e ∙ given-once t k p m q g h
+abbrev pub Holds : List ℕ → Link → Type 0
+Holds t (ofTable k rule) = rule t ≡ true
+Holds t (ofWords k rule) = Everywhere rule t
+
+pub table-passes : (t : List ℕ) (k : ℕ) (rule : List ℕ → Bool) (next : Verdict) → rule t ≡ true → orNext t (ofTable k rule) next ≡ next
+unfolding orNext
+table-passes t k rule next h = rw h
+
+pub table-fails : (t : List ℕ) (k : ℕ) (rule : List ℕ → Bool) (next : Verdict) → rule t ≡ false → orNext t (ofTable k rule) next ≡ verdict k 0
+unfolding orNext
+table-fails t k rule next h = rw h
+
+pub words-pass : (t : List ℕ) (k : ℕ) (rule : List ℕ → Part → Bool) (next : Verdict) → length t ≤ lowest rule t → orNext t (ofWords k rule) next ≡ next
+unfolding orNext
+words-pass t k rule next h = split (ltb (lowest rule t) (length t)) (λ e. let lt = ltb-true (lowest rule t) (length t) e in absurd (omega arith)) (λ e. rw e)
+
+pub words-fail : (t : List ℕ) (k : ℕ) (rule : List ℕ → Part → Bool) (next : Verdict) → lowest rule t < length t
+    → orNext t (ofWords k rule) next ≡ verdict k (lowest rule t)
+unfolding orNext
+words-fail t k rule next h = rw (lt-ltb (lowest rule t) (length t) h)
+
+data Judged (t : List ℕ) (link : Link) : Type 0 where
+  holds : Holds t link → ((i : ℕ) → broken link t i ≡ false) → ((next : Verdict) → orNext t link next ≡ next) → Judged t link
+  fails : (p : ℕ) → broken link t p ≡ true → ((j : ℕ) → j < p → broken link t j ≡ false)
+      → ((next : Verdict) → orNext t link next ≡ verdict (reasonOf link) p) → Judged t link
+
+word-kept : (rule : List ℕ → Part → Bool) (t : List ℕ) (k i : ℕ) → (i < length t → breaks rule t i ≡ false) → broken (ofWords k rule) t i ≡ false
+unfolding broken
+word-kept rule t k i h = split (ltb i (length t)) (λ e. rw (e, h (ltb-true i (length t) e))) (λ e. rw e)
+
+everywhere : (rule : List ℕ → Part → Bool) (t : List ℕ) → ((i : ℕ) → i < length t → breaks rule t i ≡ false) → Everywhere rule t
+unfolding breaks
+everywhere rule t h i lt = not-false (rule t (part t i)) (h i lt)
+
+judged : (t : List ℕ) (link : Link) → Judged t link
+unfolding broken lowest
+judged t (ofTable k rule) =
+    split (rule t) (λ e. holds e (λ i. rw e) (λ next. table-passes t k rule next e))
+    (λ e. fails 0 (rw e) (λ j lt. absurd (omega arith)) (λ next. table-fails t k rule next e))
+judged t (ofWords k rule) =
+    split (ltb (lowest rule t) (length t))
+    (λ e. let lt : first 0 (length t) (breaks rule t) < length t = ltb-true _ _ e in
+    fails (lowest rule t) (and-both _ _ e (first-holds (breaks rule t) 0 (length t) (omega arith)))
+    (λ j c. word-kept rule t k j (λ d. first-before (breaks rule t) 0 (length t) j (omega arith) c))
+    (λ next. words-fail t k rule next lt))
+    (λ e. let ge : length t ≤ first 0 (length t) (breaks rule t) = ltb-false _ _ e in
+    let kept : (i : ℕ) → i < length t → breaks rule t i ≡ false = (λ i lt. first-before (breaks rule t) 0 (length t) i (omega arith) (omega arith)) in
+    holds (everywhere rule t kept) (λ i. word-kept rule t k i (kept i)) (λ next. words-pass t k rule next ge))
+
+-- Reasons.
+
+given-one : (t : List ℕ) (k p : ℕ) (link : Link) (links : List Link) (next : Verdict) → orNext t link next ≡ verdict k p
+    → (next ≡ verdict k p → GivenBy t k p links) → Judged t link → GivenBy t k p (link ∷ links)
+given-one t k p link links next e below (holds h u pass) = later u (below (sym (pass next) ∙ e))
+given-one t k p link links next e below (fails q b low is) =
+    let same : verdict (reasonOf link) q ≡ verdict k p = sym (is next) ∙ e in
+    let at : q ≡ p = place-of same in
+    here (reason-of same) (rw at at b) (rw at at low)
+
+given-of : (t : List ℕ) (k p : ℕ) → 1 ≤ k → (links : List Link) → firstOf t links ≡ verdict k p → GivenBy t k p links
+unfolding firstOf
+given-of t k p one [] e = let z : 0 ≡ k = reason-of e in absurd (omega arith)
+given-of t k p one (link ∷ links) e = given-one t k p link links (firstOf t links) e (given-of t k p one links) (judged t link)
+
+order-cases {ℓ} : {A : Type ℓ} (m n : ℕ) → (m < n → A) → (n < m → A) → (m ≡ n → A) → A
+order-cases m n f g h =
+    split (ltb m n) (λ e. f (ltb-true m n e))
+    (λ e. split (ltb n m) (λ d. g (ltb-true n m d))
+    (λ d. let a : n ≤ m = ltb-false m n e in let b : m ≤ n = ltb-false n m d in h (omega arith)))
+
+passed : (t : List ℕ) (link : Link) (next : Verdict) → ((i : ℕ) → broken link t i ≡ false) → Judged t link → orNext t link next ≡ next
+passed t link next u (holds h v pass) = pass next
+passed t link next u (fails q b low is) = clash b (u q)
+
+stopped : (t : List ℕ) (p : ℕ) (link : Link) (next : Verdict) → broken link t p ≡ true → ((j : ℕ) → j < p → broken link t j ≡ false) → Judged t link
+    → orNext t link next ≡ verdict (reasonOf link) p
+stopped t p link next b low (holds h u pass) = clash b (u p)
+stopped t p link next b low (fails q c lower is) =
+    order-cases p q (λ lt. clash b (lower p lt)) (λ lt. clash c (low q lt)) (λ e. is next ∙ rw e)
+
+verdict-of : (t : List ℕ) (k p : ℕ) {links : List Link} → GivenBy t k p links → firstOf t links ≡ verdict k p
+unfolding firstOf
+verdict-of t k p (here {link = link} r b low) = stopped t p link _ b low (judged t link) ∙ rw r
+verdict-of t k p (later {link = link} u g) = passed t link _ u (judged t link) ∙ verdict-of t k p g
+
+pub reason-exactly : (t : List ℕ) (k p : ℕ) → 1 ≤ k → (check t ≡ verdict k p) ↔ Given t k p
+unfolding check
+reason-exactly t k p one = (given-of t k p one reasons, verdict-of t k p)
 
 -- The nine rules as statements.
 
-whole-kept : (kept : Bool) → brokenWhole kept 0 ≡ false → kept ≡ true
-whole-kept true h = refl
-whole-kept false h = clash refl h
+data All (t : List ℕ) : List Link → Type 0 where
+  none : All t []
+  and : {link : Link} {links : List Link} → Holds t link → All t links → All t (link ∷ links)
 
-everywhere-kept : (rule : List ℕ → Part → Bool) (t : List ℕ) → ((i : ℕ) → brokenAt rule t i ≡ false) → Everywhere rule t
-unfolding breaks
-everywhere-kept rule t h i lt = not-false (rule t (part t i)) (rw (lt-ltb i (length t) lt) at (h i))
+-- no rule has reason 0
+abbrev numbered : List Link → Bool
+numbered [] = true
+numbered (link ∷ links) = ltb 0 (reasonOf link) && numbered links
 
-rules-of : (t : List ℕ) → KeptBefore 10 t → Rules t
-unfolding broken
-rules-of t b =
-    record {
-      header = whole-kept (hasHeader t) (b 1 0 (omega arith));
-      edition = whole-kept (knownEdition t) (b 2 0 (omega arith));
-      counts = whole-kept (countsInside t) (b 3 0 (omega arith));
-      exact = whole-kept (exactLength t) (b 4 0 (omega arith));
-      fields = everywhere-kept ownFields t (λ i. b 5 i (omega arith));
-      named = everywhere-kept names t (λ i. b 6 i (omega arith));
-      nested = everywhere-kept nesting t (λ i. b 7 i (omega arith));
-      owned = everywhere-kept owners t (λ i. b 8 i (omega arith));
-      cost = whole-kept (affordable t) (b 9 0 (omega arith));
-    }
+all-one : (t : List ℕ) (link : Link) (links : List Link) (next : Verdict) → 1 ≤ reasonOf link → orNext t link next .reason ≡ 0
+    → (next .reason ≡ 0 → All t links) → Judged t link → All t (link ∷ links)
+all-one t link links next one z below (holds h u pass) = and h (below (sym (reason-of (pass next)) ∙ z))
+all-one t link links next one z below (fails q b low is) = let e : reasonOf link ≡ 0 = sym (reason-of (is next)) ∙ z in absurd (omega arith)
 
--- under the rules no verdict but 0 is given: each rule's link passes on
+all-of : (t : List ℕ) (links : List Link) → numbered links ≡ true → firstOf t links .reason ≡ 0 → All t links
+unfolding firstOf
+all-of t [] n z = none
+all-of t (link ∷ links) n z =
+    all-one t link links (firstOf t links) (ltb-true 0 (reasonOf link) (and-left (ltb 0 (reasonOf link)) (numbered links) n)) z
+    (all-of t links (and-right (ltb 0 (reasonOf link)) (numbered links) n)) (judged t link)
 
-whole-passes : (k : ℕ) (kept : Bool) (next : Verdict) → kept ≡ true → wholly k kept next ≡ next
-unfolding wholly
-whole-passes k kept next h = rw h
+unbroken : (t : List ℕ) (link : Link) → Holds t link → (i : ℕ) → broken link t i ≡ false
+unfolding broken breaks
+unbroken t (ofTable k rule) h i = rw h
+unbroken t (ofWords k rule) h i = word-kept rule t k i (λ lt. rw (h i lt))
 
-word-passes : (k : ℕ) (rule : List ℕ → Part → Bool) (t : List ℕ) (next : Verdict) → Everywhere rule t → wordwise k rule t next ≡ next
-unfolding wordwise lowest breaks
-word-passes k rule t next h =
-    split (ltb (first 0 (length t) (breaks rule t)) (length t))
-    (λ e. let lt : first 0 (length t) (breaks rule t) < length t = ltb-true _ _ e in
-    clash (first-holds (breaks rule t) 0 (length t) (omega arith)) (rw (h (first 0 (length t) (breaks rule t)) lt)))
-    (λ e. rw e)
+all-pass : (t : List ℕ) {links : List Link} → All t links → firstOf t links ≡ verdict 0 0
+unfolding firstOf
+all-pass t none = refl
+all-pass t (and {link = link} h a) = passed t link _ (unbroken t link h) (judged t link) ∙ all-pass t a
 
-rules-check : (t : List ℕ) → Rules t → check t ≡ verdict 0 0
-unfolding check
-rules-check t r =
-    whole-passes 1 _ _ (r .header)
-    ∙ whole-passes 2 _ _ (r .edition)
-    ∙ whole-passes 3 _ _ (r .counts)
-    ∙ whole-passes 4 _ _ (r .exact)
-    ∙ word-passes 5 ownFields t _ (r .fields)
-    ∙ word-passes 6 names t _ (r .named)
-    ∙ word-passes 7 nesting t _ (r .nested)
-    ∙ word-passes 8 owners t _ (r .owned)
-    ∙ whole-passes 9 _ _ (r .cost)
+rules-of : (t : List ℕ) → All t reasons → Rules t
+rules-of t (and a (and b (and c (and d (and e (and f (and g (and h (and i none))))))))) =
+    record { header = a; edition = b; counts = c; exact = d; fields = e; named = f; nested = g; owned = h; cost = i }
+
+of-rules : (t : List ℕ) → Rules t → All t reasons
+of-rules t r =
+    and (r .header) (and (r .edition) (and (r .counts) (and (r .exact)
+    (and (r .fields) (and (r .named) (and (r .nested) (and (r .owned) (and (r .cost) none))))))))
 
 pub accepted-exactly : (t : List ℕ) → (accepted t ≡ true) ↔ Rules t
-accepted-exactly t = (λ h. rules-from (check t) (check-exact t) (eqb-true (check t .reason) 0 h), λ r. rw (rules-check t r))
+unfolding check
+accepted-exactly t =
+    (λ h. rules-of t (all-of t reasons refl (eqb-true (check t .reason) 0 h)), λ r. rw (all-pass t (of-rules t r)))
+
+-- What the check's answer says: its reason is given at its place, and an accepted table has no place.
+
+pub reason-given : (t : List ℕ) → (check t .reason ≡ 0 → ⊥) → Given t (check t .reason) (check t .place)
+reason-given t n = reason-exactly t (check t .reason) (check t .place) (one (check t .reason) n) .0 refl
   where
-    rules-from : (v : Verdict) → Exact t v → v .reason ≡ 0 → Rules t
-    rules-from v (clean b e) h = rules-of t b
-    rules-from v (given {k = m} g e) h = let z : m ≡ 0 = sym (reason-of e) ∙ h in let o : 1 ≤ m = g .atLeast in absurd (omega arith)
+    one : (k : ℕ) → (k ≡ 0 → ⊥) → 1 ≤ k
+    one k n = split (eqb k 0) (λ e. absurd (n (eqb-true k 0 e))) (λ e. let g = eqb-false k 0 e in omega arith)
+
+pub no-place : (t : List ℕ) → check t .reason ≡ 0 → check t .place ≡ 0
+unfolding check
+no-place t z = place-of (all-pass t (all-of t reasons refl z))

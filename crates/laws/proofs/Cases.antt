@@ -6,25 +6,39 @@ use Prim.Native.Nat.{ℕ}
 use lib.Dec.{eqb}
 use borrow.Author.Tests.{eqb-true, eqb-false}
 use Rattle.rulebook.specs.Words.{word}
-use Rattle.rulebook.specs.Table.{reload, noList, itemKind, itemA, itemB, itemClear, itemStart, itemStop, itemAsk, itemList, itemRule}
+use Rattle.rulebook.specs.Table.{reload, noList, itemKind, itemA, itemB, itemClear, itemStart, itemStop, itemAsk, itemList, itemRule, byItem}
 use Rattle.rulebook.specs.Expressions.{deepest}
 use Rattle.rulebook.specs.State.{markedOf, timerStopped, timerStarted, undefinedResult}
 use Rattle.rulebook.specs.Lists.{Run, emit, traceWord, setPort, networkIn, asking, setNetwork, effect, act, unready, choiceIn, judge, runChoice, runRule, runItem, runList}
 use Rattle.rulebook.specs.Arbitration.{runIf}
 use Rattle.laws.proofs.Tests.{split}
 
+-- an item by what it names: this serves depth, cost and run
+module _ {A : Type 0} (t : List ℕ) (i : ℕ) (list rule : ℕ → A) (other : A) where
+  pub by-list : eqb (itemKind t i) itemList ≡ true → byItem t i list rule other ≡ list (itemA t i)
+  unfolding byItem
+  by-list h = rw (h, byItem)
+
+  pub by-rule : eqb (itemKind t i) itemList ≡ false → eqb (itemKind t i) itemRule ≡ true → byItem t i list rule other ≡ rule (itemA t i)
+  unfolding byItem
+  by-rule h k = rw (h, k, byItem)
+
+  pub by-other : eqb (itemKind t i) itemList ≡ false → eqb (itemKind t i) itemRule ≡ false → byItem t i list rule other ≡ other
+  unfolding byItem
+  by-other h k = rw (h, k, byItem)
+
 module _ (below : ℕ → Run → Run) (t : List ℕ) (o : ℕ) where
   pub item-list : (i : ℕ) (x : Run) → eqb (itemKind t i) itemList ≡ true → runItem below t o i x ≡ below (itemA t i) x
   unfolding runItem
-  item-list i x h = rw (h, runItem)
+  item-list i x h = rw (by-list t i below (runRule below t o) (act t o i) h)
 
   pub item-rule : (i : ℕ) (x : Run) → eqb (itemKind t i) itemList ≡ false → eqb (itemKind t i) itemRule ≡ true → runItem below t o i x ≡ runRule below t o (itemA t i) x
   unfolding runItem
-  item-rule i x h k = rw (h, k, runItem)
+  item-rule i x h k = rw (by-rule t i below (runRule below t o) (act t o i) h k)
 
   pub item-act : (i : ℕ) (x : Run) → eqb (itemKind t i) itemList ≡ false → eqb (itemKind t i) itemRule ≡ false → runItem below t o i x ≡ act t o i x
   unfolding runItem
-  item-act i x h k = rw (h, k, runItem)
+  item-act i x h k = rw (by-other t i below (runRule below t o) (act t o i) h k)
 
   pub rule-unready : (r : ℕ) (x : Run) → unready t (x .state) r ≡ true → runRule below t o r x ≡ emit (traceWord itemRule o r undefinedResult) x
   unfolding runRule

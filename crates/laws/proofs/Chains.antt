@@ -17,7 +17,7 @@ use Rattle.laws.specs.Sequence.{Chain, NamesExpression, RuleNames, Names
 use Rattle.laws.proofs.Tests.{split, clash, part-of, and-right, or-none}
 use Rattle.laws.proofs.Facts.{at-rule, at-list, at-item}
 use Rattle.laws.proofs.Items.{list-there, rule-there, there-or-none}
-use Rattle.laws.proofs.Nesting.{within-item}
+use Rattle.laws.proofs.Nesting.{nests-list, nests-rule, nests-act, within-item}
 
 -- Expressions.
 
@@ -69,18 +69,6 @@ all-fails p i (suc n) h =
     (λ a. (i, omega arith, omega arith, a))
 
 module _ (t : List ℕ) (below : ℕ → Bool) where
-  nests-is-list : (i : ℕ) → eqb (itemKind t i) itemList ≡ true → itemNests t below i ≡ below (itemA t i)
-  unfolding itemNests
-  nests-is-list i h = rw (h, itemNests)
-
-  nests-is-rule : (i : ℕ) → eqb (itemKind t i) itemList ≡ false → eqb (itemKind t i) itemRule ≡ true → itemNests t below i ≡ ruleNests t below (itemA t i)
-  unfolding itemNests
-  nests-is-rule i h k = rw (h, k, itemNests)
-
-  nests-is-act : (i : ℕ) → eqb (itemKind t i) itemList ≡ false → eqb (itemKind t i) itemRule ≡ false → itemNests t below i ≡ true
-  unfolding itemNests
-  nests-is-act i h k = rw (h, k, itemNests)
-
   -- a rule that does not nest has a list that does not
   rule-fails : (r : ℕ) → ruleNests t below r ≡ false → (x : ℕ) × RuleNames t r x × (below x ≡ false)
   unfolding ruleNests
@@ -97,15 +85,15 @@ module _ (t : List ℕ) (below : ℕ → Bool) where
   item-fails : (l i : ℕ) → firstItem t l ≤ i → i < firstItem t l + itemCount t l → itemNests t below i ≡ false → (x : ℕ) × NamesList t l x × (below x ≡ false)
   item-fails l i a b h =
       split (eqb (itemKind t i) itemList)
-      (λ e. (itemA t i, record { item = i; from = a; below = b; how = inl (eqb-true _ _ e, refl) }, sym (nests-is-list i e) ∙ h))
+      (λ e. (itemA t i, record { item = i; from = a; below = b; how = inl (eqb-true _ _ e, refl) }, sym (nests-list t below i e) ∙ h))
       (λ e. split (eqb (itemKind t i) itemRule)
-      (λ g. let w = rule-fails (itemA t i) (sym (nests-is-rule i e g) ∙ h) in (w .0, record { item = i; from = a; below = b; how = inr (eqb-true _ _ g, w .1) }, w .2))
-      (λ g. clash (nests-is-act i e g) h))
+      (λ g. let w = rule-fails (itemA t i) (sym (nests-rule t below i e g) ∙ h) in (w .0, record { item = i; from = a; below = b; how = inr (eqb-true _ _ g, w .1) }, w .2))
+      (λ g. clash (nests-act t below i e g) h))
 
   item-fails← : (l x : ℕ) (n : NamesList t l x) → below x ≡ false → itemNests t below (n .item) ≡ false
   item-fails← l x n h =
-      ⊎-elim (λ w. nests-is-list (n .item) (eq-eqb _ _ (w .0)) ∙ (rw (w .1) at h))
-      (λ w. nests-is-rule (n .item) (rw (w .0)) (eq-eqb _ _ (w .0)) ∙ rule-fails← (itemA t (n .item)) x (w .1) h) (n .how)
+      ⊎-elim (λ w. nests-list t below (n .item) (eq-eqb _ _ (w .0)) ∙ (rw (w .1) at h))
+      (λ w. nests-rule t below (n .item) (rw (w .0)) (eq-eqb _ _ (w .0)) ∙ rule-fails← (itemA t (n .item)) x (w .1) h) (n .how)
 
 -- a list that is named is there
 named-there : (t : List ℕ) → NamesThere t → (l x : ℕ) → l < lists t → NamesList t l x → x < lists t

@@ -1,5 +1,5 @@
 -- A list writes at most as many trace words as it costs; an arbitration at most B. Assumes nothing.
-use mathlib.Core.Path.{_≡_, refl}
+use mathlib.Core.Path.{_≡_, refl, sym, _∙_}
 use mathlib.Core.Bool.{Bool, true}
 use mathlib.Core.List.{List, [], _∷_}
 use Prim.Native.Nat.{ℕ, zero, suc, _+_, _≤_, _<_}
@@ -44,8 +44,8 @@ module _ (t : List ℕ) (fits : ℕ → Bool) (cost : ℕ → ℕ) (below : ℕ 
   unfolding act
   item-paid i x n =
       item-cases below t o i
-      (λ e g. rw (item-list below t o i x g, cost-list t cost i g) (paid (itemA t i) x (nests-list t fits i g n)))
-      (λ e g h. rw (item-rule below t o i x g h, cost-rule t cost i g h) (rule-paid (itemA t i) x (nests-rule t fits i g h n)))
+      (λ e g. rw (item-list below t o i x g, cost-list t cost i g) (paid (itemA t i) x (sym (nests-list t fits i g) ∙ n)))
+      (λ e g h. rw (item-rule below t o i x g h, cost-rule t cost i g h) (rule-paid (itemA t i) x (sym (nests-rule t fits i g h) ∙ n)))
       (λ g h. rw (item-act below t o i x g h, cost-act t cost i g h, one-more) (omega arith))
 
   items-paid : (i n : ℕ) (x : Run) → ((j : ℕ) → i ≤ j → j < i + n → itemNests t fits j ≡ true) → written (each i n (runItem below t o) x) ≤ written x + sum i n (itemCost t cost)

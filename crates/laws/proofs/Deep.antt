@@ -1,5 +1,5 @@
 -- A list that nests within d levels never runs out of d levels; so on an accepted table no run is deep. Assumes nothing.
-use mathlib.Core.Path.{_≡_, refl, _∙_}
+use mathlib.Core.Path.{_≡_, refl, sym, _∙_}
 use mathlib.Core.Bool.{Bool, true, false}
 use mathlib.Core.List.{List, [], _∷_}
 use Prim.Native.Nat.{ℕ, zero, suc, _<_}
@@ -31,8 +31,8 @@ module _ (t : List ℕ) (fits : ℕ → Bool) (below : ℕ → Run → Run) (sha
   unfolding act
   item-shallow i x n =
       item-cases below t o i
-      (λ e g. rw (item-list below t o i x g) (shallow (itemA t i) x (nests-list t fits i g n)))
-      (λ e g h. rw (item-rule below t o i x g h) (rule-shallow (itemA t i) x (nests-rule t fits i g h n)))
+      (λ e g. rw (item-list below t o i x g) (shallow (itemA t i) x (sym (nests-list t fits i g) ∙ n)))
+      (λ e g h. rw (item-rule below t o i x g h) (rule-shallow (itemA t i) x (sym (nests-rule t fits i g h) ∙ n)))
       (λ g h. rw (item-act below t o i x g h))
 
 pub list-shallow : (t : List ℕ) (d l : ℕ) (x : Run) → listWithin d t l ≡ true → runList d t l x .deep ≡ x .deep

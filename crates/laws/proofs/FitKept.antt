@@ -104,7 +104,7 @@ fit-kept t f =
     record {
       clear = λ p s b k h. let o = port-in t s h p b in
           port-put t s h p 1 (markedOf (word s p)) 0 0 b (plain-ok t p _ 0 (λ e. omega arith) (o .marked₂) (o .immediate) (omega arith) (λ e. omega arith));
-      begin = λ p s b k h. port-put t s h p 1 1 timerStarted (reload t p) b (timer-ok t p 1 timerStarted (reload t p) k (timer-deferred t p (f .port p b) k) (omega arith) (omega arith) (omega arith) (λ e. timer-reload t p (f .port p b) k) (λ e. absurd (e refl)));
+      timerStart = λ p s b k h. port-put t s h p 1 1 timerStarted (reload t p) b (timer-ok t p 1 timerStarted (reload t p) k (timer-deferred t p (f .port p b) k) (omega arith) (omega arith) (omega arith) (λ e. timer-reload t p (f .port p b) k) (λ e. absurd (e refl)));
       stop = λ p s b k h. port-put t s h p 1 1 timerStopped 0 b (timer-ok t p 1 timerStopped 0 k (timer-deferred t p (f .port p b) k) (omega arith) (omega arith) (omega arith) (λ e. absurd (omega arith)) (λ e. refl));
       ask = λ n mode s b m h. let o = network-in t s h n b in
           network-put t s h n (asking mode (networkIn t n s)) b (record { counter₈ = o .counter₈; remaining₁₆ = o .remaining₁₆; modes = m; states = o .states; check = o .check; recover = o .recover; rest = o .rest; counted = o .counted });

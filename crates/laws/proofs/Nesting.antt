@@ -13,15 +13,20 @@ use Rattle.rulebook.specs.Lists.{choice}
 use Rattle.laws.proofs.Tests.{clash, and-left, and-right}
 use Rattle.laws.proofs.Walks.{all-at}
 use Rattle.laws.proofs.Items.{choice-cases}
+use Rattle.laws.proofs.Cases.{by-list, by-rule, by-other}
 
 module _ (t : List ℕ) (fits : ℕ → Bool) where
-  pub nests-list : (i : ℕ) → eqb (itemKind t i) itemList ≡ true → itemNests t fits i ≡ true → fits (itemA t i) ≡ true
+  pub nests-list : (i : ℕ) → eqb (itemKind t i) itemList ≡ true → itemNests t fits i ≡ fits (itemA t i)
   unfolding itemNests
-  nests-list i h n = rw (h, itemNests) at n
+  nests-list i h = by-list t i fits (ruleNests t fits) true h
 
-  pub nests-rule : (i : ℕ) → eqb (itemKind t i) itemList ≡ false → eqb (itemKind t i) itemRule ≡ true → itemNests t fits i ≡ true → ruleNests t fits (itemA t i) ≡ true
+  pub nests-rule : (i : ℕ) → eqb (itemKind t i) itemList ≡ false → eqb (itemKind t i) itemRule ≡ true → itemNests t fits i ≡ ruleNests t fits (itemA t i)
   unfolding itemNests
-  nests-rule i h k n = rw (h, k, itemNests) at n
+  nests-rule i h k = by-rule t i fits (ruleNests t fits) true h k
+
+  pub nests-act : (i : ℕ) → eqb (itemKind t i) itemList ≡ false → eqb (itemKind t i) itemRule ≡ false → itemNests t fits i ≡ true
+  unfolding itemNests
+  nests-act i h k = by-other t i fits (ruleNests t fits) true h k
 
   -- the list that a rule starts fits
   pub nests-choice : (r previous result : ℕ) → ruleNests t fits r ≡ true → eqb (choice t r previous result) noList ≡ false → fits (choice t r previous result) ≡ true
@@ -42,15 +47,15 @@ within-item t d l i h a b = all-at (itemNests t (listWithin d t)) (firstItem t l
 module _ (t : List ℕ) (cost : ℕ → ℕ) where
   pub cost-list : (i : ℕ) → eqb (itemKind t i) itemList ≡ true → itemCost t cost i ≡ cost (itemA t i)
   unfolding itemCost
-  cost-list i h = rw (h, itemCost)
+  cost-list i h = by-list t i cost (ruleCost t cost) 1 h
 
   pub cost-rule : (i : ℕ) → eqb (itemKind t i) itemList ≡ false → eqb (itemKind t i) itemRule ≡ true → itemCost t cost i ≡ ruleCost t cost (itemA t i)
   unfolding itemCost
-  cost-rule i h k = rw (h, k, itemCost)
+  cost-rule i h k = by-rule t i cost (ruleCost t cost) 1 h k
 
   pub cost-act : (i : ℕ) → eqb (itemKind t i) itemList ≡ false → eqb (itemKind t i) itemRule ≡ false → itemCost t cost i ≡ 1
   unfolding itemCost
-  cost-act i h k = rw (h, k, itemCost)
+  cost-act i h k = by-other t i cost (ruleCost t cost) 1 h k
 
   pub rule-costs : (r : ℕ) → 1 ≤ ruleCost t cost r
   unfolding ruleCost

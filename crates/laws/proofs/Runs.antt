@@ -33,7 +33,7 @@ item-there t f l i w =
     omega arith
 
 pub record KeptByActs (t : List ℕ) (Q : Run → Type 0) : Type 0 where
-  pub begin : (l : ℕ) (x : Run) → l < lists t → Q x → Q (emit (traceWord traceListStart (listOwner t l) l 0) x)
+  pub listStart : (l : ℕ) (x : Run) → l < lists t → Q x → Q (emit (traceWord traceListStart (listOwner t l) l 0) x)
   pub act : (l i : ℕ) (x : Run) → Within t l i → eqb (itemKind t i) itemList ≡ false → eqb (itemKind t i) itemRule ≡ false → Q x → Q (act t (listOwner t l) i x)
   pub undefined : (l i : ℕ) (x : Run) → Within t l i → itemKind t i ≡ itemRule → Q x → Q (emit (traceWord itemRule (listOwner t l) (itemA t i) undefinedResult) x)
   pub judge : (l i : ℕ) (x : Run) → Within t l i → itemKind t i ≡ itemRule → unready t (x .state) (itemA t i) ≡ false → Q x → Q (judge t (listOwner t l) (itemA t i) x)
@@ -69,7 +69,7 @@ module _ (t : List ℕ) (f : Facts t) (Q : Run → Type 0) (k : KeptByActs t Q) 
   list-keeps zero l x h q = k .deep x q
   list-keeps (suc d) l x h q =
       each-keeps Q (runItem (runList d t) t (listOwner t l)) (firstItem t l) (itemCount t l) _
-      (λ i y a b c. item-keeps (runList d t) (list-keeps d) l i y (record { list = h; from = a; below = b }) c) (k .begin l x h q)
+      (λ i y a b c. item-keeps (runList d t) (list-keeps d) l i y (record { list = h; from = a; below = b }) c) (k .listStart l x h q)
 
   chosen-keep : (c : ℕ → Bool) (ls : List ℕ) (x : Run) → Each (λ l. l < lists t) ls → Q x → Q (runChosen t c ls x)
   unfolding runChosen
@@ -86,7 +86,7 @@ module _ (t : List ℕ) (f : Facts t) (Q : Run → Type 0) (k : KeptByActs t Q) 
 
 pub record KeptByWrites (t : List ℕ) (P : List ℕ → Type 0) : Type 0 where
   pub clear : (p : ℕ) (s : List ℕ) → p < ports t → portKind t p ≡ portEvent → P s → P (setPort p (markedOf (word s p)) 0 0 s)
-  pub begin : (p : ℕ) (s : List ℕ) → p < ports t → portKind t p ≡ portTimer → P s → P (setPort p 1 timerStarted (reload t p) s)
+  pub timerStart : (p : ℕ) (s : List ℕ) → p < ports t → portKind t p ≡ portTimer → P s → P (setPort p 1 timerStarted (reload t p) s)
   pub stop : (p : ℕ) (s : List ℕ) → p < ports t → portKind t p ≡ portTimer → P s → P (setPort p 1 timerStopped 0 s)
   pub ask : (n mode : ℕ) (s : List ℕ) → n < networks t → mode ≤ 2 → P s → P (setNetwork t n (asking mode (networkIn t n s)) s)
   pub store : (r result : ℕ) (s : List ℕ) → r < rules t → result ≤ 1 → P s → P (setResult t r result s)
@@ -98,7 +98,7 @@ module _ (t : List ℕ) (f : Facts t) (P : List ℕ → Type 0) (k : KeptByWrite
       let named = f .item i h .1 in
       effect-cases P t i s
       (λ e. let there = clear-there t i named e in k .clear (itemA t i) s (port-there t portEvent (itemA t i) there) (kind-is t portEvent (itemA t i) there) q)
-      (λ e. let there = start-there t i named e in k .begin (itemA t i) s (port-there t portTimer (itemA t i) there) (kind-is t portTimer (itemA t i) there) q)
+      (λ e. let there = start-there t i named e in k .timerStart (itemA t i) s (port-there t portTimer (itemA t i) there) (kind-is t portTimer (itemA t i) there) q)
       (λ e. let there = stop-there t i named e in k .stop (itemA t i) s (port-there t portTimer (itemA t i) there) (kind-is t portTimer (itemA t i) there) q)
       (λ e. k .ask (itemA t i) (itemB t i) s (ask-there t i named e) (mode-small t i (f .item i h .0) e) q)
       (λ e. q)
@@ -107,7 +107,7 @@ module _ (t : List ℕ) (f : Facts t) (P : List ℕ → Type 0) (k : KeptByWrite
   unfolding act judge
   acts-keep =
       record {
-        begin = λ l x h q. q;
+        listStart = λ l x h q. q;
         act = λ l i x w g h q. effect-keeps i (x .state) (item-there t f l i w) q;
         undefined = λ l i x w e q. q;
         judge = λ l i x w e u q. k .store (itemA t i) _ (x .state) (rule-there t i (f .item i (item-there t f l i w) .1) e) (result-small t (x .state) (itemA t i)) q;

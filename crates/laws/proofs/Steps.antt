@@ -15,6 +15,7 @@ use Rattle.rulebook.specs.State.{stateLength, Thing, aPort, aRule, aNetwork, aS
 use Rattle.rulebook.specs.Events.{request, tick, arbitrateMarked, happen}
 use Rattle.rulebook.specs.Step.{refusedState, refusedCall, wellFormed, known, sentByOwner, present, firstFault, refusedEvent, Result, refusal, finish, conclude, handle, step}
 use Rattle.laws.specs.Facts.{Facts}
+use Rattle.laws.specs.Callable.{Callable}
 use Rattle.laws.proofs.Tests.{split, part-of, cond-yes}
 use Rattle.laws.proofs.Walks.{listed-length, listed-at}
 use Rattle.laws.proofs.Facts.{facts}
@@ -26,12 +27,7 @@ use Rattle.laws.proofs.FitKept.{Fits, plain-ok, timer-ok, timer-deferre
 use Rattle.laws.proofs.Happen.{Taken, taken-event, happen-cases}
 use Rattle.laws.proofs.FitEvents.{happen-fits}
 
--- What the checks of table, state and room let through.
-
-pub record Callable (t s : List ℕ) (room : ℕ) : Type 0 where
-  pub table : accepted t ≡ true
-  pub state : Fits t s
-  pub enough : bound t ≤ room
+-- What answers 1 to 3 let through.
 
 pub callable : (t s : List ℕ) (room : ℕ) → refusedCall t s room ≡ 0 → Callable t s room
 unfolding refusedCall refusedState
@@ -94,54 +90,36 @@ module _ (t : List ℕ) (f : Facts t) where
 
 -- The two ways a step can go: refused, or done.
 
-pub data Stepped (t s : List ℕ) (room e : ℕ) (r : Result) : Type 0 where
-  refused : (k : ℕ) → 1 ≤ k → k ≤ 6 → r ≡ refusal k s → Stepped t s room e r
-  done : Callable t s room → Taken t e → r ≡ record { answer = 0; state = happen t e s .state; words = happen t e s .words } → Stepped t s room e r
-
-pub stepped : (t s : List ℕ) (room e : ℕ) → Stepped t s room e (step t s room e)
+pub step-cases {ℓ} : (P : Result → Type ℓ) (t s : List ℕ) (room e : ℕ)
+    → ((k : ℕ) → 1 ≤ k → k ≤ 6 → P (refusal k s))
+    → (Callable t s room → Taken t e → P (record { answer = 0; state = happen t e s .state; words = happen t e s .words }))
+    → P (step t s room e)
 unfolding handle conclude finish
-stepped t s room e =
+step-cases P t s room e refused done =
     split (eqb (refusedCall t s room) 0)
     (λ a. let c = callable t s room (eqb-true _ _ a) in
     split (eqb (refusedEvent t e) 0)
-    (λ b. rw (step-in-parts, a, b, happen-shallow t (facts t (c .table)) e s) (done c (taken-event t e (eqb-true _ _ b)) refl))
-    (λ b. let n = eqb-false _ _ b in let m = event-small t e in rw (step-in-parts, a, b) (refused (refusedEvent t e) (at-least-one _ n) m refl)))
-    (λ a. let n = eqb-false _ _ a in let m = call-small t s room in rw (step-in-parts, a) (refused (refusedCall t s room) (at-least-one _ n) (omega arith) refl))
+    (λ b. rw (step-in-parts, a, b, happen-shallow t (facts t (c .table)) e s) (done c (taken-event t e (eqb-true _ _ b))))
+    (λ b. let n = eqb-false _ _ b in rw (step-in-parts, a, b) (refused (refusedEvent t e) (at-least-one _ n) (event-small t e))))
+    (λ a. let n = eqb-false _ _ a in let m = call-small t s room in rw (step-in-parts, a) (refused (refusedCall t s room) (at-least-one _ n) (omega arith)))
   where
     at-least-one : (k : ℕ) → (k ≡ 0 → ⊥) → 1 ≤ k
     at-least-one k n = omega arith
 
--- Answer 7 never comes; a refusal changes nothing and writes nothing; the words are at most B.
+-- Answer 7 never comes; a refusal changes nothing and writes nothing; the words are at most B; states stay fit.
 
 pub never-seven : (t s : List ℕ) (room e : ℕ) → step t s room e .answer ≡ 7 → ⊥
-never-seven t s room e h = go (step t s room e) (stepped t s room e) h
-  where
-    go : (r : Result) → Stepped t s room e r → r .answer ≡ 7 → ⊥
-    go r (refused k a b eq) z = let y : r .answer ≡ k = ap (λ (q : Result). q .answer) eq in omega arith
-    go r (done c w eq) z = let y : r .answer ≡ 0 = ap (λ (q : Result). q .answer) eq in omega arith
+never-seven t s room e = step-cases (λ r. r .answer ≡ 7 → ⊥) t s room e (λ k a b z. omega arith) (λ c w z. omega arith)
 
 pub refusal-changes-nothing : (t s : List ℕ) (room e : ℕ) → (step t s room e .answer ≡ 0 → ⊥) → (step t s room e .state ≡ s) × (step t s room e .words ≡ [])
-refusal-changes-nothing t s room e n = go (step t s room e) (stepped t s room e) n
-  where
-    go : (r : Result) → Stepped t s room e r → (r .answer ≡ 0 → ⊥) → (r .state ≡ s) × (r .words ≡ [])
-    go r (refused k a b eq) z = (ap (λ (q : Result). q .state) eq, ap (λ (q : Result). q .words) eq)
-    go r (done c w eq) z = absurd (z (ap (λ (q : Result). q .answer) eq))
+refusal-changes-nothing t s room e =
+    step-cases (λ r. (r .answer ≡ 0 → ⊥) → (r .state ≡ s) × (r .words ≡ [])) t s room e (λ k a b n. (refl, refl)) (λ c w n. absurd (n refl))
 
 pub words-within : (t s : List ℕ) (room e : ℕ) → accepted t ≡ true → length (step t s room e .words) ≤ bound t
-words-within t s room e h = go (step t s room e) (stepped t s room e)
-  where
-    go : (r : Result) → Stepped t s room e r → length (r .words) ≤ bound t
-    go r (refused k a b eq) = rw (ap (λ (q : Result). q .words) eq) (omega arith)
-    go r (done c w eq) = rw (ap (λ (q : Result). q .words) eq) (happen-paid t (facts t h) e s)
-
--- States stay fit.
+words-within t s room e h = step-cases (λ r. length (r .words) ≤ bound t) t s room e (λ k a b. omega arith) (λ c w. happen-paid t (facts t h) e s)
 
 pub step-fits : (t s : List ℕ) (room e : ℕ) → accepted t ≡ true → Fits t s → Fits t (step t s room e .state)
-step-fits t s room e h f = go (step t s room e) (stepped t s room e)
-  where
-    go : (r : Result) → Stepped t s room e r → Fits t (r .state)
-    go r (refused k a b eq) = rw (ap (λ (q : Result). q .state) eq) f
-    go r (done c w eq) = rw (ap (λ (q : Result). q .state) eq) (happen-fits t (facts t h) e s w f)
+step-fits t s room e h f = step-cases (λ r. Fits t (r .state)) t s room e (λ k a b. f) (λ c w. happen-fits t (facts t h) e s w f)
 
 -- every word of the state belongs to a thing that is there
 pub thing-present : (t : List ℕ) (i : ℕ) → i < stateLength t → present t (thing t i) ≡ true

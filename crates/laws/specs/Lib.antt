@@ -3,3 +3,4 @@ pub mod Acceptance
 pub mod Facts
 pub mod Sequence
 pub mod Chosen
+pub mod Callable

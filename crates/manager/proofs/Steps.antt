@@ -16,15 +16,15 @@ use Rattle.laws.proofs.Facts.{facts}
 use Rattle.laws.proofs.Steps.{happen-shallow, happen-paid}
 use Rattle.tables.specs.declared.Checked.{Checked}
 use Rattle.tables.specs.declared.Checked.the-variants.{Accepted}
-use Rattle.tables.specs.Told as tables
+use Rattle.tables.specs.Finding as tables
 use Rattle.lists.specs.Runs.{Safe}
 use Rattle.events.specs.declared.Answer.the-variants.{BadTable, UnfitState, ShortTrace}
 use Rattle.events.specs.Answers.{Told}
 
 -- B, as the check's answer tells it
-pub told-bound : (t : List ℕ) (b : ℕ) (r : Checked) → r ≡ Accepted b → tables.told r ≡ tables.promised t → accepted t ≡ true → b ≡ bound t
+pub told-bound : (t : List ℕ) (b : ℕ) (r : Checked) → r ≡ Accepted b → tables.finding r ≡ tables.promised t → accepted t ≡ true → b ≡ bound t
 unfolding tables.promised
-told-bound t b r e h a = ap (λ (x : Checked). tables.told x .bound) (sym e) ∙ ap (λ (x : tables.Told). x .bound) h ∙ rw a
+told-bound t b r e h a = ap (λ (x : Checked). tables.finding x .bound) (sym e) ∙ ap (λ (x : tables.Finding). x .bound) h ∙ rw a
 
 module _ (t s trace : List ℕ) (e : ℕ) where
   pub bad-table : accepted t ≡ false → Told (step t s (length trace) e) trace BadTable s trace

@@ -8,7 +8,7 @@ use lib.ListN.{length}
 use Rattle.rulebook.specs.State.{stateLength}
 use Rattle.rulebook.specs.Step.{refusedState, step}
 use Rattle.tables.specs.declared.Checked.{Checked}
-use Rattle.tables.specs.Told.{told, Says, promised}
+use Rattle.tables.specs.Finding.{finding as told, Says, promised}
 use Rattle.states.specs.declared.Made.{Made}
 use Rattle.states.specs.Made.{Makes}
 use Rattle.states.specs.Made as made

@@ -3,15 +3,16 @@ use Prim.Native.Nat.{ℕ}
 use mathlib.Core.Path.{_≡_}
 use mathlib.Core.List.{List}
 use lib.Dec.{eqb}
-use Rattle.rulebook.specs.Words.{field}
-use Rattle.rulebook.specs.Table.{networkWord, sourceWord}
 use Rattle.rulebook.specs.Reasons.{networkHas, sourceHas}
+use Rattle.words.specs.declared.sections.Network.{Network}
+use Rattle.words.specs.declared.sections.Source.{Source}
+use Rattle.words.specs.Sections.{NetworkAt, SourceAt}
 
-module _ (t : List ℕ) (p i w r : ℕ) where
-  pub network-has : w ≡ networkWord t i → r ≡ field 4 8 w → networkHas t p i ≡ eqb r p
+module _ (t : List ℕ) (p i : ℕ) where
+  pub network-has : (x : Network) → NetworkAt t i x → networkHas t p i ≡ eqb (x .port) p
   unfolding networkHas
-  network-has hw hr = rw (hr, hw)
+  network-has x read = rw (read .port .value)
 
-  pub source-has : w ≡ sourceWord t i → r ≡ field 4 8 w → sourceHas t p i ≡ eqb r p
+  pub source-has : (x : Source) → SourceAt t i x → sourceHas t p i ≡ eqb (x .port) p
   unfolding sourceHas
-  source-has hw hr = rw (hr, hw)
+  source-has x read = rw (read .port .value)

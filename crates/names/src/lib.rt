@@ -1,11 +1,10 @@
 // Rule 6: each name is of a thing that is there, and of the right kind.
 ghost use mathlib.Core.Path.{_≡_};
-ghost use lib.ListN.{length};
 ghost use Rattle.rulebook.specs.Words.{any};
 ghost use Rattle.rulebook.specs.Table.{atNetwork, atSource, atExpression, atRule, atList, atItem};
 ghost use Rattle.rulebook.specs.Reasons.{networkHas, sourceHas, held as heldOf, mayShow, names as namesOf, lowest};
 ghost use Rattle.words.specs.Parts.{partOf};
-ghost use Rattle.words.specs.Sections.{Laid};
+ghost use Rattle.words.specs.Sections.{Laid, Whole};
 use words::numbers::CONDITION_CLEARED;
 use words::numbers::CONDITION_NOT_EQUAL;
 use words::numbers::CONDITION_SET;
@@ -26,21 +25,17 @@ use words::parts::Part;
 use words::parts::part_at;
 use words::sections;
 use words::sections::Layout;
-use words::table;
 
 // Whether one of the first n networks has port p.
 fn networks_hold(t: &[u32], h: Layout, p: u32, n: u32) -> bool
     requires { ⌜ Laid (now t) h ⌝ }
     ensures { λ r. ⌜ r ≡ any 0 n (networkHas (now (t .entry)) p) ⌝ }
 {
-    let mut i: u32 = 0;
-    while i < n {
-        let w = sections::network_word(t, h, i);
-        let port = table::network_port(w);
+    for i in 0..n {
+        let port = sections::network_at(t, h, i).port;
         if port == p {
             return true;
         }
-        i += 1;
     }
     false
 }
@@ -50,14 +45,11 @@ fn sources_hold(t: &[u32], h: Layout, p: u32, k: u32) -> bool
     requires { ⌜ Laid (now t) h ⌝ }
     ensures { λ r. ⌜ r ≡ any 0 k (sourceHas (now (t .entry)) p) ⌝ }
 {
-    let mut i: u32 = 0;
-    while i < k {
-        let w = sections::source_word(t, h, i);
-        let port = table::source_port(w);
+    for i in 0..k {
+        let port = sections::source_at(t, h, i).port;
         if port == p {
             return true;
         }
-        i += 1;
     }
     false
 }
@@ -77,10 +69,10 @@ fn may_show(t: &[u32], h: Layout, p: u32) -> bool
     requires { ⌜ Laid (now t) h ⌝ }
     ensures { λ r. ⌜ r ≡ mayShow (now (t .entry)) p ⌝ }
 {
-    let w = sections::port_word(t, p);
-    let kind = table::port_kind(w);
-    let deferred = table::port_deferred(w);
-    let has_initial = table::port_has_initial(w);
+    let port = sections::port_at(t, p);
+    let kind = port.kind;
+    let deferred = port.deferred;
+    let has_initial = port.has_initial;
     let ports = h.ports;
     (p < ports) & (kind == PORT_MODE) & (deferred == 1) & (has_initial == 0)
 }
@@ -89,8 +81,7 @@ fn network_names(t: &[u32], h: Layout, n: u32) -> bool
     requires { ⌜ Laid (now t) h ⌝ }
     ensures { λ r. ⌜ r ≡ namesOf (now (t .entry)) (atNetwork n) ⌝ }
 {
-    let w = sections::network_word(t, h, n);
-    let port = table::network_port(w);
+    let port = sections::network_at(t, h, n).port;
     let shows = may_show(t, h, port);
     let taken = held(t, h, port, n, 0);
     shows & !taken
@@ -100,8 +91,7 @@ fn source_names(t: &[u32], h: Layout, k: u32) -> bool
     requires { ⌜ Laid (now t) h ⌝ }
     ensures { λ r. ⌜ r ≡ namesOf (now (t .entry)) (atSource k) ⌝ }
 {
-    let w = sections::source_word(t, h, k);
-    let port = table::source_port(w);
+    let port = sections::source_at(t, h, k).port;
     let shows = may_show(t, h, port);
     let taken = held(t, h, port, h.networks, k);
     shows & !taken
@@ -111,13 +101,12 @@ fn expression_names(t: &[u32], h: Layout, e: u32) -> bool
     requires { ⌜ Laid (now t) h ⌝ }
     ensures { λ r. ⌜ r ≡ namesOf (now (t .entry)) (atExpression e) ⌝ }
 {
-    let w = sections::expression_word(t, h.expression0, e);
-    let kind = table::expression_kind(w);
-    let left = table::left(w);
-    let right = table::right(w);
-    let port = table::condition_port(w);
-    let named = sections::port_word(t, port);
-    let port_kind = table::port_kind(named);
+    let expression = sections::expression_at(t, h.expression0, e);
+    let kind = expression.kind;
+    let left = expression.left;
+    let right = expression.right;
+    let port = expression.port;
+    let port_kind = sections::port_at(t, port).kind;
     let expressions = h.expressions;
     let ports = h.ports;
     (!((OPERATOR_AND <= kind) & (kind <= OPERATOR_NOT)) | (left < expressions))
@@ -132,10 +121,10 @@ fn rule_names(t: &[u32], h: Layout, r: u32) -> bool
     requires { ⌜ Laid (now t) h ⌝ }
     ensures { λ b. ⌜ b ≡ namesOf (now (t .entry)) (atRule r) ⌝ }
 {
-    let w = sections::rule_word(t, h, r);
-    let expression = table::rule_expression(w);
-    let true_list = table::true_list(w);
-    let false_list = table::false_list(w);
+    let rule = sections::rule_at(t, h, r);
+    let expression = rule.expression;
+    let true_list = rule.true_list;
+    let false_list = rule.false_list;
     let expressions = h.expressions;
     let lists = h.lists;
     (expression < expressions)
@@ -147,25 +136,21 @@ fn list_names(t: &[u32], h: Layout, l: u32) -> bool
     requires { ⌜ Laid (now t) h ⌝ }
     ensures { λ r. ⌜ r ≡ namesOf (now (t .entry)) (atList l) ⌝ }
 {
-    let w = sections::list_word(t, h, l);
-    let first = table::first_item(w);
-    let count = table::item_count(w);
-    let items = h.items;
-    first + count <= items
+    let list = sections::list_at(t, h, l);
+    list.first_item + list.item_count <= h.items
 }
 
 fn item_names(t: &[u32], h: Layout, i: u32) -> bool
     requires { ⌜ Laid (now t) h ⌝ }
     ensures { λ r. ⌜ r ≡ namesOf (now (t .entry)) (atItem i) ⌝ }
 {
-    let w = sections::item_word(t, h, i);
-    let kind = table::item_kind(w);
+    let item = sections::item_at(t, h, i);
+    let kind = item.kind;
     if kind == ITEM_CALL {
         return true;
     }
-    let a = table::item_a(w);
-    let named = sections::port_word(t, a);
-    let port_kind = table::port_kind(named);
+    let a = item.a;
+    let port_kind = sections::port_at(t, a).kind;
     let ports = h.ports;
     let networks = h.networks;
     let lists = h.lists;
@@ -197,7 +182,7 @@ fn names(t: &[u32], h: Layout, part: Part) -> bool
 
 // The place of the first word that breaks rule 6; the length where none does.
 pub fn first_misnamed(t: &[u32], h: Layout) -> usize
-    requires { ⌜ Laid (now t) h × (length (now t) ≡ h .length) ⌝ }
+    requires { ⌜ Whole (now t) h ⌝ }
     ensures { λ r. ⌜ r ≡ lowest namesOf (now (t .entry)) ⌝ }
 {
     let end = h.length;

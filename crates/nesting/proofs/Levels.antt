@@ -10,45 +10,25 @@ use lib.Seq.{getD-set-same, getD-set-other}
 use borrow.Author.Tests.{lt-ltb, le-ltb, ltb-true, ltb-false, eq-eqb, ne-eqb, eqb-true, eqb-false, le-leb, leb-true, leb-false}
 use native.Mathlib.Nat.{add-zero, add-suc}
 use native.Mathlib.Numerals.{add-one}
-use Rattle.rulebook.specs.Words.{field, all, word}
-use Rattle.rulebook.specs.Table.{lists, itemWord, listWord, itemKind, itemA, itemList, itemRule, noList, trueList, falseList, firstItem, itemCount}
+use Rattle.rulebook.specs.Words.{all, word}
+use Rattle.rulebook.specs.Table.{lists, itemKind, itemA, itemList, itemRule, noList, trueList, falseList, firstItem, itemCount}
 use Rattle.rulebook.specs.Reasons.{ruleNests, itemNests, listNests, listWithin}
 use Rattle.words.specs.declared.sections.Layout.{Layout}
-use Rattle.words.specs.Sections.{Laid}
+use Rattle.words.specs.declared.sections.List.{List as ListRead}
+use Rattle.words.specs.Sections.{Laid, ListAt}
 use Rattle.words.proofs.Fill.{zero-word}
+use Rattle.laws.proofs.Nesting.{nests-list, nests-rule, nests-act}
 use Rattle.laws.proofs.Tests.{split, clash, and-left, and-right, and-both, and-one-false, or-none, or-intro, or-elim}
 use Rattle.nesting.specs.Depths.{foundBy, nextDepth, Depths}
-
--- item i has the word w, of kind k and with a
-module _ (t : List ℕ) (below : ℕ → Bool) (i w k a : ℕ) (hw : w ≡ itemWord t i) (hk : k ≡ field 0 4 w) (ha : a ≡ field 4 12 w) where
-  is-kind : k ≡ itemKind t i
-  is-kind = hk ∙ ap (field 0 4) hw
-
-  is-a : a ≡ itemA t i
-  is-a = ha ∙ ap (field 4 12) hw
-
-  pub names-list : k ≡ 5 → below a ≡ itemNests t below i
-  unfolding itemNests
-  names-list e = sym (rw (eq-eqb (itemKind t i) 5 (sym is-kind ∙ e), itemNests) (ap below (sym is-a)))
-
-  pub names-rule : (k ≡ 5 → ⊥) → k ≡ 6 → ruleNests t below a ≡ itemNests t below i
-  unfolding itemNests
-  names-rule f e =
-      sym (rw (ne-eqb (itemKind t i) 5 (rw is-kind at f), itemNests)
-      (rw (eq-eqb (itemKind t i) 6 (sym is-kind ∙ e), itemNests) (ap (ruleNests t below) (sym is-a))))
-
-  pub names-none : (k ≡ 5 → ⊥) → (k ≡ 6 → ⊥) → true ≡ itemNests t below i
-  unfolding itemNests
-  names-none f g = sym (rw (ne-eqb (itemKind t i) 5 (rw is-kind at f), itemNests) (rw (ne-eqb (itemKind t i) 6 (rw is-kind at g), itemNests)))
 
 module _ (t : List ℕ) (h : Layout) (laid : Laid t h) (below : ℕ → Bool) (l : ℕ) where
   pub list-absent : h .lists ≤ l → false ≡ listNests t below l
   unfolding listNests
   list-absent b = rw (le-ltb l (lists t) (omega arith))
 
-  pub list-present : (w f n : ℕ) → l < h .lists → w ≡ listWord t l → f ≡ field 13 11 w → n ≡ field 24 8 w → listNests t below l ≡ all f n (itemNests t below)
+  pub list-present : (x : ListRead) → ListAt t l x → l < h .lists → listNests t below l ≡ all (x .«first_item») (x .«item_count») (itemNests t below)
   unfolding listNests
-  list-present w f n b hw hf hn = rw (lt-ltb l (lists t) (omega arith), hf, hn, hw)
+  list-present x read b = rw (lt-ltb l (lists t) (omega arith), read .first-item .value, read .item-count .value)
 
 -- What is found with fewer lists below is found with more.
 
@@ -64,12 +44,11 @@ module _ (t : List ℕ) (p q : ℕ → Bool) (more : (n : ℕ) → p n ≡ true 
       and-both _ _ (or-more (eqb (trueList t r) noList) (trueList t r) on-true) (or-more (eqb (falseList t r) noList) (falseList t r) on-false)
 
   item-more : (i : ℕ) → itemNests t p i ≡ true → itemNests t q i ≡ true
-  unfolding itemNests
   item-more i h =
-      split (eqb (itemKind t i) itemList) (λ e. rw (e, itemNests) (more (itemA t i) (rw (e, itemNests) at h)))
+      split (eqb (itemKind t i) itemList) (λ e. rw (nests-list t q i e) (more (itemA t i) (sym (nests-list t p i e) ∙ h)))
       (λ e.
-      split (eqb (itemKind t i) itemRule) (λ f. rw (e, f, itemNests) (rule-more (itemA t i) (rw (e, f, itemNests) at h)))
-      (λ f. rw (e, f, itemNests)))
+      split (eqb (itemKind t i) itemRule) (λ f. rw (nests-rule t q i e f) (rule-more (itemA t i) (sym (nests-rule t p i e f) ∙ h)))
+      (λ f. nests-act t q i e f))
 
   items-more : (i n : ℕ) → all i n (itemNests t p) ≡ true → all i n (itemNests t q) ≡ true
   unfolding all
@@ -275,11 +254,11 @@ module _ (t depths : List ℕ) (d l w : ℕ) (is : w ≡ word depths l) where
   unfolding nextDepth
   depth-kept some = is ∙ sym (rw (ne-eqb (word depths l) 0 (rw is at some)))
 
-  module _ (nests : Bool) (told : nests ≡ listNests t (foundBy depths d) l) (none : w ≡ 0) where
+  module _ (nests : Bool) (judged : nests ≡ listNests t (foundBy depths d) l) (none : w ≡ 0) where
     pub depth-found : nests ≡ true → d + 1 ≡ nextDepth t depths d l
     unfolding nextDepth
-    depth-found y = rw (eq-eqb (word depths l) 0 (sym is ∙ none), sym told ∙ y)
+    depth-found y = rw (eq-eqb (word depths l) 0 (sym is ∙ none), sym judged ∙ y)
 
     pub depth-open : nests ≡ false → 0 ≡ nextDepth t depths d l
     unfolding nextDepth
-    depth-open y = rw (eq-eqb (word depths l) 0 (sym is ∙ none), sym told ∙ y)
+    depth-open y = rw (eq-eqb (word depths l) 0 (sym is ∙ none), sym judged ∙ y)

@@ -1,13 +1,11 @@
 // Rule 7: how deep expressions and lists nest. The depths of lists are found level by level in an array and not by walking every path:
 // round d + 1 finds the lists that name only lists found before it, and passes over those.
 ghost use mathlib.Core.Path.{_≡_};
-ghost use Prim.Native.Nat.{_<_, _≤_};
-ghost use lib.ListN.{length};
 ghost use Rattle.rulebook.specs.Expressions.{deepest};
 ghost use Rattle.rulebook.specs.Reasons.{ruleNests, itemNests, listNests, nesting, lowest};
 ghost use Rattle.words.specs.Parts.{partOf};
 ghost use Rattle.words.specs.Sections.{Laid};
-ghost use Rattle.nesting.specs.Depths.{foundBy, nextDepth, Depths, Level};
+ghost use Rattle.nesting.specs.Depths.{foundBy, nextDepth, Depths, Level, Round, Searched, NextRound, Measured};
 use expression::within;
 use words::numbers::ITEM_LIST;
 use words::numbers::ITEM_RULE;
@@ -17,7 +15,6 @@ use words::parts::part_at;
 use words::put;
 use words::sections;
 use words::sections::Layout;
-use words::table;
 use words::word;
 
 // Whether list l was found in the first d rounds.
@@ -33,9 +30,9 @@ fn rule_nests(t: &[u32], h: Layout, depths: &[u32], d: u32, r: u32) -> bool
     requires { ⌜ Laid (now t) h ⌝ }
     ensures { λ b. ⌜ b ≡ ruleNests (now (t .entry)) (foundBy (now (depths .entry)) d) r ⌝ }
 {
-    let w = sections::rule_word(t, h, r);
-    let true_list = table::true_list(w);
-    let false_list = table::false_list(w);
+    let rule = sections::rule_at(t, h, r);
+    let true_list = rule.true_list;
+    let false_list = rule.false_list;
     let true_found = found(depths, d, true_list);
     let false_found = found(depths, d, false_list);
     ((true_list == NO_LIST) | true_found) & ((false_list == NO_LIST) | false_found)
@@ -46,14 +43,13 @@ fn item_nests(t: &[u32], h: Layout, depths: &[u32], d: u32, i: u32) -> bool
     requires { ⌜ Laid (now t) h ⌝ }
     ensures { λ r. ⌜ r ≡ itemNests (now (t .entry)) (foundBy (now (depths .entry)) d) i ⌝ }
 {
-    let w = sections::item_word(t, h, i);
-    let kind = table::item_kind(w);
-    let a = table::item_a(w);
+    let item = sections::item_at(t, h, i);
+    let kind = item.kind;
     if kind == ITEM_LIST {
-        return found(depths, d, a);
+        return found(depths, d, item.a);
     }
     if kind == ITEM_RULE {
-        return rule_nests(t, h, depths, d, a);
+        return rule_nests(t, h, depths, d, item.a);
     }
     true
 }
@@ -67,23 +63,21 @@ fn list_nests(t: &[u32], h: Layout, depths: &[u32], d: u32, l: u32) -> bool
     if lists <= l {
         return false;
     }
-    let w = sections::list_word(t, h, l);
-    let first = table::first_item(w);
-    let count = table::item_count(w);
+    let list = sections::list_at(t, h, l);
+    let first = list.first_item;
+    let count = list.item_count;
     let end = first + count;
-    let mut i = first;
-    while i < end {
+    for i in first..end {
         if !item_nests(t, h, depths, d, i) {
             return false;
         }
-        i += 1;
     }
     true
 }
 
 // List l's word after round d + 1. A list that was found before is not looked at again.
 fn next_depth(t: &[u32], h: Layout, depths: &[u32], d: u32, l: u32) -> u32
-    requires { ⌜ Laid (now t) h × (d < 7) ⌝ }
+    requires { ⌜ Round d (now t) h ⌝ }
     ensures { λ r. ⌜ r ≡ nextDepth (now (t .entry)) (now (depths .entry)) d l ⌝ }
 {
     let depth = word(depths, l as usize);
@@ -98,38 +92,34 @@ fn next_depth(t: &[u32], h: Layout, depths: &[u32], d: u32, l: u32) -> u32
 
 // Round d + 1. Tells whether it found a list.
 fn find_level(t: &[u32], h: Layout, depths: &mut [u32], d: u32) -> bool
-    requires { ⌜ Laid (now t) h × (h .lists ≤ 256) × (d < 7) × Depths d (now t) (now depths) ⌝ }
+    requires { ⌜ NextRound d (now t) h (now depths) ⌝ }
     ensures { λ r. ⌜ Level d (now (t .entry)) r (now (depths .exit)) ⌝ }
 {
     let lists = h.lists;
     let mut more = false;
-    let mut l: u32 = 0;
-    while l < lists {
+    for l in 0..lists {
         let depth = next_depth(t, h, depths, d, l);
         put(depths, l as usize, depth);
         more = more | (depth == d + 1);
-        l += 1;
     }
     more
 }
 
 // The depth of each list that is at most seven deep, 0 for any other, into lent zeros. A round that finds none is the last.
 pub fn find_depths(t: &[u32], h: Layout, depths: &mut [u32])
-    requires { ⌜ Laid (now t) h × (h .lists ≤ 256) × Depths 0 (now t) (now depths) ⌝ }
+    requires { ⌜ Searched 0 (now t) h (now depths) ⌝ }
     ensures { λ _. ⌜ Depths deepest (now (t .entry)) (now (depths .exit)) ⌝ }
 {
-    let mut d: u32 = 0;
-    while d < 7 {
+    for d in 0..7 {
         if !find_level(t, h, depths, d) {
             return;
         }
-        d += 1;
     }
 }
 
 // Whether a word keeps rule 7, by the depths of the lists that are at most seven deep.
 fn nests(t: &[u32], h: Layout, depths: &[u32], part: Part) -> bool
-    requires { ⌜ Laid (now t) h × Depths deepest (now t) (now depths) ⌝ }
+    requires { ⌜ Measured (now t) h (now depths) ⌝ }
     ensures { λ r. ⌜ r ≡ nesting (now (t .entry)) (partOf part) ⌝ }
 {
     match part {
@@ -147,7 +137,7 @@ fn nests(t: &[u32], h: Layout, depths: &[u32], part: Part) -> bool
 
 // The place of the first word that breaks rule 7; the length where none does.
 pub fn first_deep(t: &[u32], h: Layout, depths: &[u32]) -> usize
-    requires { ⌜ Laid (now t) h × (length (now t) ≡ h .length) × Depths deepest (now t) (now depths) ⌝ }
+    requires { ⌜ Measured (now t) h (now depths) ⌝ }
     ensures { λ r. ⌜ r ≡ lowest nesting (now (t .entry)) ⌝ }
 {
     let end = h.length;

@@ -9,11 +9,16 @@ use lib.Dec.{eqb, leb}
 use borrow.Author.Tests.{ne-eqb}
 use native.Mathlib.Nat.{zero-add}
 use Rattle.rulebook.specs.Words.{field, implies, between, all, first}
-use Rattle.rulebook.specs.Table.{part, atList, portWord, networkWord, ruleWord, listWord, itemWord, itemA, portOwner, networkOwner, ruleOwner, listOwner, stranger, listsFrom, itemsFrom, lists, items}
+use Rattle.rulebook.specs.Table.{part, atList, portWord, portOwner, networkOwner, ruleOwner, listOwner, stranger, listsFrom, itemsFrom, lists, items}
 use Rattle.rulebook.specs.Reasons.{strangersPort, itemOwned, owners, breaks, lowest}
 use Rattle.walks.proofs.Walks.{first-before, first-after, first-none, same-first}
 use Rattle.words.specs.declared.sections.Layout.{Layout}
-use Rattle.words.specs.Sections.{Laid}
+use Rattle.words.specs.declared.sections.Port.{Port}
+use Rattle.words.specs.declared.sections.Network.{Network}
+use Rattle.words.specs.declared.sections.Rule.{Rule}
+use Rattle.words.specs.declared.sections.List.{List as ListRead}
+use Rattle.words.specs.declared.sections.Item.{Item}
+use Rattle.words.specs.Sections.{Laid, Whole, PortAt, NetworkAt, RuleAt, ListAt, ItemAt}
 use Rattle.words.proofs.Places.{list-part, item-part}
 
 -- The test of a port whose word is w and whose owner is x.
@@ -21,7 +26,7 @@ pub strange : (t : List ℕ) (o p w x : ℕ) → w ≡ portWord t p → x ≡ fi
 unfolding strangersPort stranger
 strange t o p w x hw hx = rw (hx, hw)
 
--- An item of word w and kind k, where what it may name has owner o or not.
+-- An item of kind k, where what it may name has owner o or not.
 
 judged : Bool → Bool → Bool → Bool → Bool → ℕ → Bool
 judged list rule port network free k =
@@ -49,24 +54,28 @@ module _ (list rule port network free : Bool) where
   unfolding judged
   judged-other k a b = rw (a, b)
 
-module _ (t : List ℕ) (o i w k : ℕ) (hw : w ≡ itemWord t i) (hk : k ≡ field 0 4 w) where
-  is-judged : itemOwned t o i ≡ judged (eqb (listOwner t (itemA t i)) o) (eqb (ruleOwner t (itemA t i)) o) (eqb (portOwner t (itemA t i)) o) (eqb (networkOwner t (itemA t i)) o) (eqb o 0) k
-  unfolding itemOwned judged
-  is-judged = rw (hk, hw)
+module _ (t : List ℕ) (o i : ℕ) (x : Item) (read : ItemAt t i x) where
+  abbrev owned : ℕ → Bool
+  owned owner = eqb owner o
 
-  pub call-owned : k ≡ 0 → true ≡ itemOwned t o i
+  is-judged : itemOwned t o i ≡ judged (owned (listOwner t (x .a))) (owned (ruleOwner t (x .a))) (owned (portOwner t (x .a))) (owned (networkOwner t (x .a))) (eqb o 0) (x .kind)
+  unfolding itemOwned judged
+  is-judged = rw (read .kind .value, read .a .value)
+
+  pub call-owned : x .kind ≡ 0 → true ≡ itemOwned t o i
   call-owned e = sym (rw e at is-judged ∙ judged-call _ _ _ _ _)
 
-  module _ (a : ℕ) (ha : a ≡ field 4 12 w) where
-    pub list-owned : (v x : ℕ) → v ≡ listWord t a → x ≡ field 0 4 v → k ≡ 5 → eqb x o ≡ itemOwned t o i
-    list-owned v x hv hx e = sym (rw e at is-judged ∙ judged-list _ _ _ _ _ ∙ rw (hx, hv, ha, hw))
+  pub list-owned : (l : ListRead) → ListAt t (x .a) l → x .kind ≡ 5 → eqb (l .owner) o ≡ itemOwned t o i
+  list-owned l named e = sym (rw e at is-judged ∙ judged-list _ _ _ _ _ ∙ rw (named .owner .value))
 
-    pub rule-owned : (v x : ℕ) → v ≡ ruleWord t a → x ≡ field 0 4 v → k ≡ 6 → eqb x o ≡ itemOwned t o i
-    rule-owned v x hv hx e = sym (rw e at is-judged ∙ judged-rule _ _ _ _ _ ∙ rw (hx, hv, ha, hw))
+  pub rule-owned : (r : Rule) → RuleAt t (x .a) r → x .kind ≡ 6 → eqb (r .owner) o ≡ itemOwned t o i
+  rule-owned r named e = sym (rw e at is-judged ∙ judged-rule _ _ _ _ _ ∙ rw (named .owner .value))
 
-    pub other-owned : (v x u y : ℕ) → v ≡ portWord t a → x ≡ field 4 4 v → u ≡ networkWord t a → y ≡ field 0 4 u → (k ≡ 5 → ⊥) → (k ≡ 6 → ⊥)
-        → ((eqb o 0 || (not (leb 1 k && leb k 3) || eqb x o)) && (eqb o 0 || (not (eqb k 4) || eqb y o))) ≡ itemOwned t o i
-    other-owned v x u y hv hx hu hy f g = sym (is-judged ∙ judged-other _ _ _ _ _ k (ne-eqb k 5 f) (ne-eqb k 6 g) ∙ rw (hx, hv, hy, hu, ha, hw))
+  pub other-owned : (p : Port) (n : Network) → PortAt t (x .a) p → NetworkAt t (x .a) n → (x .kind ≡ 5 → ⊥) → (x .kind ≡ 6 → ⊥)
+      → ((eqb o 0 || (not (leb 1 (x .kind) && leb (x .kind) 3) || eqb (p .owner) o)) && (eqb o 0 || (not (eqb (x .kind) 4) || eqb (n .owner) o)))
+      ≡ itemOwned t o i
+  other-owned p n port network f g =
+      sym (is-judged ∙ judged-other _ _ _ _ _ (x .kind) (ne-eqb (x .kind) 5 f) (ne-eqb (x .kind) 6 g) ∙ rw (port .owner .value, network .owner .value))
 
 -- A list, judged with its items.
 
@@ -75,14 +84,14 @@ at-list t h laid l b =
     let q : h .list0 + l - h .list0 ≡ l = omega arith in
     sym (rw q at (list-part t h laid (h .list0 + l) (omega arith) (omega arith)))
 
-pub list-breaks : (t : List ℕ) (h : Layout) → Laid t h → (l w o f n : ℕ) → l < h .lists → w ≡ listWord t l → o ≡ field 0 4 w
-    → f ≡ field 13 11 w → n ≡ field 24 8 w → breaks owners t (h .list0 + l) ≡ not (all f n (itemOwned t o))
+pub list-breaks : (t : List ℕ) (h : Layout) → Laid t h → (l : ℕ) (x : ListRead) → ListAt t l x → l < h .lists
+    → breaks owners t (h .list0 + l) ≡ not (all (x .«first_item») (x .«item_count») (itemOwned t (x .owner)))
 unfolding breaks owners
-list-breaks t h laid l w o f n b hw ho hf hn = rw (at-list t h laid l b, ho, hf, hn, hw)
+list-breaks t h laid l x read b = rw (at-list t h laid l b, read .owner .value, read .first-item .value, read .item-count .value)
 
 -- The whole scan: before the lists, in the lists, and the items, which clash with nobody.
 
-module _ (t : List ℕ) (h : Layout) (laid : Laid t h) (whole : length t ≡ h .length) (r : ℕ) (hr : r ≡ first 0 (listsFrom t) (breaks owners t)) where
+module _ (t : List ℕ) (h : Layout) (entire : Whole t h) (r : ℕ) (hr : r ≡ first 0 (listsFrom t) (breaks owners t)) where
   rest : length t ≡ listsFrom t + (lists t + items t)
   rest = omega arith
 
@@ -100,11 +109,11 @@ module _ (t : List ℕ) (h : Layout) (laid : Laid t h) (whole : length t ≡ h .
 
     item-keeps : (k : ℕ) → itemsFrom t ≤ k → breaks owners t k ≡ false
     unfolding breaks owners
-    item-keeps k g = rw (← item-part t h laid k (omega arith))
+    item-keeps k g = rw (← item-part t h (entire .laid) k (omega arith))
 
     pub clash-nowhere : h .list0 ≤ r → h .item0 ≤ s → h .length ≡ lowest owners t
     clash-nowhere b d =
         sym (later b
         ∙ first-after (listsFrom t) (lists t) (items t) (breaks owners t) (omega arith)
         ∙ first-none (itemsFrom t) (items t) (breaks owners t) item-keeps
-        ∙ sym (laid .length))
+        ∙ sym (entire .laid .length))

@@ -1,12 +1,10 @@
 // Rule 8: owners do not clash.
 ghost use mathlib.Core.Path.{_≡_};
-ghost use Prim.Native.Nat.{_<_};
-ghost use lib.ListN.{length};
 ghost use Rattle.rulebook.specs.Words.{first};
 ghost use Rattle.rulebook.specs.Table.{atNetwork, atSource, atRule, part, expressionsFrom, listsFrom, lists};
 ghost use Rattle.rulebook.specs.Expressions.{mentions};
 ghost use Rattle.rulebook.specs.Reasons.{strangersPort, itemOwned, owners, breaks, lowest};
-ghost use Rattle.words.specs.Sections.{Laid};
+ghost use Rattle.words.specs.Sections.{Laid, Whole, Inside};
 use words::numbers::ITEM_ASK;
 use words::numbers::ITEM_CALL;
 use words::numbers::ITEM_CLEAR;
@@ -27,24 +25,18 @@ fn network_owned(t: &[u32], h: Layout, n: u32) -> bool
     requires { ⌜ Laid (now t) h ⌝ }
     ensures { λ r. ⌜ r ≡ owners (now (t .entry)) (atNetwork n) ⌝ }
 {
-    let w = sections::network_word(t, h, n);
-    let owner = table::network_owner(w);
-    let port = table::network_port(w);
-    let named = sections::port_word(t, port);
-    let port_owner = table::port_owner(named);
-    owner == port_owner
+    let network = sections::network_at(t, h, n);
+    let port = sections::port_at(t, network.port);
+    network.owner == port.owner
 }
 
 fn source_owned(t: &[u32], h: Layout, k: u32) -> bool
     requires { ⌜ Laid (now t) h ⌝ }
     ensures { λ r. ⌜ r ≡ owners (now (t .entry)) (atSource k) ⌝ }
 {
-    let w = sections::source_word(t, h, k);
-    let owner = table::source_owner(w);
-    let port = table::source_port(w);
-    let named = sections::port_word(t, port);
-    let port_owner = table::port_owner(named);
-    owner == port_owner
+    let source = sections::source_at(t, h, k);
+    let port = sections::port_at(t, source.port);
+    source.owner == port.owner
 }
 
 // Whether expression e, down to so many levels, mentions a port that is a stranger's to o. It goes down like the mention test over
@@ -77,16 +69,13 @@ fn rule_owned(t: &[u32], h: Layout, r: u32) -> bool
     requires { ⌜ Laid (now t) h ⌝ }
     ensures { λ b. ⌜ b ≡ owners (now (t .entry)) (atRule r) ⌝ }
 {
-    let w = sections::rule_word(t, h, r);
-    let owner = table::rule_owner(w);
-    let expression = table::rule_expression(w);
-    let true_list = table::true_list(w);
-    let false_list = table::false_list(w);
-    let true_word = sections::list_word(t, h, true_list);
-    let false_word = sections::list_word(t, h, false_list);
-    let true_owner = table::list_owner(true_word);
-    let false_owner = table::list_owner(false_word);
-    let strange = mentions_stranger(t, h.expression0, owner, expression, 7);
+    let rule = sections::rule_at(t, h, r);
+    let owner = rule.owner;
+    let true_list = rule.true_list;
+    let false_list = rule.false_list;
+    let true_owner = sections::list_at(t, h, true_list).owner;
+    let false_owner = sections::list_at(t, h, false_list).owner;
+    let strange = mentions_stranger(t, h.expression0, owner, rule.expression, 7);
     !strange
         & ((true_list == NO_LIST) | (true_owner == owner))
         & ((false_list == NO_LIST) | (false_owner == owner))
@@ -97,29 +86,29 @@ fn item_owned(t: &[u32], h: Layout, o: u32, i: u32) -> bool
     requires { ⌜ Laid (now t) h ⌝ }
     ensures { λ r. ⌜ r ≡ itemOwned (now (t .entry)) o i ⌝ }
 {
-    let w = sections::item_word(t, h, i);
-    let kind = table::item_kind(w);
-    let a = table::item_a(w);
+    let item = sections::item_at(t, h, i);
+    let kind = item.kind;
+    let a = item.a;
     if kind == ITEM_CALL {
         return true;
     }
     if kind == ITEM_LIST {
-        let owner = table::list_owner(sections::list_word(t, h, a));
+        let owner = sections::list_at(t, h, a).owner;
         return owner == o;
     }
     if kind == ITEM_RULE {
-        let owner = table::rule_owner(sections::rule_word(t, h, a));
+        let owner = sections::rule_at(t, h, a).owner;
         return owner == o;
     }
-    let port_owner = table::port_owner(sections::port_word(t, a));
-    let network_owner = table::network_owner(sections::network_word(t, h, a));
+    let port_owner = sections::port_at(t, a).owner;
+    let network_owner = sections::network_at(t, h, a).owner;
     ((o == PLATFORM) | (!((ITEM_CLEAR <= kind) & (kind <= ITEM_STOP)) | (port_owner == o)))
         & ((o == PLATFORM) | (!(kind == ITEM_ASK) | (network_owner == o)))
 }
 
 // Whether the word at a place before the lists keeps rule 8.
 fn owned_before_lists(t: &[u32], h: Layout, i: usize) -> bool
-    requires { ⌜ Laid (now t) h × (i < h .list0) ⌝ }
+    requires { ⌜ Inside (now t) h (h .list0) i ⌝ }
     ensures { λ r. ⌜ r ≡ owners (now (t .entry)) (part (now (t .entry)) i) ⌝ }
 {
     let part = part_at(t, h, i);
@@ -166,17 +155,15 @@ fn list_clash(t: &[u32], h: Layout) -> usize
         if lists <= l {
             break list0 + l as usize;
         }
-        let w = sections::list_word(t, h, l);
-        let owner = table::list_owner(w);
-        let first = table::first_item(w);
-        let count = table::item_count(w);
+        let list = sections::list_at(t, h, l);
+        let owner = list.owner;
+        let first = list.first_item;
+        let count = list.item_count;
         let end = first + count;
-        let mut i = first;
-        while i < end {
+        for i in first..end {
             if !item_owned(t, h, owner, i) {
                 break 'lists list0 + l as usize;
             }
-            i += 1;
         }
         l += 1;
     }
@@ -184,7 +171,7 @@ fn list_clash(t: &[u32], h: Layout) -> usize
 
 // The place of the first word that breaks rule 8; the length where none does.
 pub fn first_clash(t: &[u32], h: Layout) -> usize
-    requires { ⌜ Laid (now t) h × (length (now t) ≡ h .length) ⌝ }
+    requires { ⌜ Whole (now t) h ⌝ }
     ensures { λ r. ⌜ r ≡ lowest owners (now (t .entry)) ⌝ }
 {
     let list0 = h.list0;

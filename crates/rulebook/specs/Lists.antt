@@ -4,10 +4,10 @@ use mathlib.Core.Bool.{Bool, true, false, cond, _||_, not}
 use mathlib.Core.List.{List, [], _∷_, _++_}
 use lib.ListN.{set}
 use lib.Dec.{eqb}
-use Rattle.rulebook.specs.Words.{word, laid, each}
+use Rattle.rulebook.specs.Words.{word, inField, each}
 use Rattle.rulebook.specs.Table.{reload, ruleExpression, trueList, falseList, noList}
 use Rattle.rulebook.specs.Table.{listOwner, triggered, firstItem, itemCount, itemKind, itemA, itemB}
-use Rattle.rulebook.specs.Table.{itemClear, itemStart, itemStop, itemAsk, itemList, itemRule}
+use Rattle.rulebook.specs.Table.{itemClear, itemStart, itemStop, itemAsk, itemRule, byItem}
 use Rattle.rulebook.specs.Expressions.{deepest, mentions, holds}
 use Rattle.rulebook.specs.State.{ruleIndex, networkIndex, definedOf, markedOf, valueOf, timerStopped, timerStarted}
 use Rattle.rulebook.specs.State.{resultOf, undefinedResult, Network, networkOf, packPort, packRule, packNetwork}
@@ -33,7 +33,7 @@ tooDeep x = record { state = x .state; words = x .words; deep = true }
 -- "Trace word: kind(4), owner(4) of the list that holds it, a(8), b(16): 15 list start, .. 0 to 4 as the item; 6 .. the rule"
 
 unfoldable pub traceWord : ℕ → ℕ → ℕ → ℕ → ℕ
-traceWord kind owner a b = laid 0 4 kind + laid 4 4 owner + laid 8 8 a + laid 16 16 b
+traceWord kind owner a b = inField 0 4 kind + inField 4 4 owner + inField 8 8 a + inField 16 16 b
 
 abbrev pub traceListStart : ℕ
 traceListStart = 15
@@ -115,11 +115,7 @@ runRule below t o r x =
 
 -- "A named list always runs"; "Item 5 adds no word"
 unfoldable pub runItem : (ℕ → Run → Run) → List ℕ → ℕ → ℕ → Run → Run
-runItem below t o i x =
-    elim (eqb (itemKind t i) itemList) [
-      | true ↦ below (itemA t i) x
-      | false ↦ elim (eqb (itemKind t i) itemRule) [ true ↦ runRule below t o (itemA t i) x | false ↦ act t o i x ]
-    ]
+runItem below t o i x = byItem t i below (runRule below t o) (act t o i) x
 
 -- "Items take effect in order", after the word for the list's start
 unfoldable pub runItems : (ℕ → Run → Run) → List ℕ → ℕ → Run → Run

@@ -3,7 +3,7 @@
 -- expression counts there through the rules that have it, an item through the lists that hold it.
 use Prim.Native.Nat.{ℕ, zero, suc, _+_, max}
 use mathlib.Core.Bool.{Bool, true, false, cond, _&&_, _||_, not}
-use mathlib.Core.List.{List}
+use mathlib.Core.List.{List, [], _∷_}
 use lib.ListN.{length}
 use lib.Dec.{leb, ltb, eqb}
 use Rattle.rulebook.specs.Words.{implies, between, first, all, any, sum}
@@ -16,7 +16,7 @@ use Rattle.rulebook.specs.Table.{expressionKind, conditionPort, conditio
 use Rattle.rulebook.specs.Table.{conditionNotEqual, conditionSet, conditionCleared, operatorNot}
 use Rattle.rulebook.specs.Table.{ruleOwner, firstResult, ruleExpression, trueList, falseList, noList}
 use Rattle.rulebook.specs.Table.{listOwner, firstItem, itemCount, itemKind, itemA, itemB}
-use Rattle.rulebook.specs.Table.{itemCall, itemClear, itemStart, itemStop, itemAsk, itemList, itemRule, platform, stranger}
+use Rattle.rulebook.specs.Table.{itemCall, itemClear, itemStart, itemStop, itemAsk, itemList, itemRule, byItem, platform, stranger}
 use Rattle.rulebook.specs.Expressions.{deepest, operator, isNot, expressionWithin, mentions}
 
 -- Rule 1: there are three words at least.
@@ -144,11 +144,7 @@ ruleNests t below r =
     (eqb (trueList t r) noList || below (trueList t r)) && (eqb (falseList t r) noList || below (falseList t r))
 
 unfoldable pub itemNests : List ℕ → (ℕ → Bool) → ℕ → Bool
-itemNests t below i =
-    elim (eqb (itemKind t i) itemList) [
-      | true ↦ below (itemA t i)
-      | false ↦ elim (eqb (itemKind t i) itemRule) [ true ↦ ruleNests t below (itemA t i) | false ↦ true ]
-    ]
+itemNests t below i = byItem t i below (ruleNests t below) true
 
 unfoldable pub listNests : List ℕ → (ℕ → Bool) → ℕ → Bool
 listNests t below l = ltb l (lists t) && all (firstItem t l) (itemCount t l) (itemNests t below)
@@ -209,11 +205,7 @@ ruleCost t below r =
     1 + max (cond (eqb (trueList t r) noList) 0 (below (trueList t r))) (cond (eqb (falseList t r) noList) 0 (below (falseList t r)))
 
 unfoldable pub itemCost : List ℕ → (ℕ → ℕ) → ℕ → ℕ
-itemCost t below i =
-    elim (eqb (itemKind t i) itemList) [
-      | true ↦ below (itemA t i)
-      | false ↦ elim (eqb (itemKind t i) itemRule) [ true ↦ ruleCost t below (itemA t i) | false ↦ 1 ]
-    ]
+itemCost t below i = byItem t i below (ruleCost t below) 1
 
 unfoldable pub listCost : List ℕ → (ℕ → ℕ) → ℕ → ℕ
 listCost t below l = cond (ltb l (lists t)) (1 + sum (firstItem t l) (itemCount t l) (itemCost t below)) 0
@@ -247,26 +239,36 @@ breaks rule t i = not (rule t (part t i))
 unfoldable pub lowest : (List ℕ → Part → Bool) → List ℕ → ℕ
 lowest rule t = first 0 (length t) (breaks rule t)
 
--- a rule of the whole table, and one of each word: its reason, or what comes next
+-- a rule with its reason: of the whole table, or of each of its words
+pub data Link : Type 0 where
+  ofTable : ℕ → (List ℕ → Bool) → Link
+  ofWords : ℕ → (List ℕ → Part → Bool) → Link
 
-unfoldable pub wholly : ℕ → Bool → Verdict → Verdict
-wholly k kept next = cond kept next (verdict k 0)
+-- "Table reasons, in order"
+abbrev pub reasons : List Link
+reasons =
+    ofTable 1 hasHeader
+    ∷ ofTable 2 knownEdition
+    ∷ ofTable 3 countsInside
+    ∷ ofTable 4 exactLength
+    ∷ ofWords 5 ownFields
+    ∷ ofWords 6 names
+    ∷ ofWords 7 nesting
+    ∷ ofWords 8 owners
+    ∷ ofTable 9 affordable
+    ∷ []
 
-unfoldable pub wordwise : ℕ → (List ℕ → Part → Bool) → List ℕ → Verdict → Verdict
-wordwise k rule t next = cond (ltb (lowest rule t) (length t)) (verdict k (lowest rule t)) next
+-- a link's reason, or what comes next
+unfoldable pub orNext : List ℕ → Link → Verdict → Verdict
+orNext t (ofTable k rule) next = cond (rule t) next (verdict k 0)
+orNext t (ofWords k rule) next = cond (ltb (lowest rule t) (length t)) (verdict k (lowest rule t)) next
+
+unfoldable pub firstOf : List ℕ → List Link → Verdict
+firstOf t [] = verdict 0 0
+firstOf t (link ∷ links) = orNext t link (firstOf t links)
 
 unfoldable pub check : List ℕ → Verdict
-check t =
-    wholly 1 (hasHeader t)
-    (wholly 2 (knownEdition t)
-    (wholly 3 (countsInside t)
-    (wholly 4 (exactLength t)
-    (wordwise 5 ownFields t
-    (wordwise 6 names t
-    (wordwise 7 nesting t
-    (wordwise 8 owners t
-    (wholly 9 (affordable t)
-    (verdict 0 0)))))))))
+check t = firstOf t reasons
 
 abbrev pub accepted : List ℕ → Bool
 accepted t = eqb (check t .reason) 0

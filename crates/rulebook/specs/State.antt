@@ -4,7 +4,7 @@ use mathlib.Core.Bool.{Bool, cond, _&&_, _||_, not}
 use mathlib.Core.List.{List}
 use lib.ListN.{length}
 use lib.Dec.{leb, ltb, eqb}
-use Rattle.rulebook.specs.Words.{word, field, laid, implies, between, all, listed}
+use Rattle.rulebook.specs.Words.{word, field, inField, implies, between, all, listed}
 use Rattle.rulebook.specs.Table.{ports, networks, sources, rules}
 use Rattle.rulebook.specs.Table.{portKind, portMode, portEvent, portTimer, deferred, hasInitial, portOwner, initial, reload}
 use Rattle.rulebook.specs.Table.{networkOwner, l1, l2, eTicks, sourceOwner, timeout, ruleOwner, firstResult}
@@ -141,16 +141,16 @@ statusExpired = 3
 -- The same words packed.
 
 unfoldable pub packPort : ℕ → ℕ → ℕ → ℕ → ℕ
-packPort defined marked value remaining = laid 0 1 defined + laid 1 1 marked + laid 2 8 value + laid 16 16 remaining
+packPort defined marked value remaining = inField 0 1 defined + inField 1 1 marked + inField 2 8 value + inField 16 16 remaining
 
 unfoldable pub packRule : ℕ → ℕ
-packRule result = laid 0 2 result
+packRule result = inField 0 2 result
 
 unfoldable pub packNetwork : Network → ℕ
-packNetwork c = laid 0 2 (c .asked) + laid 2 3 (c .state) + laid 5 8 (c .counter) + laid 16 16 (c .remaining)
+packNetwork c = inField 0 2 (c .asked) + inField 2 3 (c .state) + inField 5 8 (c .counter) + inField 16 16 (c .remaining)
 
 unfoldable pub packSource : ℕ → ℕ → ℕ
-packSource status remaining = laid 0 2 status + laid 16 16 remaining
+packSource status remaining = inField 0 2 status + inField 16 16 remaining
 
 -- "A state fits if its length and zero fields are right", and each word keeps the rules of its thing.
 

@@ -1,6 +1,6 @@
 -- "The table": the header, the sections and the named words with their fields.
 use Prim.Native.Nat.{ℕ, _+_, _-_, _*_, _/_, _%_}
-use mathlib.Core.Bool.{Bool, cond, _&&_, not}
+use mathlib.Core.Bool.{Bool, true, false, cond, _&&_, not}
 use mathlib.Core.List.{List}
 use lib.Dec.{ltb, eqb}
 use Rattle.rulebook.specs.Words.{word, field}
@@ -286,6 +286,14 @@ itemList = 5
 
 abbrev pub itemRule : ℕ
 itemRule = 6
+
+-- item i by what it names: a list, a rule, or neither
+unfoldable pub byItem : {A : Type 0} → List ℕ → ℕ → (ℕ → A) → (ℕ → A) → A → A
+byItem t i list rule other =
+    elim (eqb (itemKind t i) itemList) [
+      | true ↦ list (itemA t i)
+      | false ↦ elim (eqb (itemKind t i) itemRule) [ true ↦ rule (itemA t i) | false ↦ other ]
+    ]
 
 -- Owner 0 is the platform. A stranger to o is an operator other than o and other than the platform.
 

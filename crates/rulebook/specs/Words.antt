@@ -18,8 +18,8 @@ abbrev pub field : ℕ → ℕ → ℕ → ℕ
 field from width w = digit (2 ^ (32 - (from + width))) (2 ^ width) w
 
 -- what v, cut to that width, adds to a word as that field; a packed word is the sum of its fields
-abbrev pub laid : ℕ → ℕ → ℕ → ℕ
-laid from width v = v % 2 ^ width * 2 ^ (32 - (from + width))
+abbrev pub inField : ℕ → ℕ → ℕ → ℕ
+inField from width v = v % 2 ^ width * 2 ^ (32 - (from + width))
 
 abbrev pub implies : Bool → Bool → Bool
 implies a b = not a || b

@@ -1,22 +1,23 @@
 -- What the table check's answer says of sizes and places. Assumes nothing.
 use Prim.Native.Nat.{ℕ, _≤_}
-use mathlib.Core.Path.{_≡_, ap, _∙_}
+use mathlib.Core.Path.{_≡_, refl, ap, _∙_}
 use mathlib.Core.Bool.{Bool, true, false}
-use mathlib.Core.List.{List}
+use mathlib.Core.List.{List, [], _∷_}
 use native.Mathlib.Omega.{arith}
 use lib.ListN.{length}
 use lib.Dec.{ltb}
-use borrow.Author.Tests.{ltb-true, eqb-true}
+use borrow.Author.Tests.{ltb-true, ltb-false, eqb-true}
 use Rattle.rulebook.specs.Table.{Part, tableLength}
-use Rattle.rulebook.specs.Reasons.{hasHeader, knownEdition, countsInside, exactLength, ownFields, names, nesting, owners, affordable, bound, accepted, Verdict, lowest, wholly, wordwise, check}
+use Rattle.rulebook.specs.Reasons.{hasHeader, knownEdition, countsInside, exactLength, ownFields, names, nesting, owners, affordable, bound, accepted, lowest, Link, ofTable, ofWords, firstOf, check}
 use Rattle.rulebook.specs.State.{stateLength}
 use Rattle.laws.specs.Facts.{Counts}
 use Rattle.laws.proofs.Tests.{split}
 use Rattle.laws.proofs.Facts.{facts, counts-of}
 use Rattle.tables.specs.declared.Checked.{Checked}
-use Rattle.tables.specs.Told.{Told, told, promised}
+use Rattle.tables.specs.Finding.{Finding as Told, finding as told, promised}
 use Rattle.session.specs.Promises.{Opens}
-use Rattle.tables.proofs.Chain.{from1, from3, from4, from5, kept, broken}
+use Rattle.tables.proofs.Chain.{from-header, from-edition, from-counts, from-length, from-fields, from-names, from-nesting, from-owners, from-cost}
+use Rattle.tables.proofs.Chain.{none-left, kept, broken, kept-by-all, broken-at}
 
 pub longest : (t : List ℕ) → Counts t → tableLength t ≤ 3185
 longest t c = let a = c .ports in let b = c .networks in let d = c .sources in let e = c .expressions in let f = c .rules in let g = c .lists in let h = c .items in omega arith
@@ -25,32 +26,40 @@ exact-is : (t : List ℕ) → exactLength t ≡ true → length t ≡ tableLengt
 unfolding exactLength
 exact-is t e = eqb-true (length t) (tableLength t) e
 
-small : (k : ℕ) (b : Bool) (next : Verdict) → next .place ≤ 3185 → wholly k b next .place ≤ 3185
-unfolding wholly
-small k b next h = split b (λ e. rw e h) (λ e. rw e (omega arith))
+-- places: each rule's is inside the table, of which no more than its longest length is judged word by word
 
-inside : (k : ℕ) (rule : List ℕ → Part → Bool) (t : List ℕ) (next : Verdict) → length t ≤ 3185 → next .place ≤ 3185 → wordwise k rule t next .place ≤ 3185
-unfolding wordwise
-inside k rule t next l h =
-    split (ltb (lowest rule t) (length t)) (λ e. let b = ltb-true (lowest rule t) (length t) e in let q : lowest rule t ≤ 3185 = omega arith in rw e q) (λ e. rw e h)
+small : (t : List ℕ) (k : ℕ) (rule : List ℕ → Bool) (links : List Link) → firstOf t links .place ≤ 3185 → firstOf t (ofTable k rule ∷ links) .place ≤ 3185
+small t k rule links h = split (rule t) (λ e. rw (kept t k rule links e) h) (λ e. rw (broken t k rule links e) (omega arith))
 
-from5-small : (t : List ℕ) → length t ≤ 3185 → from5 t .place ≤ 3185
-from5-small t l = inside 5 ownFields t _ l (inside 6 names t _ l (inside 7 nesting t _ l (inside 8 owners t _ l (small 9 (affordable t) _ (omega arith)))))
+inside : (t : List ℕ) (k : ℕ) (rule : List ℕ → Part → Bool) (links : List Link) → length t ≤ 3185 → firstOf t links .place ≤ 3185
+    → firstOf t (ofWords k rule ∷ links) .place ≤ 3185
+inside t k rule links l h =
+    split (ltb (lowest rule t) (length t))
+    (λ e. let b = ltb-true (lowest rule t) (length t) e in rw (broken-at t k rule links _ _ refl refl b) (omega arith))
+    (λ e. let b = ltb-false (lowest rule t) (length t) e in rw (kept-by-all t k rule links _ _ refl refl b) h)
 
-from3-small : (t : List ℕ) → from3 t .place ≤ 3185
-from3-small t =
+fields-small : (t : List ℕ) → length t ≤ 3185 → firstOf t from-fields .place ≤ 3185
+fields-small t l =
+    inside t 5 ownFields from-names l
+    (inside t 6 names from-nesting l
+    (inside t 7 nesting from-owners l
+    (inside t 8 owners from-cost l
+    (small t 9 affordable [] (rw (none-left t) (omega arith))))))
+
+counts-small : (t : List ℕ) → firstOf t from-counts .place ≤ 3185
+counts-small t =
     split (countsInside t)
-    (λ c. rw (kept 3 (countsInside t) (from4 t) c)
+    (λ c. rw (kept t 3 countsInside from-length c)
     (split (exactLength t)
-    (λ e. rw (kept 4 (exactLength t) (from5 t) e) (from5-small t (exact e c)))
-    (λ e. rw (broken 4 (exactLength t) (from5 t) e) (omega arith))))
-    (λ c. rw (broken 3 (countsInside t) (from4 t) c) (omega arith))
+    (λ e. rw (kept t 4 exactLength from-fields e) (fields-small t (exact e c)))
+    (λ e. rw (broken t 4 exactLength from-fields e) (omega arith))))
+    (λ c. rw (broken t 3 countsInside from-length c) (omega arith))
   where
     exact : exactLength t ≡ true → countsInside t ≡ true → length t ≤ 3185
     exact e c = let l = longest t (counts-of t c) in omega (arith, exact-is t e)
 
 pub place-small : (t : List ℕ) → check t .place ≤ 3185
-place-small t = rw (from1 t) (small 1 (hasHeader t) _ (small 2 (knownEdition t) _ (from3-small t)))
+place-small t = rw (from-header t) (small t 1 hasHeader from-edition (small t 2 knownEdition from-counts (counts-small t)))
 
 pub state-small : (t : List ℕ) → accepted t ≡ true → stateLength t ≤ 360
 state-small t h =

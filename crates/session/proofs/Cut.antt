@@ -1,17 +1,17 @@
 -- A table file may be cut behind 3,186 words: the check reads of a longer one only that it is longer. Assumes nothing.
 use Prim.Native.Nat.{ℕ, zero, suc, _*_, _<_}
 use mathlib.Core.Path.{_≡_, refl, sym, ap, _∙_}
-use mathlib.Core.Bool.{true, false}
+use mathlib.Core.Bool.{true, false, cond}
 use mathlib.Core.List.{List, [], _∷_}
 use native.Mathlib.Omega.{arith}
 use lib.ListN.{length, take}
 use lib.Seq.{getD-take, take-all, take-nil, length-take-le}
 use borrow.Author.Tests.{le-leb, ne-eqb}
 use Rattle.rulebook.specs.Table.{tableLength}
-use Rattle.rulebook.specs.Reasons.{hasHeader, knownEdition, countsInside, exactLength, accepted, Verdict, verdict, wholly, check}
+use Rattle.rulebook.specs.Reasons.{hasHeader, knownEdition, countsInside, exactLength, accepted, Verdict, verdict, check}
 use Rattle.laws.proofs.Tests.{split}
 use Rattle.laws.proofs.Facts.{facts, counts-of}
-use Rattle.tables.proofs.Chain.{from1, from2, from4, from5, kept, broken}
+use Rattle.tables.proofs.Chain.{from-header, from-edition, from-counts, from-length, from-fields, kept, broken}
 use Rattle.text.specs.Words.{wordsOf}
 use Rattle.text.proofs.Digits.{below}
 use Rattle.session.specs.Printed.{printed, tableWords}
@@ -20,7 +20,7 @@ use Rattle.session.proofs.Checks.{longest}
 -- What the check is of a table that is too long: reason 2, 3 or 4.
 
 abbrev whenLong : List ℕ → Verdict
-whenLong t = wholly 2 (knownEdition t) (wholly 3 (countsInside t) (verdict 4 0))
+whenLong t = cond (knownEdition t) (cond (countsInside t) (verdict 4 0) (verdict 3 0)) (verdict 2 0)
 
 has-header : (t : List ℕ) → 3185 < length t → hasHeader t ≡ true
 unfolding hasHeader
@@ -32,12 +32,14 @@ not-exact t h c = ne-eqb (length t) (tableLength t) (λ e. let l = longest t (co
 
 long-check : (t : List ℕ) → 3185 < length t → check t ≡ whenLong t
 long-check t h =
-    from1 t
-    ∙ kept 1 (hasHeader t) (from2 t) (has-header t h)
-    ∙ ap (wholly 2 (knownEdition t))
-    (split (countsInside t)
-    (λ c. kept 3 (countsInside t) (from4 t) c ∙ broken 4 (exactLength t) (from5 t) (not-exact t h c) ∙ sym (kept 3 (countsInside t) (verdict 4 0) c))
-    (λ c. broken 3 (countsInside t) (from4 t) c ∙ sym (broken 3 (countsInside t) (verdict 4 0) c)))
+    from-header t
+    ∙ kept t 1 hasHeader from-edition (has-header t h)
+    ∙ split (knownEdition t)
+    (λ e. kept t 2 knownEdition from-counts e
+    ∙ split (countsInside t)
+    (λ c. kept t 3 countsInside from-length c ∙ broken t 4 exactLength from-fields (not-exact t h c) ∙ rw (e, c))
+    (λ c. broken t 3 countsInside from-length c ∙ rw (e, c)))
+    (λ e. broken t 2 knownEdition from-counts e ∙ rw e)
 
 module _ (k : ℕ) (t : List ℕ) (enough : 3185 < k) where
   same-edition : knownEdition (take k t) ≡ knownEdition t

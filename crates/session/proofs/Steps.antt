@@ -16,7 +16,7 @@ use Rattle.rulebook.specs.Step.{Result, refusedState, refusedCall, firstFault, 
 use Rattle.laws.proofs.Tests.{split}
 use Rattle.laws.proofs.Facts.{facts}
 use Rattle.laws.proofs.Fit.{fits-length}
-use Rattle.laws.proofs.Steps.{Stepped, refused, done, stepped, words-within, step-fits, callable}
+use Rattle.laws.proofs.Steps.{step-cases, words-within, step-fits, callable}
 use Rattle.lists.specs.Runs.{Safe}
 use Rattle.events.specs.declared.Answer.{Answer}
 use Rattle.events.specs.Answers.{numberOf, countOf, Told}
@@ -29,13 +29,11 @@ use Rattle.session.proofs.Checks.{state-small}
 -- Answers 1 to 3 refuse nothing exactly if table, state and room are in order.
 
 pub ready-from : (t s trace : List ℕ) → eqb (refusedCall t s (length trace)) 0 ≡ true → Ready t s trace
-ready-from t s trace h =
-    let c = callable t s (length trace) (eqb-true _ _ h) in
-    record { table = c .table; state = c .state; room = c .enough }
+ready-from t s trace h = callable t s (length trace) (eqb-true _ _ h)
 
 pub ready-is : (t s trace : List ℕ) → Ready t s trace → eqb (refusedCall t s (length trace)) 0 ≡ true
 unfolding refusedCall refusedState
-ready-is t s trace ready = rw (ready .table, ready .state, le-ltb (length trace) (bound t) (ready .room))
+ready-is t s trace ready = rw (ready .table, ready .state, le-ltb (length trace) (bound t) (ready .enough))
 
 module _ (t s : List ℕ) (room : ℕ) where
   pub no-table : accepted t ≡ false → false ≡ eqb (refusedCall t s room) 0
@@ -59,14 +57,10 @@ module _ (t s trace : List ℕ) (e : ℕ) (ready : Ready t s trace) where
   taken-is = rw (ready .table, ready .state, le-ltb (bound t) (bound t) (omega arith))
 
   pub run-safe : Safe (happen t e s) trace
-  run-safe = safe t s trace e (bound t) refl (ready .table) (le-leb _ _ (ready .room))
+  run-safe = safe t s trace e (bound t) refl (ready .table) (le-leb _ _ (ready .enough))
 
   pub answer-small : taken t s e .answer < 10
-  answer-small = go (taken t s e) (stepped t s (bound t) e)
-    where
-      go : (r : Result) → Stepped t s (bound t) e r → r .answer < 10
-      go r (refused k a b is) = rw (ap (λ (q : Result). q .answer) is) (omega arith)
-      go r (done c w is) = rw (ap (λ (q : Result). q .answer) is) (omega arith)
+  answer-small = step-cases (λ r. r .answer < 10) t s (bound t) e (λ k a b. omega arith) (λ c w. omega arith)
 
   pub words-few : length (taken t s e .words) ≤ bound t
   words-few = words-within t s (bound t) e (ready .table)
@@ -79,11 +73,11 @@ module _ (t s trace : List ℕ) (e : ℕ) (ready : Ready t s trace) where
 
   pub traced-long : length (tracedBy t s e trace) ≡ length trace
   traced-long =
-      let few = words-few in let room = ready .room in
+      let few = words-few in let room = ready .enough in
       simp (length-append, length-drop) (omega arith)
 
   pub next-ready : Ready t (taken t s e .state) (tracedBy t s e trace)
-  next-ready = record { table = ready .table; state = next-fits; room = let l = traced-long in let r = ready .room in omega arith }
+  next-ready = record { table = ready .table; state = next-fits; enough = let l = traced-long in let r = ready .enough in omega arith }
 
   -- an event prints at most `most` bytes
   pub event-long : length (eventLines t s e) ≤ most
@@ -114,7 +108,7 @@ module _ (t s trace : List ℕ) (e : ℕ) (ready : Ready t s trace) where
     number-small = rw number-is answer-small
 
     pub count-few : m ≤ length trace′
-    count-few = let l = traced-long in let w = words-few in let b = ready .room in let c = count-is in rw words-are (omega arith)
+    count-few = let l = traced-long in let w = words-few in let b = ready .enough in let c = count-is in rw words-are (omega arith)
 
     pub room-enough : (at end : ℕ) → at + most ≤ end → at + (2 + 9 * (length s′ + m)) ≤ end
     unfolding eventLines

@@ -153,7 +153,7 @@ ready-after es ready same is =
     record {
       table = ready .table;
       state = rw is (fits-after _ _ es (ready .table) (ready .state));
-      room = let b = ready .room in omega arith;
+      enough = let b = ready .enough in omega arith;
     }
 
 pub ready-again : {t s trace es out : List ℕ} {r : Taken} {s₁ w₁ o₁ : List ℕ} → Ready t s trace → length w₁ ≡ length trace → TookEvents t s trace es out r s₁ w₁ o₁ → Ready t s₁ w₁
@@ -179,4 +179,4 @@ state-so-far t s₀ s trace bytes from {r = r} is p =
 
 -- The fresh state is ready.
 pub fresh-ready : {t s trace : List ℕ} → accepted t ≡ true → s ≡ fresh t → bound t ≤ length trace → Ready t s trace
-fresh-ready {t} ok is room = record { table = ok; state = rw is (fresh-fits t ok); room = room }
+fresh-ready {t} ok is room = record { table = ok; state = rw is (fresh-fits t ok); enough = room }

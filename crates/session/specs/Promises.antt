@@ -6,8 +6,9 @@ use mathlib.Core.List.{List, [], _∷_, _++_}
 use lib.ListN.{length, take, drop}
 use lib.Dec.{leb, eqb}
 use Rattle.rulebook.specs.Reasons.{check, accepted, bound}
-use Rattle.rulebook.specs.State.{stateLength, fits}
+use Rattle.rulebook.specs.State.{stateLength}
 use Rattle.rulebook.specs.Step.{refusedCall}
+use Rattle.laws.specs.Callable.{Callable}
 use Rattle.text.specs.Words.{wordsOf}
 use Rattle.text.specs.Puts.{lay}
 use Rattle.session.specs.declared.Opening.{Opening}
@@ -37,10 +38,8 @@ pub record PutLines (room : ℕ) (xs out : List ℕ) (n : ℕ) (after : List ℕ
   pub inside : n ≤ length out
 
 -- answers 1 to 3 refuse nothing
-pub record Ready (t s trace : List ℕ) : Type 0 where
-  pub table : accepted t ≡ true
-  pub state : fits t s ≡ true
-  pub room : bound t ≤ length trace
+abbrev pub Ready : List ℕ → List ℕ → List ℕ → Type 0
+Ready t s trace = Callable t s (length trace)
 
 -- the words of an event stand at the front of the trace, the others are as they were
 abbrev pub tracedBy : List ℕ → List ℕ → ℕ → List ℕ → List ℕ

@@ -18,7 +18,7 @@ use Rattle.tables.specs.declared.Checked.{Checked}
 use Rattle.tables.specs.declared.Checked.the-variants.{Accepted, TooShort, WrongEdition, WrongCounts, WrongLength as LengthDiffers, Misfit, Misnamed}
 use Rattle.tables.specs.declared.Checked.the-variants.{TooDeep, OwnersClash, TooDear}
 use Rattle.tables.proofs.Checked.{the-type}
-use Rattle.tables.specs.Told.{Told, told, promised}
+use Rattle.tables.specs.Finding.{Finding as Told, finding as told, promised}
 use Rattle.states.specs.declared.Made.{Made}
 use Rattle.states.specs.declared.Made.the-variants.{Done, BadTable, WrongLength}
 use Rattle.states.specs.Made.{numberOf, Fresh}

@@ -35,7 +35,7 @@ fitting-kept t f P k q s h p =
     arbitrate-keeps t f (λ x. Fits t x × P x)
     (record {
       clear = λ p s b e w. (fit-kept t f .clear p s b e (w .0), k .port p _ _ _ s b (λ z. omega arith) (w .0) (w .1));
-      begin = λ p s b e w. (fit-kept t f .begin p s b e (w .0), k .port p _ _ _ s b (λ z. omega arith) (w .0) (w .1));
+      timerStart = λ p s b e w. (fit-kept t f .timerStart p s b e (w .0), k .port p _ _ _ s b (λ z. omega arith) (w .0) (w .1));
       stop = λ p s b e w. (fit-kept t f .stop p s b e (w .0), k .port p _ _ _ s b (λ z. omega arith) (w .0) (w .1));
       ask = λ n mode s b m w. (fit-kept t f .ask n mode s b m (w .0), k .ask n mode s b m (w .0) (w .1));
       store = λ r b s c d w. (fit-kept t f .store r b s c d (w .0), k .store r b s c (w .0) (w .1));

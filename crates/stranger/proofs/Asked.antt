@@ -87,7 +87,7 @@ module _ (t : List ℕ) (f : Facts t) (n : ℕ) (b : n < networks t) (m : ℕ) w
   unfolding act judge setResult
   asked-acts =
       record {
-        begin = λ l x h q. (q .0, one-more x _ (other-kind n traceListStart (listOwner t l) l 0 (λ z. omega arith)) (q .1));
+        listStart = λ l x h q. (q .0, one-more x _ (other-kind n traceListStart (listOwner t l) l 0 (λ z. omega arith)) (q .1));
         act = λ l i x w g h q. (
           effect-keeps t f (Fits t) (fit-kept t f) i (x .state) (item-there t f l i w) (q .0),
           effect-asked (listOwner t l) i x (item-there t f l i w) (q .0) (q .1),

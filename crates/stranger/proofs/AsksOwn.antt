@@ -52,7 +52,7 @@ module _ (t : List ℕ) (f : Facts t) where
   unfolding act judge
   acts-ask-own =
       record {
-        begin = λ l x h a. emit-asks _ x (other-kind traceListStart (listOwner t l) l 0 (λ z. omega arith)) a;
+        listStart = λ l x h a. emit-asks _ x (other-kind traceListStart (listOwner t l) l 0 (λ z. omega arith)) a;
         act = λ l i x w g h a. emit-asks _ x (item-asks l i w) a;
         undefined = λ l i x w e a. emit-asks _ x (other-kind itemRule (listOwner t l) (itemA t i) _ (λ z. omega arith)) a;
         judge = λ l i x w e u a. emit-asks _ x (other-kind itemRule (listOwner t l) (itemA t i) _ (λ z. omega arith)) a;

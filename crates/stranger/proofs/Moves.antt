@@ -59,11 +59,11 @@ pub record Moves {X : Type 0} (i p : ℕ) (core : ℕ → X) (show : X → ℕ) 
   pub port : PortMoves p (show (core (word s i))) (show x) s s′
 
 -- The thing at index i with port p: what it holds, and that arbitration leaves its core alone.
-pub record Held (t : List ℕ) {X : Type 0} (i p : ℕ) (core : ℕ → X) : Type 0 where
+pub record LeftAlone (t : List ℕ) {X : Type 0} (i p : ℕ) (core : ℕ → X) : Type 0 where
   pub holder : Holder t i p
   pub still : (q : ℕ → Bool) (s : List ℕ) → Fits t s → core (word (arbitrate t q s .state) i) ≡ core (word s i)
 
-module _ (t : List ℕ) (f : Facts t) {X : Type 0} (i p : ℕ) (core : ℕ → X) (show : X → ℕ) (h : Held t i p core) where
+module _ (t : List ℕ) (f : Facts t) {X : Type 0} (i p : ℕ) (core : ℕ → X) (show : X → ℕ) (h : LeftAlone t i p core) where
   abbrev now : List ℕ → X
   now s = core (word s i)
 
@@ -127,7 +127,7 @@ shownBy c = shown (c .state)
 core-path : (a b : Network) → Core a b → asking 0 a ≡ asking 0 b
 core-path a b k j = record { asked = 0; state = k .state j; counter = k .counter j; remaining = k .remaining j }
 
-pub network-held : (t : List ℕ) → Facts t → (n : ℕ) → n < networks t → Held t (networkIndex t n) (networkPort t n) coreOf
+pub network-held : (t : List ℕ) → Facts t → (n : ℕ) → n < networks t → LeftAlone t (networkIndex t n) (networkPort t n) coreOf
 network-held t f n b =
     record { holder = network-holder t f n b; still = λ q s fit. core-path _ _ (network-still t f n (networkIn t n s) b q s fit (record { state = refl; counter = refl; remaining = refl })) }
 
@@ -141,7 +141,7 @@ module _ (t : List ℕ) (f : Facts t) (n : ℕ) (b : n < networks t) where
   abbrev NetworkMoves : Network → List ℕ → List ℕ → Type 0
   NetworkMoves c s s′ = Moves (networkIndex t n) (networkPort t n) coreOf shownBy (asking 0 c) s s′
 
-  held-network : Held t (networkIndex t n) (networkPort t n) coreOf
+  held-network : LeftAlone t (networkIndex t n) (networkPort t n) coreOf
   held-network = network-held t f n b
 
   -- n itself is moved
@@ -231,14 +231,14 @@ module _ (t : List ℕ) (f : Facts t) (n : ℕ) (b : n < networks t) where
 abbrev pub wordOf : ℕ → ℕ
 wordOf w = w
 
-pub source-held : (t : List ℕ) → Facts t → (k : ℕ) → k < sources t → Held t (sourceIndex t k) (sourcePort t k) wordOf
+pub source-held : (t : List ℕ) → Facts t → (k : ℕ) → k < sources t → LeftAlone t (sourceIndex t k) (sourcePort t k) wordOf
 source-held t f k b = record { holder = source-holder t f k b; still = λ q s fit. source-still t f k (word s (sourceIndex t k)) b q s fit refl }
 
 module _ (t : List ℕ) (f : Facts t) (k : ℕ) (b : k < sources t) where
   abbrev SourceMoves : ℕ → List ℕ → List ℕ → Type 0
   SourceMoves w s s′ = Moves (sourceIndex t k) (sourcePort t k) wordOf (λ x. statusOf x) w s s′
 
-  held-source : Held t (sourceIndex t k) (sourcePort t k) wordOf
+  held-source : LeftAlone t (sourceIndex t k) (sourcePort t k) wordOf
   held-source = source-held t f k b
 
   source-by-nothing : (s : List ℕ) → SourceMoves (word s (sourceIndex t k)) s s

@@ -4,7 +4,7 @@ use mathlib.Core.Bool.{Bool, true, false, cond, _&&_, _||_, not}
 use mathlib.Core.List.{List, [], _∷_, _++_}
 use Prim.Native.Nat.{ℕ, _+_, _-_, _≤_, _<_}
 use lib.Dec.{leb, eqb}
-use Rattle.rulebook.specs.Words.{word, laid}
+use Rattle.rulebook.specs.Words.{word, inField}
 use Rattle.rulebook.specs.Table.{networkPort, eTicks, sourcePort, timeout, itemAsk}
 use Rattle.rulebook.specs.State.{sourceIndex, definedOf, valueOf, remainingOf, askedFull, stateCheck, stateFull, stateRecover}
 use Rattle.rulebook.specs.State.{statusNone, statusPending, statusValidated, statusExpired}
@@ -155,4 +155,4 @@ pub record PortShows (p : ℕ) (look : List ℕ → ℕ) (s : List ℕ) (xs : Li
 -- Event words, for what their owner can always bring about: a wakeup of source k, a bus-off of network n.
 
 unfoldable pub ownersEvent : ℕ → ℕ → ℕ → ℕ
-ownersEvent kind o i = laid 0 4 kind + laid 4 4 o + laid 8 8 i
+ownersEvent kind o i = inField 0 4 kind + inField 4 4 o + inField 8 8 i

@@ -1,9 +1,9 @@
 -- The check as a chain: what is left of it once the rules before a reason are kept, and what it gives where one is broken.
 -- Assumes nothing.
 use Prim.Native.Nat.{ℕ, _+_, _<_, _≤_, min}
-use mathlib.Core.Path.{_≡_, refl}
+use mathlib.Core.Path.{_≡_, refl, _∙_}
 use mathlib.Core.Bool.{Bool, true, false, false≢true, _&&_}
-use mathlib.Core.List.{List}
+use mathlib.Core.List.{List, [], _∷_}
 use native.Mathlib.Omega.{arith}
 use lib.Dec.{leb, eqb}
 use lib.ListN.{length}
@@ -12,61 +12,66 @@ use Rattle.rulebook.specs.Words.{between}
 use Rattle.rulebook.specs.Table.{Part, ports, networks, sources, expressions, rules, lists, items, listsFrom, tableLength, atList, part}
 use Rattle.rulebook.specs.Expressions.{deepest}
 use Rattle.rulebook.specs.Reasons.{hasHeader, knownEdition, countsInside, exactLength, ownFields, names, nesting, owners, affordable, bound}
-use Rattle.rulebook.specs.Reasons.{Verdict, verdict, listWithin, breaks, lowest, wholly, wordwise, check}
+use Rattle.rulebook.specs.Reasons.{verdict, listWithin, breaks, lowest, Link, ofTable, ofWords, firstOf, check}
+use Rattle.laws.proofs.Acceptance.{table-passes, table-fails, words-pass, words-fail}
 use Rattle.laws.proofs.Walks.{first-before}
 use Rattle.laws.proofs.Parts.{part-list}
 use Rattle.cost.specs.Costs.{Nested}
-use Rattle.tables.specs.Told.{refused, promised}
+use Rattle.tables.specs.Finding.{refused, promised}
 
--- from each reason on
+-- what is left of the rules from each on
 
-abbrev pub from9 : List ℕ → Verdict
-from9 t = wholly 9 (affordable t) (verdict 0 0)
+abbrev pub from-cost : List Link
+from-cost = ofTable 9 affordable ∷ []
 
-abbrev pub from8 : List ℕ → Verdict
-from8 t = wordwise 8 owners t (from9 t)
+abbrev pub from-owners : List Link
+from-owners = ofWords 8 owners ∷ from-cost
 
-abbrev pub from7 : List ℕ → Verdict
-from7 t = wordwise 7 nesting t (from8 t)
+abbrev pub from-nesting : List Link
+from-nesting = ofWords 7 nesting ∷ from-owners
 
-abbrev pub from6 : List ℕ → Verdict
-from6 t = wordwise 6 names t (from7 t)
+abbrev pub from-names : List Link
+from-names = ofWords 6 names ∷ from-nesting
 
-abbrev pub from5 : List ℕ → Verdict
-from5 t = wordwise 5 ownFields t (from6 t)
+abbrev pub from-fields : List Link
+from-fields = ofWords 5 ownFields ∷ from-names
 
-abbrev pub from4 : List ℕ → Verdict
-from4 t = wholly 4 (exactLength t) (from5 t)
+abbrev pub from-length : List Link
+from-length = ofTable 4 exactLength ∷ from-fields
 
-abbrev pub from3 : List ℕ → Verdict
-from3 t = wholly 3 (countsInside t) (from4 t)
+abbrev pub from-counts : List Link
+from-counts = ofTable 3 countsInside ∷ from-length
 
-abbrev pub from2 : List ℕ → Verdict
-from2 t = wholly 2 (knownEdition t) (from3 t)
+abbrev pub from-edition : List Link
+from-edition = ofTable 2 knownEdition ∷ from-counts
 
-pub from1 : (t : List ℕ) → check t ≡ wholly 1 (hasHeader t) (from2 t)
+pub from-header : (t : List ℕ) → check t ≡ firstOf t (ofTable 1 hasHeader ∷ from-edition)
 unfolding check
-from1 t = refl
+from-header t = refl
 
--- a link
+pub none-left : (t : List ℕ) → firstOf t [] ≡ verdict 0 0
+unfolding firstOf
+none-left t = refl
 
-module _ (k : ℕ) (b : Bool) (next : Verdict) where
-  pub kept : b ≡ true → wholly k b next ≡ next
-  unfolding wholly
-  kept h = rw h
+-- a rule that is kept, and one that is broken
 
-  pub broken : b ≡ false → wholly k b next ≡ verdict k 0
-  unfolding wholly
-  broken h = rw h
+module _ (t : List ℕ) (k : ℕ) (rule : List ℕ → Bool) (links : List Link) where
+  pub kept : rule t ≡ true → firstOf t (ofTable k rule ∷ links) ≡ firstOf t links
+  unfolding firstOf
+  kept h = table-passes t k rule _ h
 
-module _ (k : ℕ) (rule : List ℕ → Part → Bool) (t : List ℕ) (next : Verdict) (n r : ℕ) (long : length t ≡ n) (found : r ≡ lowest rule t) where
-  pub kept-by-all : n ≤ r → wordwise k rule t next ≡ next
-  unfolding wordwise
-  kept-by-all h = rw (le-ltb (lowest rule t) (length t) (omega arith))
+  pub broken : rule t ≡ false → firstOf t (ofTable k rule ∷ links) ≡ verdict k 0
+  unfolding firstOf
+  broken h = table-fails t k rule _ h
 
-  pub broken-at : r < n → wordwise k rule t next ≡ verdict k r
-  unfolding wordwise
-  broken-at h = rw (lt-ltb (lowest rule t) (length t) (omega arith), found)
+module _ (t : List ℕ) (k : ℕ) (rule : List ℕ → Part → Bool) (links : List Link) (n r : ℕ) (long : length t ≡ n) (found : r ≡ lowest rule t) where
+  pub kept-by-all : n ≤ r → firstOf t (ofWords k rule ∷ links) ≡ firstOf t links
+  unfolding firstOf
+  kept-by-all h = words-pass t k rule _ (omega arith)
+
+  pub broken-at : r < n → firstOf t (ofWords k rule ∷ links) ≡ verdict k r
+  unfolding firstOf
+  broken-at h = words-fail t k rule _ (omega arith) ∙ rw found
 
 -- the answers
 

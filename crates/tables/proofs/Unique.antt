@@ -6,7 +6,7 @@ use mathlib.Core.Path.{_≡_, refl, sym, ap, _∙_}
 use mathlib.Core.List.{List}
 use Rattle.tables.specs.declared.Checked.{Checked}
 use Rattle.tables.specs.declared.Checked.the-variants.{Accepted, TooShort, WrongEdition, WrongCounts, WrongLength, Misfit, Misnamed, TooDeep, OwnersClash, TooDear}
-use Rattle.tables.specs.Told.{Told, told, promised}
+use Rattle.tables.specs.Finding.{Finding, finding, promised}
 
 -- the answer that tells a reason, a place and B
 abbrev answer : ℕ → ℕ → ℕ → Checked
@@ -22,10 +22,10 @@ answer k i b =
     (cond (eqb k 8) (OwnersClash i)
     TooDear))))))))
 
-abbrev answering : Told → Checked
+abbrev answering : Finding → Checked
 answering x = answer (x .reason) (x .place) (x .bound)
 
-back : (r : Checked) → answering (told r) ≡ r
+back : (r : Checked) → answering (finding r) ≡ r
 back (Accepted b) = refl
 back TooShort = refl
 back WrongEdition = refl
@@ -37,8 +37,8 @@ back (TooDeep i) = refl
 back (OwnersClash i) = refl
 back TooDear = refl
 
-pub told-apart : (r s : Checked) → told r ≡ told s → r ≡ s
-told-apart r s h = sym (back r) ∙ ap answering h ∙ back s
+pub findings-apart : (r s : Checked) → finding r ≡ finding s → r ≡ s
+findings-apart r s h = sym (back r) ∙ ap answering h ∙ back s
 
-pub one-answer : (t : List ℕ) (r s : Checked) → told r ≡ promised t → told s ≡ promised t → r ≡ s
-one-answer t r s p q = told-apart r s (p ∙ sym q)
+pub one-answer : (t : List ℕ) (r s : Checked) → finding r ≡ promised t → finding s ≡ promised t → r ≡ s
+one-answer t r s p q = findings-apart r s (p ∙ sym q)

@@ -1,2 +1,2 @@
 -- What the table check promises.
-pub mod Told
+pub mod Finding

@@ -2,7 +2,7 @@
 ghost use mathlib.Core.Path.{_≡_};
 ghost use Rattle.rulebook.specs.Reasons.{countsInside};
 ghost use Rattle.words.specs.Sections.{Laid};
-ghost use Rattle.tables.specs.Told.{told, promised, Says};
+ghost use Rattle.tables.specs.Finding.{finding, promised, Says};
 use cost::bound;
 use fields::first_misfit;
 use names::first_misnamed;
@@ -32,7 +32,7 @@ pub enum Checked {
 pub struct Said(pub u32, pub usize, pub u32);
 
 pub fn numbers(checked: Checked) -> Said
-    ensures { λ r. ⌜ Says (told checked) (r .0) (r .1) (r .2) ⌝ }
+    ensures { λ r. ⌜ Says (finding checked) (r .0) (r .1) (r .2) ⌝ }
 {
     match checked {
         Checked::Accepted(b) => Said(0, 0, b),
@@ -70,7 +70,7 @@ fn counts_inside(t: &[u32], h: Layout) -> bool
 }
 
 pub fn check(t: &[u32]) -> Checked
-    ensures { λ r. ⌜ told r ≡ promised (now (t .entry)) ⌝ }
+    ensures { λ r. ⌜ finding r ≡ promised (now (t .entry)) ⌝ }
 {
     if t.len() < 3 {
         return Checked::TooShort;

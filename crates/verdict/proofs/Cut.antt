@@ -7,7 +7,7 @@ use lib.ListN.{length, take}
 use lib.Seq.{take-all}
 use Rattle.text.proofs.Digits.{below}
 use Rattle.rulebook.specs.Reasons.{accepted}
-use Rattle.tables.specs.Told.{promised}
+use Rattle.tables.specs.Finding.{promised}
 use Rattle.laws.proofs.Tests.{split}
 use Rattle.laws.proofs.Facts.{facts}
 use Rattle.session.specs.Printed.{tableWords}

@@ -11,7 +11,7 @@ use Rattle.session.specs.Promises.{PutLines}
 use Rattle.session.proofs.Checks.{place-small, place-is}
 use Rattle.session.proofs.Lines.{put-more, put-length, one-put, decimal-long}
 use Rattle.tables.specs.declared.Checked.{Checked}
-use Rattle.tables.specs.Told.{Told, told, promised, Says}
+use Rattle.tables.specs.Finding.{Finding as Told, finding as told, promised, Says}
 use Rattle.verdict.specs.Verdict.{verdictLines, linesOf}
 
 pub unlaid : (xs out : List ℕ) → length out < 33 → PutLines 33 xs out 0 out

@@ -2,7 +2,7 @@
 use Prim.Native.Nat.{ℕ}
 use mathlib.Core.List.{List, _++_}
 use Rattle.text.specs.Lines.{decimalLine}
-use Rattle.tables.specs.Told.{Told, promised}
+use Rattle.tables.specs.Finding.{Finding as Told, promised}
 use Rattle.session.specs.Promises.{PutLines}
 
 unfoldable pub verdictLines : ℕ → ℕ → ℕ → List ℕ

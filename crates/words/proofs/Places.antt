@@ -105,16 +105,16 @@ other : (l : ℕ) (b : Bool) (x y : Part) → (x ≡ atList l → ⊥) → (y �
 other l true x y hx hy = hx
 other l false x y hx hy = hy
 
-told : _≡_ {A = ℕ} 0 1 → ⊥
-told e = omega arith
+zero-not-one : _≡_ {A = ℕ} 0 1 → ⊥
+zero-not-one e = omega arith
 
 pub before-lists : (t : List ℕ) (h : Layout) → Laid t h → (i l : ℕ) → i < h .list0 → part t i ≡ atList l → ⊥
 unfolding part
 before-lists t h laid i l b =
     simp (lt-ltb i (listsFrom t) (omega arith))
-    (other l (ltb i portsFrom) _ _ (λ e. told (cc))
-    (other l (ltb i (networksFrom t)) _ _ (λ e. told (cc))
+    (other l (ltb i portsFrom) _ _ (λ e. zero-not-one (cc))
+    (other l (ltb i (networksFrom t)) _ _ (λ e. zero-not-one (cc))
     (other l (ltb i (sourcesFrom t)) _ _
-    (other l (eqb ((i - networksFrom t) % 2) 0) _ _ (λ e. told (cc)) (λ e. told (cc)))
-    (other l (ltb i (expressionsFrom t)) _ _ (λ e. told (cc))
-    (other l (ltb i (rulesFrom t)) _ _ (λ e. told (cc)) (λ e. told (cc)))))))
+    (other l (eqb ((i - networksFrom t) % 2) 0) _ _ (λ e. zero-not-one (cc)) (λ e. zero-not-one (cc)))
+    (other l (ltb i (expressionsFrom t)) _ _ (λ e. zero-not-one (cc))
+    (other l (ltb i (rulesFrom t)) _ _ (λ e. zero-not-one (cc)) (λ e. zero-not-one (cc)))))))

@@ -1,7 +1,8 @@
 -- What a layout says of a table: its counts, with the bounds that their widths give, and the places of its sections.
-use Prim.Native.Nat.{ℕ}
+use Prim.Native.Nat.{ℕ, _<_}
 use mathlib.Core.Path.{_≡_}
 use mathlib.Core.List.{List}
+use lib.ListN.{length}
 use Rattle.rulebook.specs.Table
 use Rattle.words.specs.Field.{Field}
 use Rattle.words.specs.declared.sections.Layout.{Layout}
@@ -29,6 +30,16 @@ pub record Laid (t : List ℕ) (h : Layout) : Type 0 where
   pub list0 : h .list0 ≡ Table.listsFrom t
   pub item0 : h .item0 ≡ Table.itemsFrom t
   pub length : h .length ≡ Table.tableLength t
+
+-- a table that is as long as its header asks for
+pub record Whole (t : List ℕ) (h : Layout) : Type 0 where
+  pub laid : Laid t h
+  pub whole : length t ≡ h .length
+
+-- a place i of the table, before the place e
+pub record Inside (t : List ℕ) (h : Layout) (e i : ℕ) : Type 0 where
+  pub laid : Laid t h
+  pub inside : i < e
 
 -- What is read of a thing by its number: every field of its word, with the bound that its width gives.
 

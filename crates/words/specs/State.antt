@@ -1,20 +1,12 @@
 -- What is read of the state: the code's things and networks as the rulebook's, and the fields of a port's and a source's word.
-use Prim.Native.Nat.{ℕ, _<_}
-use mathlib.Core.List.{List}
+use Prim.Native.Nat.{ℕ}
 use Rattle.rulebook.specs.State as state
 use Rattle.words.specs.Field.{Field}
-use Rattle.words.specs.Sections.{Laid}
-use Rattle.words.specs.declared.sections.Layout.{Layout}
 use Rattle.words.specs.declared.state.Network as declared
 use Rattle.words.specs.declared.state.Port as port
 use Rattle.words.specs.declared.state.Source as source
 use Rattle.words.specs.declared.state.Thing.{Thing}
 use Rattle.words.specs.declared.state.Thing.the-variants.{Port, Rule, Network, Source}
-
--- an index inside a state of the table
-pub record InState (t : List ℕ) (h : Layout) (i : ℕ) : Type 0 where
-  pub laid : Laid t h
-  pub inside : i < state.stateLength t
 
 abbrev pub thingOf : Thing → state.Thing
 thingOf (Port p) = state.aPort p

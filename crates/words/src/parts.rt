@@ -1,9 +1,8 @@
 // Which word of the table the one at a place is, with its number in its section.
 ghost use mathlib.Core.Path.{_≡_};
-ghost use Prim.Native.Nat.{_<_};
 ghost use Rattle.rulebook.specs.Table.{part};
 ghost use Rattle.words.specs.Parts.{partOf};
-ghost use Rattle.words.specs.Sections.{Laid};
+ghost use Rattle.words.specs.Sections.{Inside};
 use crate::sections::Layout;
 
 pub enum Part {
@@ -20,7 +19,7 @@ pub enum Part {
 
 // The table stands here for the proof alone: the layout says all that is read of it. The longest sections are asked for first.
 pub fn part_at(t: &[u32], h: Layout, i: usize) -> Part
-    requires { ⌜ Laid (now t) h × (i < h .length) ⌝ }
+    requires { ⌜ Inside (now t) h (h .length) i ⌝ }
     ensures { λ r. ⌜ partOf r ≡ part (now (t .entry)) i ⌝ }
 {
     let network0 = h.network0;

@@ -1,14 +1,13 @@
 // The state: whose each of its words is, the fields of a word, and a thing read and written whole.
 ghost use mathlib.Core.Path.{_≡_};
-ghost use Prim.Native.Nat.{_<_};
 ghost use lib.ListN.{set};
 ghost use Rattle.rulebook.specs.Words.{field as fieldOf, word as wordOf};
 ghost use Rattle.rulebook.specs.State.{packPort, packRule, packNetwork, packSource, networkOf, thing, stateLength, networkIndex, sourceIndex};
 ghost use Rattle.rulebook.specs.Lists.{setPort, previousIn, setResult, networkIn, setNetwork};
 ghost use Rattle.rulebook.specs.Events.{setSource};
 ghost use Rattle.words.specs.Field.{Field};
-ghost use Rattle.words.specs.Sections.{Laid};
-ghost use Rattle.words.specs.State.{InState, PortIn, SourceIn, networkAs, thingOf};
+ghost use Rattle.words.specs.Sections.{Laid, Inside};
+ghost use Rattle.words.specs.State.{PortIn, SourceIn, networkAs, thingOf};
 use crate::put;
 use crate::sections::Layout;
 use crate::word;
@@ -36,7 +35,7 @@ pub fn length(t: &[u32], h: Layout) -> usize
 
 // Whose the state word at an index is.
 pub fn thing_at(t: &[u32], h: Layout, i: usize) -> Thing
-    requires { ⌜ InState (now t) h i ⌝ }
+    requires { ⌜ Inside (now t) h (stateLength (now t)) i ⌝ }
     ensures { λ r. ⌜ thingOf r ≡ thing (now (t .entry)) i ⌝ }
 {
     let rule0 = h.ports as usize;

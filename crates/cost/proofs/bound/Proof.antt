@@ -1,9 +1,9 @@
 -- `cost::bound` meets its contract. The loop's invariant: the total with what the rest of the lists cost is B, once held. Assumes nothing.
-use mathlib.Core.Path.{refl}
-use Prim.Native.Nat.{_+_, _-_, _≤_}
-use mathlib.Core.Path.{_≡_, sym, _∙_}
+use Prim.Native.Nat.{_+_, _-_, _<_, _≤_}
+use mathlib.Core.Path.{_≡_, refl, sym, _∙_}
 use native.Mathlib.Omega.{arith}
 use Rattle.rulebook.specs.Words.{sum}
+use Rattle.rulebook.specs.Table as Table
 use Rattle.rulebook.specs.Reasons as Reasons
 use Rattle.cost.specs.Costs.{capped}
 use Rattle.cost.proofs.Capped.{no-round, bound-start, cost-is, cost-turn, cost-end}
@@ -11,25 +11,40 @@ use Rattle.cost.proofs.bound.Statement.{statement}
 use Rattle.cost.proofs.bound.Tie as tie
 
 abbrev Inv-loop : tie.InvT-loop
-Inv-loop t depths lists costs total₀ l₀ total l = (l ≤ lists) × (total ≤ 4097) × (capped (Reasons.bound t) ≡ capped (total + sum l (lists - l) (Reasons.costWithin 7 t)))
+Inv-loop t depths lists costs total₀ l₀ total l =
+    (l ≤ lists) × (total ≤ 4097) × (capped (Reasons.bound t) ≡ capped (total + sum l (lists - l) (Reasons.costWithin 7 t)))
 
 abbrev μ-loop : tie.MeasureT-loop
 μ-loop t depths lists costs total₀ l₀ total l = lists - l
 
+abbrev costs : tie.At-loop Inv-loop μ-loop → tie.After-find-costs Inv-loop μ-loop
+costs c = c .before .before
+
+abbrev start : tie.After-find-costs Inv-loop μ-loop → tie.Start Inv-loop μ-loop
+start c = c .before .before .before .before
+
 find-costs-requires : tie.Need-find-costs-requires Inv-loop μ-loop
-find-costs-requires c κs = (c .before .before .before .pre .0, c .before .before .before .pre .1, c .before .before .before .pre .2, no-round (c .before .before .before .args .t .now))
+find-costs-requires c κs =
+    let s = c .before .before .before in
+    record { searched = s .pre .searched; found = no-round (s .args .t .now) }
 
 loop-holds : tie.Need-loop-holds Inv-loop μ-loop
-loop-holds c = (omega arith, omega arith, bound-start _ _ (c .before .before .before .before .before .pre .0))
-
-slice-aggregate-cost-in : tie.Need-slice-aggregate-cost-in Inv-loop μ-loop
-slice-aggregate-cost-in c = sym (c .before .before .before .before .find-costs .ensures .long)
+loop-holds c = (omega arith, omega arith, bound-start _ _ (start (c .before) .pre .searched .laid))
 
 add-cap : tie.Need-add-cap Inv-loop μ-loop
 add-cap c = omega (arith, c .before .before .before .loop .inv .1, c .cost-in .ensures .small)
 
 loop-again : tie.Need-loop-again Inv-loop μ-loop
-loop-again c = (omega arith, omega (arith, c .cap .ensures), c .before .before .before .before .loop .inv .2 ∙ cost-turn (Reasons.costWithin 7 (c .before .before .before .before .before .before .before .before .before .before .args .t .now)) _ _ _ _ _ (c .before .before .before .loop-test .taken) (cost-is _ _ (c .before .before .before .before .before .before .find-costs .ensures) (c .before .before .before .before .before .before .before .before .before .before .pre .3) _ _ (omega (arith, c .before .before .before .loop-test .taken, c .before .before .before .before .before .before .before .before .before .before .pre .0 .lists .value)) (c .before .cost-in .ensures .value)) (c .cap .ensures))
+loop-again c =
+    let turn = c .before .before .before in
+    let at = costs (turn .before) in
+    let pre = start at .pre in
+    let there : turn .before .loop .l < Table.lists (start at .args .t .now) = omega (arith, turn .loop-test .taken, pre .searched .laid .lists .value) in
+    let is = cost-is _ _ (at .find-costs .ensures) (pre .nested) _ _ there (c .before .cost-in .ensures .value) in (
+      omega arith,
+      omega (arith, c .cap .ensures),
+      turn .before .loop .inv .2 ∙ cost-turn (Reasons.costWithin 7 (start at .args .t .now)) _ _ _ _ _ (turn .loop-test .taken) is (c .cap .ensures),
+    )
 
 returns : tie.Need-returns Inv-loop μ-loop
 returns c = sym (c .before .loop .inv .2 ∙ cost-end _ _ _ _ (c .loop-test .left) (c .before .loop .inv .1))
@@ -43,7 +58,7 @@ bound-spec =
     (λ c. refl)
     find-costs-requires
     loop-holds
-    slice-aggregate-cost-in
+    (λ c. sym (costs (c .before .before) .find-costs .ensures .long))
     (λ c κs. tt)
     add-cap
     (λ c κs. tt)

@@ -1,5 +1,5 @@
 -- `cost::cost_level` meets its contract. The loop's invariant: the lists passed that are at most d + 1 deep have their costs. Assumes nothing.
-use Prim.Native.Nat.{_-_, _≤_}
+use Prim.Native.Nat.{_-_, _<_, _≤_}
 use mathlib.Core.Path.{sym, _∙_}
 use native.Mathlib.Omega.{arith}
 use Rattle.cost.proofs.Capped.{Priced, round-starts, round-turn, round-ends}
@@ -12,20 +12,36 @@ Inv-loop t h depths costs₀ d lists l₀ costs l = (l ≤ lists) × Priced d l 
 abbrev μ-loop : tie.MeasureT-loop
 μ-loop t h depths costs₀ d lists l₀ costs l = lists - l
 
-loop-holds : tie.Need-loop-holds Inv-loop μ-loop
-loop-holds c = (omega arith, round-starts _ _ _ (c .before .before .before .pre .4))
+abbrev start : tie.At-loop Inv-loop μ-loop → tie.Start Inv-loop μ-loop
+start c = c .before .before .before .before
+
+-- a turn, from its end back to its first call
+abbrev turn : tie.After-slice-known2 Inv-loop μ-loop → tie.After-next-cost Inv-loop μ-loop
+turn c = c .before .before .before .before
 
 next-cost-requires : tie.Need-next-cost-requires Inv-loop μ-loop
-next-cost-requires c κs = (c .before .before .before .before .before .before .pre .0, c .before .before .before .before .before .before .pre .2)
+next-cost-requires c κs =
+    let pre = start (c .before .before) .pre in
+    record { laid = pre .costed .searched .laid; shallow = pre .shallow }
 
 loop-again : tie.Need-loop-again Inv-loop μ-loop
-loop-again c = (omega arith, rw (c .before .before .put .ensures) (round-turn _ _ _ _ _ (c .before .before .before .before .before .before .before .before .before .before .before .pre .2) (c .before .before .before .before .before .before .before .before .before .before .before .pre .3) (c .before .before .before .before .before .before .before .loop .inv .1) _ (omega (arith, c .before .before .before .before .before .before .loop-test .taken, c .before .before .before .before .before .before .before .before .before .before .before .pre .1)) (c .before .before .before .before .next-cost .ensures)))
+loop-again c =
+    let at = turn c .before .before in
+    let pre = start (at .before) .pre in
+    let inside : at .before .loop .l < 256 = omega (arith, at .loop-test .taken, pre .costed .searched .few) in
+    let found = pre .costed .searched .found in (
+      omega arith,
+      rw (c .before .before .put .ensures)
+          (round-turn _ _ _ _ _ (pre .shallow) found (at .before .loop .inv .1) _ inside (turn c .next-cost .ensures)),
+    )
 
 same-length : tie.Need-same-length Inv-loop μ-loop
-same-length c = c .before .loop .inv .1 .long ∙ sym (c .before .before .before .before .before .pre .4 .long)
+same-length c = c .before .loop .inv .1 .long ∙ sym (start (c .before) .pre .costed .found .long)
 
 returns : tie.Need-returns Inv-loop μ-loop
-returns c = round-ends _ _ _ _ (omega (arith, c .loop-test .left, c .before .before .before .before .before .pre .0 .lists .value)) (c .before .loop .inv .1)
+returns c =
+    let laid = start (c .before) .pre .costed .searched .laid in
+    round-ends _ _ _ _ (omega (arith, c .loop-test .left, laid .lists .value)) (c .before .loop .inv .1)
 
 pub cost-level-spec : {M : Type 1} → statement M
 cost-level-spec =
@@ -33,7 +49,7 @@ cost-level-spec =
     (tie.spec
     Inv-loop
     μ-loop
-    loop-holds
+    (λ c. (omega arith, round-starts _ _ _ (c .before .before .before .pre .costed .found)))
     next-cost-requires
     (λ c. omega arith)
     (λ c κs. tt)

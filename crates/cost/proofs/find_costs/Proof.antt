@@ -12,17 +12,19 @@ Inv-loop t h depths costs₀ d₀ costs d = (d ≤ 7) × Costs d t costs
 abbrev μ-loop : tie.MeasureT-loop
 μ-loop t h depths costs₀ d₀ costs d = 7 - d
 
-loop-holds : tie.Need-loop-holds Inv-loop μ-loop
-loop-holds c = (omega arith, c .before .before .before .pre .3)
+abbrev start : tie.At-loop Inv-loop μ-loop → tie.Start Inv-loop μ-loop
+start c = c .before .before .before .before
 
 cost-level-requires : tie.Need-cost-level-requires Inv-loop μ-loop
-cost-level-requires c κs = (c .before .before .before .before .before .before .pre .0, c .before .before .before .before .before .before .pre .1, c .before .loop-test .taken, c .before .before .before .before .before .before .pre .2, c .before .before .loop .inv .1)
-
-loop-again : tie.Need-loop-again Inv-loop μ-loop
-loop-again c = (omega arith, c .before .before .cost-level .ensures)
+cost-level-requires c κs =
+    let at = c .before .before in
+    record {
+      costed = record { searched = start at .pre .searched; found = at .loop .inv .1 };
+      shallow = c .before .loop-test .taken;
+    }
 
 same-length : tie.Need-same-length Inv-loop μ-loop
-same-length c = c .before .loop .inv .1 .long ∙ sym (c .before .before .before .before .before .pre .3 .long)
+same-length c = c .before .loop .inv .1 .long ∙ sym (start (c .before) .pre .found .long)
 
 returns : tie.Need-returns Inv-loop μ-loop
 returns c = let all : c .before .loop .d ≡ 7 = omega arith in rw all at (c .before .loop .inv .1)
@@ -33,10 +35,10 @@ find-costs-spec =
     (tie.spec
     Inv-loop
     μ-loop
-    loop-holds
+    (λ c. (omega arith, c .before .before .before .pre .found))
     cost-level-requires
     (λ c. omega arith)
     (λ c. omega arith)
-    loop-again
+    (λ c. (omega arith, c .before .before .cost-level .ensures))
     same-length
     returns)

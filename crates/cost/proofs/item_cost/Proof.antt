@@ -1,30 +1,32 @@
 -- `cost::item_cost` meets its contract: each exit by the law of its kind. Assumes nothing.
 use mathlib.Core.Path.{_∙_}
 use native.Mathlib.Omega.{arith}
-use Rattle.cost.specs.Costs.{costIn}
-use Rattle.cost.proofs.Capped.{cost-of-list, cost-of-rule, cost-of-other}
+use Rattle.rulebook.specs.Reasons.{itemCost}
+use Rattle.words.proofs.Items.{read-list, read-rule, read-other}
 use borrow.Author.Needs.{needs}
 use Rattle.cost.proofs.item_cost.Statement.{statement}
 use Rattle.cost.proofs.item_cost.Tie as tie
 
 returns : tie.Need-returns
-returns c = record { value = c .cost-in .ensures .value ∙ cost-of-list _ (costIn (c .before .before .before .before .before .before .before .args .below .now)) _ _ _ _ (c .before .before .before .before .item-word .ensures) (c .before .before .before .item-kind .ensures .value) (c .before .before .item-a .ensures .value) (c .before .if1 .taken); small = omega (arith, c .cost-in .ensures .small) }
+unfolding itemCost
+returns c =
+    record {
+      value = c .cost-in .ensures .value ∙ read-list _ _ _ (c .before .before .item-at .ensures) _ _ _ (c .before .if1 .taken);
+      small = omega (arith, c .cost-in .ensures .small);
+    }
 
 returns-2 : tie.Need-returns-2
-returns-2 c = record { value = c .rule-cost .ensures .value ∙ cost-of-rule _ (costIn (c .before .before .before .before .before .before .before .before .args .below .now)) _ _ _ _ (c .before .before .before .before .before .item-word .ensures) (c .before .before .before .before .item-kind .ensures .value) (c .before .before .before .item-a .ensures .value) (c .before .before .if1 .left) (c .before .if2 .taken); small = c .rule-cost .ensures .small }
+unfolding itemCost
+returns-2 c =
+    let item = c .before .before .before .item-at .ensures in
+    record {
+      value = c .rule-cost .ensures .value ∙ read-rule _ _ _ item _ _ _ (c .before .before .if1 .left) (c .before .if2 .taken);
+      small = c .rule-cost .ensures .small;
+    }
 
 returns-3 : tie.Need-returns-3
-returns-3 c = record { value = cost-of-other _ (costIn (c .before .before .before .before .before .before .before .args .below .now)) _ _ _ _ (c .before .before .before .before .item-word .ensures) (c .before .before .before .item-kind .ensures .value) (c .before .before .item-a .ensures .value) (c .before .if1 .left) (c .if2 .left); small = omega arith }
+unfolding itemCost
+returns-3 c = record { value = read-other _ _ _ (c .before .before .item-at .ensures) _ _ _ (c .before .if1 .left) (c .if2 .left); small = omega arith }
 
 pub item-cost-spec : {M : Type 1} → statement M
-item-cost-spec =
-    tie.close
-    (tie.spec
-    (λ c κs. search needs)
-    (λ c κs. search needs)
-    (λ c κs. search needs)
-    (λ c κs. search needs)
-    returns
-    (λ c κs. search needs)
-    returns-2
-    returns-3)
+item-cost-spec = tie.close (tie.spec (λ c κs. search needs) (λ c κs. search needs) returns (λ c κs. search needs) returns-2 returns-3)

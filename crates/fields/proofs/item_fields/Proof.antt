@@ -6,9 +6,7 @@ use Rattle.fields.proofs.item_fields.Tie as tie
 
 returns : tie.Need-returns
 unfolding ownFields itemFields
-returns c = rw (c .before .before .item-kind .ensures .value, c .before .item-a .ensures .value, c .item-b .ensures .value, c .before .before .before .item-word .ensures)
+returns c = let item = c .item-at .ensures in rw (item .kind .value, item .a .value, item .b .value)
 
 pub item-fields-spec : {M : Type 1} → statement M
-item-fields-spec =
-    tie.close
-    (tie.spec (λ c κs. search needs) (λ c κs. search needs) (λ c κs. search needs) (λ c κs. search needs) returns)
+item-fields-spec = tie.close (tie.spec (λ c κs. search needs) returns)

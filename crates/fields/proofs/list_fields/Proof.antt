@@ -6,7 +6,7 @@ use Rattle.fields.proofs.list_fields.Tie as tie
 
 returns : tie.Need-returns
 unfolding ownFields
-returns c = rw (c .item-count .ensures .value, c .before .list-word .ensures)
+returns c = rw (c .list-at .ensures .item-count .value)
 
 pub list-fields-spec : {M : Type 1} → statement M
-list-fields-spec = tie.close (tie.spec (λ c κs. search needs) (λ c κs. search needs) returns)
+list-fields-spec = tie.close (tie.spec (λ c κs. search needs) returns)

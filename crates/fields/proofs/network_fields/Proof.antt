@@ -6,7 +6,7 @@ use Rattle.fields.proofs.network_fields.Tie as tie
 
 returns : tie.Need-returns
 unfolding ownFields
-returns c = rw (c .network-zero .ensures .value, c .before .network-word .ensures)
+returns c = rw (c .network-at .ensures .zero .value)
 
 pub network-fields-spec : {M : Type 1} → statement M
-network-fields-spec = tie.close (tie.spec (λ c κs. search needs) (λ c κs. search needs) returns)
+network-fields-spec = tie.close (tie.spec (λ c κs. search needs) returns)

@@ -6,7 +6,7 @@ use Rattle.fields.proofs.rule_fields.Tie as tie
 
 returns : tie.Need-returns
 unfolding ownFields
-returns c = rw (c .first-result .ensures .value, c .before .rule-word .ensures)
+returns c = rw (c .rule-at .ensures .first-result .value)
 
 pub rule-fields-spec : {M : Type 1} → statement M
-rule-fields-spec = tie.close (tie.spec (λ c κs. search needs) (λ c κs. search needs) returns)
+rule-fields-spec = tie.close (tie.spec (λ c κs. search needs) returns)

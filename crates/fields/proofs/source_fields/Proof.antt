@@ -6,7 +6,7 @@ use Rattle.fields.proofs.source_fields.Tie as tie
 
 returns : tie.Need-returns
 unfolding ownFields
-returns c = rw (c .source-zero .ensures .value, c .before .source-word .ensures)
+returns c = rw (c .source-at .ensures .zero .value)
 
 pub source-fields-spec : {M : Type 1} → statement M
-source-fields-spec = tie.close (tie.spec (λ c κs. search needs) (λ c κs. search needs) returns)
+source-fields-spec = tie.close (tie.spec (λ c κs. search needs) returns)

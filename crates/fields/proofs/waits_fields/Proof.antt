@@ -6,9 +6,7 @@ use Rattle.fields.proofs.waits_fields.Tie as tie
 
 returns : tie.Need-returns
 unfolding ownFields
-returns c = rw (c .before .before .l1 .ensures .value, c .before .l2 .ensures .value, c .e-ticks .ensures .value, c .before .before .before .waits-word .ensures)
+returns c = let waits = c .before .before .before .waits-at .ensures in rw (waits .l1 .value, waits .l2 .value, waits .e-ticks .value)
 
 pub waits-fields-spec : {M : Type 1} → statement M
-waits-fields-spec =
-    tie.close
-    (tie.spec (λ c κs. search needs) (λ c κs. search needs) (λ c κs. search needs) (λ c κs. search needs) returns)
+waits-fields-spec = tie.close (tie.spec (λ c κs. search needs) returns)

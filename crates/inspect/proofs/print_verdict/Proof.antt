@@ -6,8 +6,13 @@ use borrow.Author.Needs.{needs}
 use Rattle.inspect.proofs.print_verdict.Statement.{statement}
 use Rattle.inspect.proofs.print_verdict.Tie as tie
 
+-- The places that the answers cite, each seen from a later one.
+abbrev after-lay-verdict : tie.After-out3 → tie.After-lay-verdict
+after-lay-verdict c = c .before .before
+
 slice-aggregate-write-all : tie.Need-slice-aggregate-write-all
-slice-aggregate-write-all c = sym (length-take-le _ _ (omega (arith, c .before .before .lay-verdict .ensures .inside, c .before .before .lay-verdict .kept .1 .0)))
+slice-aggregate-write-all c =
+    sym (length-take-le _ _ (omega (arith, after-lay-verdict c .lay-verdict .ensures .inside, after-lay-verdict c .lay-verdict .kept .1 .0)))
 
 pub print-verdict-spec : {M : Type 1} → statement M
 print-verdict-spec =

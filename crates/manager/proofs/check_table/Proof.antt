@@ -1,7 +1,7 @@
 -- `manager::check_table` meets its promise, number by number. Assumes nothing.
 use mathlib.Core.Path.{ap}
 use borrow.Author.Needs.{needs}
-use Rattle.tables.specs.Told.{Told}
+use Rattle.tables.specs.Finding.{Finding as Told}
 use Rattle.manager.proofs.check_table.Statement.{statement}
 use Rattle.manager.proofs.check_table.Tie as tie
 

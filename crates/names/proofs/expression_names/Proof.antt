@@ -1,23 +1,24 @@
 -- `names::expression_names` meets its contract: the fields read are the rulebook's. Assumes nothing.
-use Rattle.rulebook.specs.Reasons.{names, expressionNames}
 use Rattle.rulebook.specs.Expressions.{operator}
+use Rattle.rulebook.specs.Reasons.{names, expressionNames}
 use borrow.Author.Needs.{needs}
 use Rattle.names.proofs.expression_names.Statement.{statement}
 use Rattle.names.proofs.expression_names.Tie as tie
 
 returns : tie.Need-returns
 unfolding names expressionNames operator
-returns c = rw (c .port-kind .ensures .value, c .before .port-word .ensures, c .before .before .condition-port .ensures .value, c .before .before .before .before .left .ensures .value, c .before .before .before .right .ensures .value, c .before .before .before .before .before .expression-kind .ensures .value, c .before .before .before .before .before .before .before .before .pre .expressions .value, c .before .before .before .before .before .before .before .before .pre .ports .value, c .before .before .before .before .before .before .expression-word .ensures)
+returns c =
+    let expression = c .before .expression-at .ensures in
+    let laid = c .before .before .before .pre in
+    rw (
+      c .port-at .ensures .kind .value,
+      expression .port .value,
+      expression .left .value,
+      expression .right .value,
+      expression .kind .value,
+      laid .expressions .value,
+      laid .ports .value,
+    )
 
 pub expression-names-spec : {M : Type 1} → statement M
-expression-names-spec =
-    tie.close
-    (tie.spec
-    (λ c κs. search needs)
-    (λ c κs. search needs)
-    (λ c κs. search needs)
-    (λ c κs. search needs)
-    (λ c κs. search needs)
-    (λ c κs. search needs)
-    (λ c κs. search needs)
-    returns)
+expression-names-spec = tie.close (tie.spec (λ c κs. search needs) (λ c κs. search needs) returns)

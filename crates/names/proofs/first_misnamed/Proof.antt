@@ -1,8 +1,10 @@
 -- `names::first_misnamed` meets its contract. The loop's invariant: what the whole scan gives is what the rest of it gives. Assumes nothing.
-use Prim.Native.Nat.{_-_, _≤_}
+use Prim.Native.Nat.{ℕ, _-_, _≤_}
 use mathlib.Core.Path.{_≡_, sym, ap, _∙_}
+use mathlib.Core.List.{List}
 use native.Mathlib.Omega.{arith}
 use Rattle.rulebook.specs.Words.{first}
+use Rattle.rulebook.specs.Table.{part}
 use Rattle.rulebook.specs.Reasons.{names, breaks, lowest}
 use Rattle.walks.proofs.Walks.{first-end}
 use Rattle.walks.proofs.Scan.{scan-here, scan-turn, scan-start}
@@ -15,23 +17,30 @@ Inv-loop t h end i₀ i = (i ≤ end) × (lowest names t ≡ first i (end - i) (
 abbrev μ-loop : tie.MeasureT-loop
 μ-loop t h end i₀ i = end - i
 
-loop-holds : tie.Need-loop-holds Inv-loop μ-loop
-loop-holds c = (omega arith, scan-start names _ _ (c .before .pre .1))
+abbrev start : tie.At-loop Inv-loop μ-loop → tie.Start Inv-loop μ-loop
+start c = c .before .before
 
-part-at-requires : tie.Need-part-at-requires Inv-loop μ-loop
-part-at-requires c κs = (c .before .before .before .pre .0, c .if1 .left)
+abbrev turn : tie.After-names Inv-loop μ-loop → tie.Else1 Inv-loop μ-loop
+turn c = c .before .before
 
-names-requires : tie.Need-names-requires Inv-loop μ-loop
-names-requires c κs = c .before .before .before .before .pre .0
+abbrev table : tie.After-names Inv-loop μ-loop → List ℕ
+table c = start (turn c .before) .args .t .now
+
+judged : (c : tie.After-names Inv-loop μ-loop) → c .names .result ≡ names (table c) (part (table c) (turn c .before .loop .i))
+judged c = c .names .ensures ∙ ap (names (table c)) (c .before .part-at .ensures)
 
 loop-again : tie.Need-loop-again Inv-loop μ-loop
-loop-again c = (omega arith, c .before .before .before .before .loop .inv .1 ∙ scan-turn names _ _ _ _ (c .before .before .before .if1 .left) (c .before .names .ensures ∙ ap (names (c .before .before .before .before .before .before .args .t .now)) (c .before .before .part-at .ensures)) (c .if2 .left))
+loop-again c =
+    let at = turn (c .before) in
+    (omega arith, at .before .loop .inv .1 ∙ scan-turn names _ _ _ _ (at .if1 .left) (judged (c .before)) (c .if2 .left))
 
 returns : tie.Need-returns Inv-loop μ-loop
 returns c = sym (c .before .loop .inv .1 ∙ first-end _ _ _ (c .if1 .taken))
 
 returns-2 : tie.Need-returns-2 Inv-loop μ-loop
-returns-2 c = sym (c .before .before .before .before .loop .inv .1 ∙ scan-here names _ _ _ _ (c .before .before .before .if1 .left) (c .before .names .ensures ∙ ap (names (c .before .before .before .before .before .before .args .t .now)) (c .before .before .part-at .ensures)) (c .if2 .taken))
+returns-2 c =
+    let at = turn (c .before) in
+    sym (at .before .loop .inv .1 ∙ scan-here names _ _ _ _ (at .if1 .left) (judged (c .before)) (c .if2 .taken))
 
 pub first-misnamed-spec : {M : Type 1} → statement M
 first-misnamed-spec =
@@ -39,9 +48,9 @@ first-misnamed-spec =
     (tie.spec
     Inv-loop
     μ-loop
-    loop-holds
-    part-at-requires
-    names-requires
+    (λ c. (omega arith, scan-start names _ _ (c .before .pre .whole)))
+    (λ c κs. record { laid = start (c .before) .pre .laid; inside = c .if1 .left })
+    (λ c κs. start (c .before .before) .pre .laid)
     (λ c. omega arith)
     (λ c. omega arith)
     loop-again

@@ -6,9 +6,9 @@ use Rattle.names.proofs.list_names.Tie as tie
 
 returns : tie.Need-returns
 unfolding names
-returns c = rw (c .before .first-item .ensures .value, c .item-count .ensures .value, c .before .before .before .before .pre .items .value, c .before .before .list-word .ensures)
+returns c =
+    let list = c .before .before .list-at .ensures in
+    rw (list .first-item .value, list .item-count .value, c .before .before .before .before .pre .items .value)
 
 pub list-names-spec : {M : Type 1} → statement M
-list-names-spec =
-    tie.close
-    (tie.spec (λ c κs. search needs) (λ c κs. search needs) (λ c κs. search needs) (λ c. search needs) returns)
+list-names-spec = tie.close (tie.spec (λ c κs. search needs) (λ c. search needs) returns)

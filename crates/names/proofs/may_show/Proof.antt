@@ -6,14 +6,9 @@ use Rattle.names.proofs.may_show.Tie as tie
 
 returns : tie.Need-returns
 unfolding mayShow
-returns c = rw (c .before .before .port-kind .ensures .value, c .before .port-deferred .ensures .value, c .port-has-initial .ensures .value, c .before .before .before .before .before .pre .ports .value, c .before .before .before .port-word .ensures)
+returns c =
+    let port = c .port-at .ensures in
+    rw (port .kind .value, port .deferred .value, port .has-initial .value, c .before .before .pre .ports .value)
 
 pub may-show-spec : {M : Type 1} → statement M
-may-show-spec =
-    tie.close
-    (tie.spec
-    (λ c κs. search needs)
-    (λ c κs. search needs)
-    (λ c κs. search needs)
-    (λ c κs. search needs)
-    returns)
+may-show-spec = tie.close (tie.spec (λ c κs. search needs) returns)

@@ -6,9 +6,7 @@ use Rattle.names.proofs.network_names.Tie as tie
 
 returns : tie.Need-returns
 unfolding names
-returns c = rw (c .before .may-show .ensures, c .held .ensures, c .before .before .network-port .ensures .value, c .before .before .before .network-word .ensures)
+returns c = rw (c .before .may-show .ensures, c .held .ensures, c .before .before .network-at .ensures .port .value)
 
 pub network-names-spec : {M : Type 1} → statement M
-network-names-spec =
-    tie.close
-    (tie.spec (λ c κs. search needs) (λ c κs. search needs) (λ c κs. search needs) (λ c κs. search needs) returns)
+network-names-spec = tie.close (tie.spec (λ c κs. search needs) (λ c κs. search needs) (λ c κs. search needs) returns)

@@ -1,5 +1,6 @@
 -- `names::networks_hold` meets its contract. The loop's invariant: what the whole walk gives is what the rest of it gives. Assumes nothing.
-use Prim.Native.Nat.{_-_, _≤_}
+use Prim.Native.Nat.{ℕ, _-_, _≤_}
+use mathlib.Core.Bool.{Bool}
 use mathlib.Core.Path.{_≡_, sym, _∙_}
 use native.Mathlib.Nat.{sub-zero}
 use native.Mathlib.Omega.{arith}
@@ -17,20 +18,23 @@ Inv-loop t h p n i₀ i = (i ≤ n) × (any 0 n (networkHas t p) ≡ any i (n - 
 abbrev μ-loop : tie.MeasureT-loop
 μ-loop t h p n i₀ i = n - i
 
-loop-holds : tie.Need-loop-holds Inv-loop μ-loop
-loop-holds c = (omega arith, rw sub-zero)
-
-network-word-requires : tie.Need-network-word-requires Inv-loop μ-loop
-network-word-requires c κs = c .before .before .before .pre
+abbrev has : tie.At-loop Inv-loop μ-loop → ℕ → Bool
+has c = networkHas (c .before .before .args .t .now) (c .before .before .args .p)
 
 returns : tie.Need-returns Inv-loop μ-loop
-returns c = sym (c .before .before .before .before .loop .inv .1 ∙ any-here _ _ (networkHas (c .before .before .before .before .before .before .args .t .now) (c .before .before .before .before .before .before .args .p)) (c .before .before .before .loop-test .taken) (network-has _ _ _ _ _ (c .before .before .network-word .ensures) (c .before .network-port .ensures .value) ∙ eq-eqb _ _ (c .if1 .taken)))
+returns c =
+    let turn = c .before .before in
+    let same = network-has _ _ _ _ (c .before .network-at .ensures) in
+    sym (turn .before .loop .inv .1 ∙ any-here _ _ (has (turn .before)) (turn .loop-test .taken) (same ∙ eq-eqb _ _ (c .if1 .taken)))
 
 loop-again : tie.Need-loop-again Inv-loop μ-loop
-loop-again c = (omega arith, c .before .before .before .before .loop .inv .1 ∙ any-turn _ _ (networkHas (c .before .before .before .before .before .before .args .t .now) (c .before .before .before .before .before .before .args .p)) (c .before .before .before .loop-test .taken) (network-has _ _ _ _ _ (c .before .before .network-word .ensures) (c .before .network-port .ensures .value) ∙ ne-eqb _ _ (c .if1 .left)))
+loop-again c =
+    let turn = c .before .before in
+    let same = network-has _ _ _ _ (c .before .network-at .ensures) in
+    (omega arith, turn .before .loop .inv .1 ∙ any-turn _ _ (has (turn .before)) (turn .loop-test .taken) (same ∙ ne-eqb _ _ (c .if1 .left)))
 
 returns-2 : tie.Need-returns-2 Inv-loop μ-loop
-returns-2 c = sym (c .before .loop .inv .1 ∙ any-end _ _ (networkHas (c .before .before .before .args .t .now) (c .before .before .before .args .p)) (c .loop-test .left))
+returns-2 c = sym (c .before .loop .inv .1 ∙ any-end _ _ (has (c .before)) (c .loop-test .left))
 
 pub networks-hold-spec : {M : Type 1} → statement M
 networks-hold-spec =
@@ -38,9 +42,8 @@ networks-hold-spec =
     (tie.spec
     Inv-loop
     μ-loop
-    loop-holds
-    network-word-requires
-    (λ c κs. tt)
+    (λ c. (omega arith, rw sub-zero))
+    (λ c κs. c .before .before .before .pre)
     returns
     (λ c. omega arith)
     (λ c. omega arith)

@@ -6,14 +6,10 @@ use Rattle.names.proofs.rule_names.Tie as tie
 
 returns : tie.Need-returns
 unfolding names listOrNone
-returns c = rw (c .before .before .rule-expression .ensures .value, c .before .true-list .ensures .value, c .false-list .ensures .value, c .before .before .before .before .before .pre .expressions .value, c .before .before .before .before .before .pre .lists .value, c .before .before .before .rule-word .ensures)
+returns c =
+    let rule = c .rule-at .ensures in
+    let laid = c .before .before .pre in
+    rw (rule .expression .value, rule .true-list .value, rule .false-list .value, laid .expressions .value, laid .lists .value)
 
 pub rule-names-spec : {M : Type 1} → statement M
-rule-names-spec =
-    tie.close
-    (tie.spec
-    (λ c κs. search needs)
-    (λ c κs. search needs)
-    (λ c κs. search needs)
-    (λ c κs. search needs)
-    returns)
+rule-names-spec = tie.close (tie.spec (λ c κs. search needs) returns)

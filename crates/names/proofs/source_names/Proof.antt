@@ -6,9 +6,9 @@ use Rattle.names.proofs.source_names.Tie as tie
 
 returns : tie.Need-returns
 unfolding names
-returns c = rw (c .before .may-show .ensures, c .held .ensures, c .before .before .source-port .ensures .value, c .before .before .before .before .before .pre .networks .value, c .before .before .before .source-word .ensures)
+returns c =
+    let source = c .before .before in
+    rw (c .before .may-show .ensures, c .held .ensures, source .source-at .ensures .port .value, source .before .before .pre .networks .value)
 
 pub source-names-spec : {M : Type 1} → statement M
-source-names-spec =
-    tie.close
-    (tie.spec (λ c κs. search needs) (λ c κs. search needs) (λ c κs. search needs) (λ c κs. search needs) returns)
+source-names-spec = tie.close (tie.spec (λ c κs. search needs) (λ c κs. search needs) (λ c κs. search needs) returns)

@@ -14,23 +14,28 @@ Inv-loop t h depths₀ d₀ depths d = (d ≤ 7) × Depths d t depths
 abbrev μ-loop : tie.MeasureT-loop
 μ-loop t h depths₀ d₀ depths d = 7 - d
 
-loop-holds : tie.Need-loop-holds Inv-loop μ-loop
-loop-holds c = (omega arith, c .before .before .pre .2)
+abbrev start : tie.At-loop Inv-loop μ-loop → tie.Start Inv-loop μ-loop
+start c = c .before .before .before
+
+abbrev level : tie.After-slice-known2 Inv-loop μ-loop → tie.After-find-level Inv-loop μ-loop
+level c = c .before .before
 
 find-level-requires : tie.Need-find-level-requires Inv-loop μ-loop
-find-level-requires c κs = (c .before .before .before .before .before .pre .0, c .before .before .before .before .before .pre .1, c .before .loop-test .taken, c .before .before .loop .inv .1)
+find-level-requires c κs =
+    let pre = start (c .before .before) .pre in
+    record {
+      searched = record { laid = pre .laid; few = pre .few; found = c .before .before .loop .inv .1 };
+      shallow = c .before .loop-test .taken;
+    }
 
 same-length : tie.Need-same-length Inv-loop μ-loop
-same-length c = c .before .before .before .find-level .ensures .next .long ∙ sym (c .before .before .before .before .before .before .before .before .before .pre .2 .long)
+same-length c = level (c .before) .find-level .ensures .next .long ∙ sym (start (level (c .before) .before .before .before) .pre .found .long)
 
 returns : tie.Need-returns Inv-loop μ-loop
-returns c = let e = c .before .before .before .find-level .ensures in settled _ _ _ (e .none (not-true _ (c .if1 .taken))) (e .next) 7 (omega arith)
-
-loop-again : tie.Need-loop-again Inv-loop μ-loop
-loop-again c = (omega arith, c .before .before .before .find-level .ensures .next)
+returns c = let e = level (c .before) .find-level .ensures in settled _ _ _ (e .none (not-true _ (c .if1 .taken))) (e .next) 7 (omega arith)
 
 same-length-2 : tie.Need-same-length-2 Inv-loop μ-loop
-same-length-2 c = c .before .loop .inv .1 .long ∙ sym (c .before .before .before .before .pre .2 .long)
+same-length-2 c = c .before .loop .inv .1 .long ∙ sym (start (c .before) .pre .found .long)
 
 returns-2 : tie.Need-returns-2 Inv-loop μ-loop
 returns-2 c = let all : c .before .loop .d ≡ 7 = omega arith in rw all at (c .before .loop .inv .1)
@@ -41,12 +46,12 @@ find-depths-spec =
     (tie.spec
     Inv-loop
     μ-loop
-    loop-holds
+    (λ c. (omega arith, c .before .before .pre .found))
     find-level-requires
     same-length
     returns
     (λ c. omega arith)
     (λ c. omega arith)
-    loop-again
+    (λ c. (omega arith, level (c .before) .find-level .ensures .next))
     same-length-2
     returns-2)

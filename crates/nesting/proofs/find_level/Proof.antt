@@ -1,7 +1,6 @@
 -- `nesting::find_level` meets its contract. The loop's invariant: the lists passed have their depths, and if none was found all are as before. Assumes nothing.
-use mathlib.Core.Path.{sym, _∙_}
-use Prim.Native.Nat.{ℕ, _-_, _≤_}
-use mathlib.Core.Path.{_≡_}
+use Prim.Native.Nat.{ℕ, _-_, _<_, _≤_}
+use mathlib.Core.Path.{_≡_, sym, _∙_}
 use mathlib.Core.Bool.{false}
 use native.Mathlib.Omega.{arith}
 use Rattle.rulebook.specs.Words.{word}
@@ -15,20 +14,43 @@ Inv-loop t h depths₀ d lists more₀ l₀ depths more l = (l ≤ lists) × Pas
 abbrev μ-loop : tie.MeasureT-loop
 μ-loop t h depths₀ d lists more₀ l₀ depths more l = lists - l
 
+abbrev start : tie.At-loop Inv-loop μ-loop → tie.Start Inv-loop μ-loop
+start c = c .before .before .before
+
+-- a turn, from its end back to its first call
+abbrev turn : tie.After-slice-known2 Inv-loop μ-loop → tie.After-next-depth Inv-loop μ-loop
+turn c = c .before .before .before .before
+
+inside : (c : tie.In-loop Inv-loop μ-loop) → c .before .loop .l < 256
+inside c = omega (arith, c .loop-test .taken, start (c .before) .pre .searched .few)
+
 loop-holds : tie.Need-loop-holds Inv-loop μ-loop
-loop-holds c = (omega arith, round-starts _ _ _ (c .before .before .pre .3), λ _ k. c .before .before .pre .3 .small k)
+loop-holds c = let found = c .before .before .pre .searched .found in (omega arith, round-starts _ _ _ found, λ _ k. found .small k)
 
 next-depth-requires : tie.Need-next-depth-requires Inv-loop μ-loop
-next-depth-requires c κs = (c .before .before .before .before .before .pre .0, c .before .before .before .before .before .pre .2)
+next-depth-requires c κs =
+    let pre = start (c .before .before) .pre in
+    record { laid = pre .searched .laid; shallow = pre .shallow }
 
 loop-again : tie.Need-loop-again Inv-loop μ-loop
-loop-again c = (omega arith, rw (c .before .before .put .ensures) (round-turn _ _ _ _ _ (omega (arith, c .before .before .before .before .before .before .loop-test .taken, c .before .before .before .before .before .before .before .before .before .before .pre .1)) (c .before .before .before .before .before .before .before .loop .inv .1) (c .before .before .before .before .next-depth .ensures)), λ h. rw (c .before .before .put .ensures) (still-none _ _ _ _ _ (omega (arith, c .before .before .before .before .before .before .loop-test .taken, c .before .before .before .before .before .before .before .before .before .before .pre .1)) (c .before .before .before .before .before .before .before .loop .inv .1) (c .before .before .before .before .next-depth .ensures) _ (c .before .before .before .before .before .before .before .loop .inv .2) h))
+loop-again c =
+    let at = turn c .before .before in
+    let passed = at .before .loop .inv in (
+      omega arith,
+      rw (c .before .before .put .ensures) (round-turn _ _ _ _ _ (inside at) (passed .1) (turn c .next-depth .ensures)),
+      λ h. rw (c .before .before .put .ensures) (still-none _ _ _ _ _ (inside at) (passed .1) (turn c .next-depth .ensures) _ (passed .2) h),
+    )
 
 same-length : tie.Need-same-length Inv-loop μ-loop
-same-length c = c .before .loop .inv .1 .long ∙ sym (c .before .before .before .before .pre .3 .long)
+same-length c = c .before .loop .inv .1 .long ∙ sym (start (c .before) .pre .searched .found .long)
 
 returns : tie.Need-returns Inv-loop μ-loop
-returns c = record { next = round-ends _ _ _ _ (omega (arith, c .loop-test .left, c .before .before .before .before .pre .0 .lists .value)) (c .before .loop .inv .1); none = λ h. round-none _ _ _ _ (c .before .loop .inv .1) (c .before .loop .inv .2 h) }
+returns c =
+    let inv = c .before .loop .inv in
+    record {
+      next = round-ends _ _ _ _ (omega (arith, c .loop-test .left, start (c .before) .pre .searched .laid .lists .value)) (inv .1);
+      none = λ h. round-none _ _ _ _ (inv .1) (inv .2 h);
+    }
 
 pub find-level-spec : {M : Type 1} → statement M
 find-level-spec =

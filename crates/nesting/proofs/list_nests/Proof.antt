@@ -12,31 +12,42 @@ use Rattle.nesting.proofs.list_nests.Statement.{statement}
 use Rattle.nesting.proofs.list_nests.Tie as tie
 
 abbrev Inv-loop : tie.InvT-loop
-Inv-loop t h depths d l lists w first count end i₀ i = (i ≤ end) × (all first count (itemNests t (foundBy depths d)) ≡ all i (end - i) (itemNests t (foundBy depths d)))
+Inv-loop t h depths d l lists first count end i₀ i =
+    (i ≤ end) × (all first count (itemNests t (foundBy depths d)) ≡ all i (end - i) (itemNests t (foundBy depths d)))
 
 abbrev μ-loop : tie.MeasureT-loop
-μ-loop t h depths d l lists w first count end i₀ i = end - i
+μ-loop t h depths d l lists first count end i₀ i = end - i
+
+abbrev start : tie.After-list-at Inv-loop μ-loop → tie.Start Inv-loop μ-loop
+start c = c .before .before .before .before
 
 returns : tie.Need-returns Inv-loop μ-loop
 returns c = list-absent _ _ (c .before .before .before .pre) _ _ (c .if1 .taken)
 
-list-word-requires : tie.Need-list-word-requires Inv-loop μ-loop
-list-word-requires c κs = c .before .before .before .pre
-
 loop-holds : tie.Need-loop-holds Inv-loop μ-loop
-loop-holds c = (omega arith, rw (whole (c .before .first-item .result) (c .item-count .result)))
-
-item-nests-requires : tie.Need-item-nests-requires Inv-loop μ-loop
-item-nests-requires c κs = c .before .before .before .before .before .before .before .before .pre
+loop-holds c = let list = c .list-at .result in (omega arith, rw (whole (list .«first_item») (list .«item_count»)))
 
 returns-2 : tie.Need-returns-2 Inv-loop μ-loop
-returns-2 c = sym (list-present _ _ (c .before .before .before .before .before .before .before .before .before .before .pre) _ _ _ _ _ (c .before .before .before .before .before .before .before .if1 .left) (c .before .before .before .before .before .before .list-word .ensures) (c .before .before .before .before .before .first-item .ensures .value) (c .before .before .before .before .item-count .ensures .value) ∙ c .before .before .before .loop .inv .1 ∙ all-fails _ _ _ (c .before .before .loop-test .taken) (sym (c .before .item-nests .ensures) ∙ not-true _ (c .if2 .taken)))
+returns-2 c =
+    let turn = c .before .before in
+    let list = turn .before .before in
+    sym (list-present _ _ (start list .pre) _ _ _ (list .list-at .ensures) (list .before .if1 .left)
+    ∙ turn .before .loop .inv .1
+    ∙ all-fails _ _ _ (turn .loop-test .taken) (sym (c .before .item-nests .ensures) ∙ not-true _ (c .if2 .taken)))
 
 loop-again : tie.Need-loop-again Inv-loop μ-loop
-loop-again c = (omega arith, c .before .before .before .loop .inv .1 ∙ all-turn _ _ _ (c .before .before .loop-test .taken) (sym (c .before .item-nests .ensures) ∙ not-false _ (c .if2 .left)))
+loop-again c =
+    let turn = c .before .before in (
+      omega arith,
+      turn .before .loop .inv .1 ∙ all-turn _ _ _ (turn .loop-test .taken) (sym (c .before .item-nests .ensures) ∙ not-false _ (c .if2 .left)),
+    )
 
 returns-3 : tie.Need-returns-3 Inv-loop μ-loop
-returns-3 c = sym (list-present _ _ (c .before .before .before .before .before .before .before .before .pre) _ _ _ _ _ (c .before .before .before .before .before .if1 .left) (c .before .before .before .before .list-word .ensures) (c .before .before .before .first-item .ensures .value) (c .before .before .item-count .ensures .value) ∙ c .before .loop .inv .1 ∙ all-end _ _ _ (c .loop-test .left))
+returns-3 c =
+    let list = c .before .before in
+    sym (list-present _ _ (start list .pre) _ _ _ (list .list-at .ensures) (list .before .if1 .left)
+    ∙ c .before .loop .inv .1
+    ∙ all-end _ _ _ (c .loop-test .left))
 
 pub list-nests-spec : {M : Type 1} → statement M
 list-nests-spec =
@@ -45,12 +56,10 @@ list-nests-spec =
     Inv-loop
     μ-loop
     returns
-    list-word-requires
-    (λ c κs. tt)
-    (λ c κs. tt)
+    (λ c κs. c .before .before .before .pre)
     (λ c. omega arith)
     loop-holds
-    item-nests-requires
+    (λ c κs. start (c .before .before) .pre)
     returns-2
     (λ c. omega arith)
     (λ c. omega arith)

@@ -36,7 +36,7 @@ returns-7 c = rw (c .enum-told6 .given .1)
 
 returns-8 : tie.Need-returns-8
 unfolding nesting
-returns-8 c = rw (c .before .before .part2 .given .1) (c .found .ensures ∙ c .before .before .before .before .before .before .pre .1 .says 7 _ (omega arith))
+returns-8 c = rw (c .before .before .part2 .given .1) (c .found .ensures ∙ c .before .before .before .before .before .before .pre .found .says 7 _ (omega arith))
 
 returns-9 : tie.Need-returns-9
 unfolding nesting

@@ -6,15 +6,9 @@ use Rattle.nesting.proofs.rule_nests.Tie as tie
 
 returns : tie.Need-returns
 unfolding ruleNests
-returns c = rw (c .before .found .ensures, c .found2 .ensures, c .before .before .before .true-list .ensures .value, c .before .before .false-list .ensures .value, c .before .before .before .before .rule-word .ensures)
+returns c =
+    let rule = c .before .before .rule-at .ensures in
+    rw (c .before .found .ensures, c .found2 .ensures, rule .true-list .value, rule .false-list .value)
 
 pub rule-nests-spec : {M : Type 1} → statement M
-rule-nests-spec =
-    tie.close
-    (tie.spec
-    (λ c κs. search needs)
-    (λ c κs. search needs)
-    (λ c κs. search needs)
-    (λ c κs. search needs)
-    (λ c κs. search needs)
-    returns)
+rule-nests-spec = tie.close (tie.spec (λ c κs. search needs) (λ c κs. search needs) (λ c κs. search needs) returns)

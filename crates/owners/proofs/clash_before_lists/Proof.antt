@@ -19,17 +19,18 @@ abbrev μ-loop : tie.MeasureT-loop
 loop-holds : tie.Need-loop-holds Inv-loop μ-loop
 loop-holds c = (omega arith, same-first (breaks owners (c .before .args .t .now)) (omega arith) (omega arith))
 
-owned-before-lists-requires : tie.Need-owned-before-lists-requires Inv-loop μ-loop
-owned-before-lists-requires c κs = (c .before .before .before .pre, c .if1 .left)
-
 loop-again : tie.Need-loop-again Inv-loop μ-loop
-loop-again c = (omega arith, c .before .before .before .loop .inv .1 ∙ scan-turn owners _ _ _ _ (c .before .before .if1 .left) (c .before .owned-before-lists .ensures) (c .if2 .left))
+loop-again c =
+    let at = c .before .before in
+    (omega arith, at .before .loop .inv .1 ∙ scan-turn owners _ _ _ _ (at .if1 .left) (c .before .owned-before-lists .ensures) (c .if2 .left))
 
 returns : tie.Need-returns Inv-loop μ-loop
 returns c = sym (c .before .loop .inv .1 ∙ first-end _ _ _ (c .if1 .taken))
 
 returns-2 : tie.Need-returns-2 Inv-loop μ-loop
-returns-2 c = sym (c .before .before .before .loop .inv .1 ∙ scan-here owners _ _ _ _ (c .before .before .if1 .left) (c .before .owned-before-lists .ensures) (c .if2 .taken))
+returns-2 c =
+    let at = c .before .before in
+    sym (at .before .loop .inv .1 ∙ scan-here owners _ _ _ _ (at .if1 .left) (c .before .owned-before-lists .ensures) (c .if2 .taken))
 
 pub clash-before-lists-spec : {M : Type 1} → statement M
 clash-before-lists-spec =
@@ -38,7 +39,7 @@ clash-before-lists-spec =
     Inv-loop
     μ-loop
     loop-holds
-    owned-before-lists-requires
+    (λ c κs. record { laid = c .before .before .before .pre; inside = c .if1 .left })
     (λ c. omega arith)
     (λ c. omega arith)
     loop-again

@@ -3,22 +3,24 @@ use Rattle.owners.proofs.Judged.{clash-early, clash-in-lists, clash-now
 use Rattle.owners.proofs.first_clash.Statement.{statement}
 use Rattle.owners.proofs.first_clash.Tie as tie
 
-clash-before-lists-requires : tie.Need-clash-before-lists-requires
-clash-before-lists-requires c κs = c .before .pre .0
+abbrev start : tie.After-clash-before-lists → tie.Start
+start c = c .before .before
 
 returns : tie.Need-returns
-returns c = clash-early _ _ (c .before .before .before .pre .0) (c .before .before .before .pre .1) _ (c .before .clash-before-lists .ensures) (c .if1 .taken)
-
-list-clash-requires : tie.Need-list-clash-requires
-list-clash-requires c κs = c .before .before .before .pre .0
+returns c = clash-early _ _ (start (c .before) .pre) _ (c .before .clash-before-lists .ensures) (c .if1 .taken)
 
 returns-2 : tie.Need-returns-2
-returns-2 c = clash-in-lists _ _ (c .before .before .before .before .before .pre .0) (c .before .before .before .before .before .pre .1) _ (c .before .before .before .clash-before-lists .ensures) _ (c .before .list-clash .ensures) (c .before .before .if1 .left) (c .if2 .taken)
+returns-2 c =
+    let early = c .before .before .before in
+    clash-in-lists _ _ (start early .pre) _ (early .clash-before-lists .ensures) _ (c .before .list-clash .ensures) (c .before .before .if1 .left)
+    (c .if2 .taken)
 
 returns-3 : tie.Need-returns-3
-returns-3 c = clash-nowhere _ _ (c .before .before .before .before .before .pre .0) (c .before .before .before .before .before .pre .1) _ (c .before .before .before .clash-before-lists .ensures) _ (c .before .list-clash .ensures) (c .before .before .if1 .left) (c .if2 .left)
+returns-3 c =
+    let early = c .before .before .before in
+    clash-nowhere _ _ (start early .pre) _ (early .clash-before-lists .ensures) _ (c .before .list-clash .ensures) (c .before .before .if1 .left)
+    (c .if2 .left)
 
 pub first-clash-spec : {M : Type 1} → statement M
 first-clash-spec =
-    tie.close
-    (tie.spec clash-before-lists-requires returns list-clash-requires returns-2 returns-3)
+    tie.close (tie.spec (λ c κs. c .before .pre .laid) returns (λ c κs. start (c .before) .pre .laid) returns-2 returns-3)

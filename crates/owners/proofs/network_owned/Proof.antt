@@ -6,15 +6,9 @@ use Rattle.owners.proofs.network_owned.Tie as tie
 
 returns : tie.Need-returns
 unfolding owners
-returns c = rw (c .port-owner .ensures .value, c .before .port-word .ensures, c .before .before .network-port .ensures .value, c .before .before .before .network-owner .ensures .value, c .before .before .before .before .network-word .ensures)
+returns c =
+    let network = c .before .before .before .network-at .ensures in
+    rw (c .before .before .port-at .ensures .owner .value, network .port .value, network .owner .value)
 
 pub network-owned-spec : {M : Type 1} → statement M
-network-owned-spec =
-    tie.close
-    (tie.spec
-    (λ c κs. search needs)
-    (λ c κs. search needs)
-    (λ c κs. search needs)
-    (λ c κs. search needs)
-    (λ c κs. search needs)
-    returns)
+network-owned-spec = tie.close (tie.spec (λ c κs. search needs) (λ c κs. search needs) returns)

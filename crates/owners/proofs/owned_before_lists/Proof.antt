@@ -33,7 +33,9 @@ returns-7 : tie.Need-returns-7
 returns-7 c = rw (← c .before .before .before .before .part-at .ensures, c .before .before .part3 .given .1) (c .rule-owned .ensures)
 
 returns-8 : tie.Need-returns-8
-returns-8 c = absurd (before-lists _ _ (c .before .before .before .before .pre .0) _ _ (c .before .before .before .before .pre .1) (sym (c .before .before .part-at .ensures) ∙ ap partOf (c .enum-told5 .given .1)))
+returns-8 c =
+    let pre = c .before .before .before .before .pre in
+    absurd (before-lists _ _ (pre .laid) _ _ (pre .inside) (sym (c .before .before .part-at .ensures) ∙ ap partOf (c .enum-told5 .given .1)))
 
 returns-9 : tie.Need-returns-9
 unfolding owners

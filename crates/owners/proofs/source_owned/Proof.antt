@@ -6,15 +6,9 @@ use Rattle.owners.proofs.source_owned.Tie as tie
 
 returns : tie.Need-returns
 unfolding owners
-returns c = rw (c .port-owner .ensures .value, c .before .port-word .ensures, c .before .before .source-port .ensures .value, c .before .before .before .source-owner .ensures .value, c .before .before .before .before .source-word .ensures)
+returns c =
+    let source = c .before .before .before .source-at .ensures in
+    rw (c .before .before .port-at .ensures .owner .value, source .port .value, source .owner .value)
 
 pub source-owned-spec : {M : Type 1} → statement M
-source-owned-spec =
-    tie.close
-    (tie.spec
-    (λ c κs. search needs)
-    (λ c κs. search needs)
-    (λ c κs. search needs)
-    (λ c κs. search needs)
-    (λ c κs. search needs)
-    returns)
+source-owned-spec = tie.close (tie.spec (λ c κs. search needs) (λ c κs. search needs) returns)

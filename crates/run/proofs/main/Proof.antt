@@ -6,8 +6,12 @@ use borrow.Author.Needs.{needs}
 use Rattle.run.proofs.main.Statement.{statement}
 use Rattle.run.proofs.main.Tie as tie
 
+-- The places that the answers cite, each seen from a later one.
+abbrev after-read-words : tie.After-words3 → tie.After-read-words
+after-read-words c = c .before .before
+
 slice-aggregate-events : tie.Need-slice-aggregate-events
-slice-aggregate-events c = sym (length-take-le _ _ (omega (arith, c .before .before .read-words .ensures .count, c .before .before .read-words .kept .1 .0)))
+slice-aggregate-events c = sym (length-take-le _ _ (omega (arith, after-read-words c .read-words .ensures .count, after-read-words c .read-words .kept .1 .0)))
 
 pub main-spec : {M : Type 1} → statement M
 main-spec =

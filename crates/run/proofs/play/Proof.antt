@@ -7,18 +7,36 @@ use Rattle.run.proofs.Kept.{opens-lent}
 use Rattle.run.proofs.play.Statement.{statement}
 use Rattle.run.proofs.play.Tie as tie
 
+-- The places that the answers cite, each seen from a later one.
+abbrev after-open : tie.After-trace-words → tie.After-open
+after-open c = c .before .before .before .before
+
+abbrev after-trace-words-from-traces : tie.After-traces → tie.After-trace-words
+after-trace-words-from-traces c = c .before .before
+
+abbrev after-trace-words : tie.After-run-fresh-arg → tie.After-trace-words
+after-trace-words c = after-trace-words-from-traces (c .before)
+
 slice-aggregate-s : tie.Need-slice-aggregate-s
-slice-aggregate-s c = sym (length-take-le _ _ (omega (arith, c .before .before .before .before .before .«open» .ensures .smallState, c .before .before .state-words .ensures)))
+slice-aggregate-s c = sym (length-take-le _ _ (omega (arith, after-open (c .before) .«open» .ensures .smallState, c .before .before .state-words .ensures)))
 
 slice-aggregate-trace : tie.Need-slice-aggregate-trace
-slice-aggregate-trace c = sym (length-take-le _ _ (omega (arith, c .before .before .before .before .before .before .«open» .ensures .smallTrace, c .before .before .trace-words .ensures)))
+slice-aggregate-trace c =
+    sym
+    (length-take-le _ _
+    (omega (
+      arith,
+      after-open (after-trace-words-from-traces c) .«open» .ensures .smallTrace,
+      after-trace-words-from-traces c .trace-words .ensures,
+    )))
 
 run-fresh-requires : tie.Need-run-fresh-requires
 run-fresh-requires c κs =
-    let o = c .before .before .before .before .before .before .before .«open» .ensures in (
-      c .before .before .before .before .before .before .before .before .before .before .before .pre,
-      opens-lent o (c .before .before .before .before .before .if1 .left) (length-take-le _ _ (omega (arith, o .smallState, c .before .before .before .before .state-words .ensures)))
-          (length-take-le _ _ (omega (arith, o .smallTrace, c .before .before .before .trace-words .ensures))),
+    let o = after-open (after-trace-words c) .«open» .ensures in (
+      after-open (after-trace-words c) .before .before .before .before .pre,
+      opens-lent o (after-trace-words c .before .before .if1 .left)
+          (length-take-le _ _ (omega (arith, o .smallState, after-trace-words c .before .state-words .ensures)))
+          (length-take-le _ _ (omega (arith, o .smallTrace, after-trace-words c .trace-words .ensures))),
     )
 
 pub play-spec : {M : Type 1} → statement M

@@ -6,8 +6,12 @@ use borrow.Author.Needs.{needs}
 use Rattle.run.proofs.print_reason.Statement.{statement}
 use Rattle.run.proofs.print_reason.Tie as tie
 
+-- The places that the answers cite, each seen from a later one.
+abbrev after-lay-reason : tie.After-out3 → tie.After-lay-reason
+after-lay-reason c = c .before .before
+
 slice-aggregate-print : tie.Need-slice-aggregate-print
-slice-aggregate-print c = sym (length-take-le _ _ (omega (arith, c .before .before .lay-reason .ensures .inside, c .before .before .lay-reason .kept .0)))
+slice-aggregate-print c = sym (length-take-le _ _ (omega (arith, after-lay-reason c .lay-reason .ensures .inside, after-lay-reason c .lay-reason .kept .0)))
 
 pub print-reason-spec : {M : Type 1} → statement M
 print-reason-spec =

@@ -31,31 +31,50 @@ Inv-loop t s₀ trace₀ fd path block₀ first out₀ n₀ turns₀ s trace blo
 abbrev μ-loop : tie.MeasureT-loop
 μ-loop t s₀ trace₀ fd path block₀ first out₀ n₀ turns₀ s trace block out n turns = turns
 
+-- The places that the answers cite, each seen from a later one.
+abbrev start : tie.After-shared-slice-known2 Inv-loop μ-loop → tie.Start Inv-loop μ-loop
+start c = c .before .before .before .before
+
+abbrev at-loop-from-next-block-arg2 : tie.After-next-block-arg2 Inv-loop μ-loop → tie.At-loop Inv-loop μ-loop
+at-loop-from-next-block-arg2 c = c .before .before .before .before
+
+abbrev at-loop : tie.After-next-block Inv-loop μ-loop → tie.At-loop Inv-loop μ-loop
+at-loop c = at-loop-from-next-block-arg2 (c .before .before .before)
+
+abbrev after-s : tie.After-block Inv-loop μ-loop → tie.After-s Inv-loop μ-loop
+after-s c = c .before .before .before .before
+
+abbrev after-next-block-from-struct-known : tie.After-struct-known Inv-loop μ-loop → tie.After-next-block Inv-loop μ-loop
+after-next-block-from-struct-known c = after-s (c .before .before .before) .before
+
+abbrev after-next-block : tie.Then2 Inv-loop μ-loop → tie.After-next-block Inv-loop μ-loop
+after-next-block c = after-next-block-from-struct-known (c .before)
+
 loop-holds : tie.Need-loop-holds Inv-loop μ-loop
 loop-holds c =
-    let p = c .before .before .before .before .before .before .pre in
+    let p = start (c .before .before) .pre in
     (refl, refl, refl, c .lines .ensures, p .0, p .1, λ whole s′ r. r)
 
 slice-aggregate-next-block : tie.Need-slice-aggregate-next-block Inv-loop μ-loop
-slice-aggregate-next-block c = c .before .before .before .before .before .before .loop .inv .3
+slice-aggregate-next-block c = at-loop-from-next-block-arg2 (c .before .before) .loop .inv .3
 
 same-length : tie.Need-same-length Inv-loop μ-loop
-same-length c = c .before .before .before .before .before .before .before .before .before .next-block .kept .1 .0 ∙ c .before .before .before .before .before .before .before .before .before .before .before .before .before .before .before .before .loop .inv .0
+same-length c = after-next-block c .next-block .kept .1 .0 ∙ at-loop (after-next-block c) .loop .inv .0
 
 same-length-2 : tie.Need-same-length-2 Inv-loop μ-loop
-same-length-2 c = c .before .before .before .before .before .before .before .before .before .next-block .kept .1 .1 .0 ∙ c .before .before .before .before .before .before .before .before .before .before .before .before .before .before .before .before .loop .inv .1
+same-length-2 c = after-next-block c .next-block .kept .1 .1 .0 ∙ at-loop (after-next-block c) .loop .inv .1
 
 same-length-3 : tie.Need-same-length-3 Inv-loop μ-loop
-same-length-3 c = c .before .before .before .before .before .before .before .before .before .next-block .kept .1 .1 .1 .1 .1 .0 ∙ c .before .before .before .before .before .before .before .before .before .before .before .before .before .before .before .before .loop .inv .2
+same-length-3 c = after-next-block c .next-block .kept .1 .1 .1 .1 .1 .0 ∙ at-loop (after-next-block c) .loop .inv .2
 
 returns : tie.Need-returns Inv-loop μ-loop
-returns c = c .before .before .before .before .before .before .before .before .before .before .before .before .before .before .before .before .loop .inv .6 false _ (kept.stopped (c .before .before .before .before .before .before .before .before .before .next-block .ensures .1 .some))
+returns c = at-loop (after-next-block c) .loop .inv .6 false _ (kept.stopped (after-next-block c .next-block .ensures .1 .some))
 
 loop-again : tie.Need-loop-again Inv-loop μ-loop
 loop-again c =
-    let l = c .before .before .before .before .before .before .before .before .before .before .before .before .before .before .before .before .loop .inv in
-    let k = c .before .before .before .before .before .before .before .before .before .next-block .kept in
-    let p = c .before .before .before .before .before .before .before .before .before .next-block .ensures in (
+    let l = at-loop (after-next-block-from-struct-known (c .before)) .loop .inv in
+    let k = after-next-block-from-struct-known (c .before) .next-block .kept in
+    let p = after-next-block-from-struct-known (c .before) .next-block .ensures in (
       k .1 .0 ∙ l .0,
       k .1 .1 .0 ∙ l .1,
       k .1 .1 .1 .1 .1 .0 ∙ l .2,

@@ -18,41 +18,83 @@ Inv-loop t s₀ trace₀ bytes from out₀ h total i₀ at₀ s trace out i at =
 abbrev μ-loop : tie.MeasureT-loop
 μ-loop t s₀ trace₀ bytes from out₀ h total i₀ at₀ s trace out i at = total - i
 
+-- The places that the answers cite, each seen from a later one.
+abbrev after-slice-known2 : tie.After-ready Inv-loop μ-loop → tie.After-slice-known2 Inv-loop μ-loop
+after-slice-known2 c = c .before .before .before .before
+
+abbrev after-ready : tie.After-read-layout Inv-loop μ-loop → tie.After-ready Inv-loop μ-loop
+after-ready c = c .before .before
+
+abbrev after-word-count : tie.At-loop Inv-loop μ-loop → tie.After-word-count Inv-loop μ-loop
+after-word-count c = c .before .before
+
+abbrev after-read-layout : tie.At-loop Inv-loop μ-loop → tie.After-read-layout Inv-loop μ-loop
+after-read-layout c = after-word-count c .before
+
+abbrev start : tie.At-loop Inv-loop μ-loop → tie.Start Inv-loop μ-loop
+start c = after-slice-known2 (after-ready (after-read-layout c)) .before .before .before
+
+abbrev at-loop-from-past2 : tie.After-past2 Inv-loop μ-loop → tie.At-loop Inv-loop μ-loop
+at-loop-from-past2 c = c .before .before
+
+abbrev at-loop-from-else2 : tie.Else2 Inv-loop μ-loop → tie.At-loop Inv-loop μ-loop
+at-loop-from-else2 c = at-loop-from-past2 (c .before)
+
+abbrev after-read-word : tie.After-take-one-arg3 Inv-loop μ-loop → tie.After-read-word Inv-loop μ-loop
+after-read-word c = c .before .before .before
+
+abbrev then2 : tie.After-take-one-arg3 Inv-loop μ-loop → tie.Then2 Inv-loop μ-loop
+then2 c = after-read-word c .before
+
+abbrev after-past2 : tie.After-take-one-arg3 Inv-loop μ-loop → tie.After-past2 Inv-loop μ-loop
+after-past2 c = then2 c .before
+
+abbrev after-take-one : tie.After-trace Inv-loop μ-loop → tie.After-take-one Inv-loop μ-loop
+after-take-one c = c .before .before .before
+
+abbrev after-take-one-arg3 : tie.After-slice-known6 Inv-loop μ-loop → tie.After-take-one-arg3 Inv-loop μ-loop
+after-take-one-arg3 c = after-take-one (c .before .before .before) .before
+
+abbrev at-loop : tie.After-slice-known6 Inv-loop μ-loop → tie.At-loop Inv-loop μ-loop
+at-loop c = at-loop-from-past2 (after-past2 (after-take-one-arg3 c))
+
 returns : tie.Need-returns Inv-loop μ-loop
 returns c = none-offered _ _ _ _ _ _ (sym (c .before .ready .ensures) ∙ not-true _ (c .if1 .taken))
 
 loop-holds : tie.Need-loop-holds Inv-loop μ-loop
-loop-holds c = begin _ _ _ _ _ (ready-from _ _ _ (sym (c .before .before .before .before .ready .ensures) ∙ not-false _ (c .before .before .before .if1 .left)))
+loop-holds c = begin _ _ _ _ _ (ready-from _ _ _ (sym (after-ready (c .before .before) .ready .ensures) ∙ not-false _ (c .before .before .before .if1 .left)))
 
 take-one-requires : tie.Need-take-one-requires Inv-loop μ-loop
 take-one-requires c κs =
-    let l = c .before .before .before .before .before .before .before .loop in
-    let free = leb-true _ (c .before .before .before .before .before .past2 .result) (c .before .before .before .before .if2 .taken) in
-    (c .before .before .before .before .before .before .before .before .before .before .read-layout .ensures, l .inv .ready, omega (arith, c .before .before .before .before .before .past2 .ensures))
+    let l = at-loop-from-past2 (after-past2 c) .loop in
+    let free = leb-true _ (after-past2 c .past2 .result) (then2 c .if2 .taken) in
+    (after-read-layout (at-loop-from-past2 (after-past2 c)) .read-layout .ensures, l .inv .ready, omega (arith, after-past2 c .past2 .ensures))
 
 loop-again : tie.Need-loop-again Inv-loop μ-loop
 loop-again c =
-    let a = c .before .before .before .before .before .before .before .before .before .before .before .before .before .before .before .before .before .before .before .before .before .before .before .before .before .before .args in
-    let l = c .before .before .before .before .before .before .before .before .before .before .before .before .before .before .loop in
-    let ok = sym (c .before .before .before .before .before .before .before .before .before .before .before .before .before .before .before .before .before .before .before .ready .ensures) ∙ not-false _ (c .before .before .before .before .before .before .before .before .before .before .before .before .before .before .before .before .before .before .if1 .left) in
+    let a = start (at-loop c) .args in
+    let l = at-loop c .loop in
+    let ok = sym (after-ready (after-read-layout (at-loop c)) .ready .ensures) ∙ not-false _ (after-read-layout (at-loop c) .before .if1 .left) in
     let long = offered-long (a .t .now) (a .s .now) (a .trace .now) (a .bytes .now) (a .from) ok in
-    let free = leb-true _ (c .before .before .before .before .before .before .before .before .before .before .before .before .past2 .result) (c .before .before .before .before .before .before .before .before .before .before .before .if2 .taken) in
-    next _ _ _ _ _ _ _ _ _ _ (l .inv) _ _ _ _ _ (omega (arith, c .before .before .before .before .before .before .before .before .before .before .before .before .before .before .before .past .ensures, c .before .before .before .before .before .before .before .before .before .before .before .before .before .before .before .before .word-count .ensures))
-    (omega (arith, c .before .before .before .before .before .before .before .before .before .before .before .before .past2 .ensures, l .inv .outLong))
-    (offered-at (a .t .now) (a .s .now) (a .trace .now) (a .bytes .now) (a .from) ok (l .i) _ (c .before .before .before .before .before .before .before .before .before .before .read-word .ensures)) (c .before .before .before .before .before .before .take-one .ensures)
+    let free = leb-true _ (after-past2 (after-take-one-arg3 c) .past2 .result) (then2 (after-take-one-arg3 c) .if2 .taken) in
+    next _ _ _ _ _ _ _ _ _ _ (l .inv) _ _ _ _ _ (omega (arith, at-loop c .before .past .ensures, after-word-count (at-loop c) .word-count .ensures))
+    (omega (arith, after-past2 (after-take-one-arg3 c) .past2 .ensures, l .inv .outLong))
+    (offered-at (a .t .now) (a .s .now) (a .trace .now) (a .bytes .now) (a .from) ok (l .i) _
+    (after-read-word (after-take-one-arg3 c) .read-word .ensures))
+    (after-take-one (c .before .before .before) .take-one .ensures)
 
 same-length-2 : tie.Need-same-length-2 Inv-loop μ-loop
-same-length-2 c = c .before .before .before .loop .inv .stateLong
+same-length-2 c = at-loop-from-else2 c .loop .inv .stateLong
 
 same-length-3 : tie.Need-same-length-3 Inv-loop μ-loop
-same-length-3 c = c .before .before .before .loop .inv .traceLong
+same-length-3 c = at-loop-from-else2 c .loop .inv .traceLong
 
 same-length-4 : tie.Need-same-length-4 Inv-loop μ-loop
-same-length-4 c = c .before .before .before .loop .inv .outLong
+same-length-4 c = at-loop-from-else2 c .loop .inv .outLong
 
 returns-2 : tie.Need-returns-2 Inv-loop μ-loop
 returns-2 c =
-    let l = c .before .before .before .loop in
+    let l = at-loop-from-else2 c .loop in
     let full = leb-false _ (c .before .past2 .result) (c .if2 .left) in
     end _ _ _ _ _ _ _ _ _ _ (l .inv) _ refl refl (λ h. omega (arith, c .before .past2 .ensures, l .inv .outLong))
 
@@ -67,10 +109,11 @@ same-length-7 c = c .before .loop .inv .outLong
 
 returns-3 : tie.Need-returns-3 Inv-loop μ-loop
 returns-3 c =
-    let a = c .before .before .before .before .before .before .before .before .before .before .before .before .before .args in
-    let ok = sym (c .before .before .before .before .before .before .ready .ensures) ∙ not-false _ (c .before .before .before .before .before .if1 .left) in
+    let a = start (c .before) .args in
+    let ok = sym (after-ready (after-read-layout (c .before)) .ready .ensures) ∙ not-false _ (after-read-layout (c .before) .before .if1 .left) in
     let long = offered-long (a .t .now) (a .s .now) (a .trace .now) (a .bytes .now) (a .from) ok in
-    end _ _ _ _ _ _ _ _ _ _ (c .before .loop .inv) _ refl refl (λ h. absurd (omega (arith, c .before .before .past .ensures, c .before .before .before .word-count .ensures)))
+    end _ _ _ _ _ _ _ _ _ _ (c .before .loop .inv) _ refl refl
+    (λ h. absurd (omega (arith, c .before .before .past .ensures, after-word-count (c .before) .word-count .ensures)))
 
 pub take-events-spec : {M : Type 1} → statement M
 take-events-spec =

@@ -5,14 +5,52 @@ use borrow.Author.Needs.{needs}
 use Rattle.session.proofs.take_one.Statement.{statement}
 use Rattle.session.proofs.take_one.Tie as tie
 
+-- The places that the answers cite, each seen from a later one.
+abbrev start-from-slice-known3 : tie.After-slice-known3 → tie.Start
+start-from-slice-known3 c = c .before .before .before .before
+
+abbrev start : tie.After-handle-arg2 → tie.Start
+start c = start-from-slice-known3 (c .before .before)
+
+abbrev after-s : tie.After-number → tie.After-s
+after-s c = c .before .before .before .before
+
+abbrev after-count : tie.After-lay-lines-arg3 → tie.After-count
+after-count c = c .before .before .before
+
+abbrev after-number : tie.After-lay-lines-arg3 → tie.After-number
+after-number c = after-count c .before
+
+abbrev after-handle : tie.After-lay-lines-arg3 → tie.After-handle
+after-handle c = after-s (after-number c) .before
+
+abbrev start-from-lay-lines-arg3 : tie.After-lay-lines-arg3 → tie.Start
+start-from-lay-lines-arg3 c = start (after-handle c .before)
+
+abbrev after-lay-lines-arg3 : tie.After-slice-known6 → tie.After-lay-lines-arg3
+after-lay-lines-arg3 c = c .before .before .before
+
 handle-requires : tie.Need-handle-requires
-handle-requires c κs = record { laid = c .before .before .before .before .before .before .pre .0; few = few-rules _ _ (c .before .before .before .before .before .before .pre .1 .table) (c .before .before .before .before .before .before .pre .0 .rules .value); safe = run-safe _ _ _ _ (c .before .before .before .before .before .before .pre .1) }
+handle-requires c κs =
+    record { laid = start c .pre .0; few = few-rules _ _ (start c .pre .1 .table) (start c .pre .0 .rules .value); safe = run-safe _ _ _ _ (start c .pre .1) }
 
 lay-lines-requires : tie.Need-lay-lines-requires
-lay-lines-requires c κs = let r = c .before .before .before .before .before .before .before .before .before .handle .result in let h = c .before .before .before .before .before .before .before .before .before .handle .ensures in let a = c .before .before .before .before .number .ensures in let b = c .before .before .before .count .ensures in let ok = c .before .before .before .before .before .before .before .before .before .before .before .before .before .before .before .before .pre .1 in (number-small _ _ _ _ ok r _ _ h _ _ a b, count-few _ _ _ _ ok r _ _ h _ _ a b, room-enough _ _ _ _ ok r _ _ h _ _ a b _ _ (c .before .before .before .before .before .before .before .before .before .before .before .before .before .before .before .before .pre .2))
+lay-lines-requires c κs =
+    let r = after-handle c .handle .result in
+    let h = after-handle c .handle .ensures in
+    let a = after-number c .number .ensures in
+    let b = after-count c .count .ensures in
+    let ok = start-from-lay-lines-arg3 c .pre .1 in (
+      number-small _ _ _ _ ok r _ _ h _ _ a b,
+      count-few _ _ _ _ ok r _ _ h _ _ a b,
+      room-enough _ _ _ _ ok r _ _ h _ _ a b _ _ (start-from-lay-lines-arg3 c .pre .2),
+    )
 
 returns : tie.Need-returns
-returns c = took _ _ _ _ (c .before .before .before .before .before .before .before .before .before .before .before .before .before .before .before .before .before .before .before .pre .1) (c .before .before .before .before .before .before .before .before .before .before .before .before .handle .result) _ _ (c .before .before .before .before .before .before .before .before .before .before .before .before .handle .ensures) _ _ (c .before .before .before .before .before .before .before .number .ensures) (c .before .before .before .before .before .before .count .ensures) _ _ _ _ (c .before .before .lay-lines .ensures)
+returns c =
+    took _ _ _ _ (start-from-lay-lines-arg3 (after-lay-lines-arg3 c) .pre .1) (after-handle (after-lay-lines-arg3 c) .handle .result) _ _
+    (after-handle (after-lay-lines-arg3 c) .handle .ensures) _ _ (after-number (after-lay-lines-arg3 c) .number .ensures)
+    (after-count (after-lay-lines-arg3 c) .count .ensures) _ _ _ _ (c .before .before .lay-lines .ensures)
 
 pub take-one-spec : {M : Type 1} → statement M
 take-one-spec =

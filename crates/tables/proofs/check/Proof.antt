@@ -1,91 +1,172 @@
--- `tables::check` meets its promise: each exit by the chain of reasons as far as it got. Assumes nothing.
+-- `tables::check` meets its promise: at each test, what is left of the rules is what comes from that one on. Assumes nothing.
 use mathlib.Core.Path.{_≡_, refl, sym, ap, _∙_}
-use Prim.Native.Nat.{_≤_}
+use mathlib.Core.List.{List}
+use Prim.Native.Nat.{ℕ, _≤_}
 use native.Mathlib.Omega.{arith}
 use borrow.Author.Tests.{le-leb, lt-leb, eq-eqb, ne-eqb, not-true, not-false}
-use lib.ListN.{length}
-use Rattle.rulebook.specs.Words.{field}
+use mathlib.Core.Bool.{true}
+use Rattle.rulebook.specs.Words.{word, field}
 use Rattle.rulebook.specs.Reasons as Reasons
-use Rattle.rulebook.specs.Reasons.{hasHeader, knownEdition, exactLength, ownFields, names, nesting, owners}
-use Rattle.tables.proofs.Chain.{from1, from2, from3, from4, from5, from6, from7, from8, from9, kept, broken, kept-by-all, broken-at, refuses, dear, cheap, accepts, few-lists, no-deep-list}
+use Rattle.rulebook.specs.Reasons.{hasHeader, knownEdition, exactLength, ownFields, names, nesting, owners, Link, firstOf}
+use Rattle.tables.proofs.Chain.{from-header, from-edition, from-counts, from-length, from-fields, from-names, from-nesting, from-owners, from-cost}
+use Rattle.tables.proofs.Chain.{none-left, kept, broken, kept-by-all, broken-at, refuses, dear, cheap, accepts, few-lists, no-deep-list}
 use Rattle.nesting.proofs.Levels.{no-round}
 use borrow.Author.Needs.{needs}
 use Rattle.tables.proofs.check.Statement.{statement}
 use Rattle.tables.proofs.check.Tie as tie
 
--- past each reason: what is left of the check
+-- places: from each test back to the one before
 
-past1 : (c : tie.Else1) → Reasons.check (c .before .before .args .t .now) ≡ from2 (c .before .before .args .t .now)
+abbrev at-edition : tie.After-counts-inside → tie.After-edition
+at-edition c = c .before .before
+
+abbrev at-length : tie.After-first-misfit → tie.Else3
+at-length c = c .before .before
+
+abbrev at-fields : tie.After-first-misnamed → tie.After-first-misfit
+at-fields c = c .before .before
+
+abbrev depths-found : tie.After-first-deep → tie.After-find-depths
+depths-found c = c .before .before .before
+
+abbrev before-depths : tie.After-depths → tie.After-first-misnamed
+before-depths c = c .before .before
+
+abbrev at-names : tie.After-first-deep → tie.After-first-misnamed
+at-names c = before-depths (depths-found c .before)
+
+abbrev at-nesting : tie.After-first-clash → tie.After-first-deep
+at-nesting c = c .before .before
+
+abbrev at-owners : tie.After-bound → tie.After-first-clash
+at-owners c = c .before .before .before
+
+abbrev layout-read : tie.After-edition → tie.After-read-layout
+layout-read c = c .before .before
+
+abbrev table : tie.After-edition → List ℕ
+table c = layout-read c .before .before .before .args .t .now
+
+-- what is left of the check at a test: the rules from that test's on
+abbrev Left : List ℕ → List Link → Type 0
+Left t links = Reasons.check t ≡ firstOf t links
+
+left-edition : (c : tie.After-edition) → Left (table c) from-edition
 unfolding hasHeader
-past1 c = from1 _ ∙ kept 1 _ _ (le-leb 3 _ (c .if1 .left))
+left-edition c = from-header _ ∙ kept _ 1 _ _ (le-leb 3 _ (layout-read c .before .if1 .left))
 
-past2 : (c : tie.Else2) → Reasons.check (c .before .before .before .before .before .before .args .t .now) ≡ from3 (c .before .before .before .before .before .before .args .t .now)
+edition-is : (c : tie.After-edition) → c .edition .result ≡ field 0 8 (word (table c) 0)
+edition-is c = c .edition .ensures .value ∙ ap (field 0 8) (c .before .word .ensures)
+
+left-counts : (c : tie.After-counts-inside) → Left (table (at-edition c)) from-counts
 unfolding knownEdition
-past2 c = past1 (c .before .before .before .before) ∙ kept 2 _ _ (eq-eqb _ 1 (sym (c .before .edition .ensures .value ∙ ap (field 0 8) (c .before .before .word .ensures)) ∙ c .if2 .left))
+left-counts c = left-edition (at-edition c) ∙ kept _ 2 _ _ (eq-eqb _ 1 (sym (edition-is (at-edition c)) ∙ c .before .if2 .left))
 
-past3 : (c : tie.Else3) → Reasons.check (c .before .before .before .before .before .before .before .before .args .t .now) ≡ from4 (c .before .before .before .before .before .before .before .before .args .t .now)
-past3 c = past2 (c .before .before) ∙ kept 3 _ _ (sym (c .before .counts-inside .ensures) ∙ not-false _ (c .if3 .left))
+counts-kept : (c : tie.Else3) → Reasons.countsInside (table (at-edition (c .before))) ≡ true
+counts-kept c = sym (c .before .counts-inside .ensures) ∙ not-false _ (c .if3 .left)
 
-past4 : (c : tie.Else4) → Reasons.check (c .before .before .before .before .before .before .before .before .before .args .t .now) ≡ from5 (c .before .before .before .before .before .before .before .before .before .args .t .now)
+left-length : (c : tie.Else3) → Left (table (at-edition (c .before))) from-length
+left-length c = left-counts (c .before) ∙ kept _ 3 _ _ (counts-kept c)
+
+-- the layout that was read, and its lists: few, since the counts are inside their limits
+
+abbrev layout : tie.Else3 → tie.After-read-layout
+layout c = layout-read (at-edition (c .before))
+
+few : (c : tie.Else3) → layout c .read-layout .result .lists ≤ 256
+few c = let some = few-lists _ (counts-kept c) in omega (arith, layout c .read-layout .ensures .lists .value)
+
+left-fields : (c : tie.After-first-misfit) → Left (table (at-edition (at-length c .before))) from-fields
 unfolding exactLength
-past4 c = past3 (c .before) ∙ kept 4 _ _ (eq-eqb _ _ (c .if4 .left ∙ c .before .before .before .before .before .before .read-layout .ensures .length))
+left-fields c = left-length (at-length c) ∙ kept _ 4 _ _ (eq-eqb _ _ (c .before .if4 .left ∙ layout (at-length c) .read-layout .ensures .length))
 
-past5 : (c : tie.Else5) → Reasons.check (c .before .before .before .before .before .before .before .before .before .before .before .args .t .now) ≡ from6 (c .before .before .before .before .before .before .before .before .before .before .before .args .t .now)
-past5 c = past4 (c .before .before) ∙ kept-by-all 5 ownFields _ _ _ _ (c .before .before .if4 .left) (c .before .first-misfit .ensures) (c .if5 .left)
+left-names : (c : tie.After-first-misnamed) → Left (table (at-edition (at-length (at-fields c) .before))) from-names
+left-names c =
+    left-fields (at-fields c)
+    ∙ kept-by-all _ 5 ownFields _ _ _ (at-fields c .before .if4 .left) (at-fields c .first-misfit .ensures) (c .before .if5 .left)
 
-past6 : (c : tie.Else6) → Reasons.check (c .before .before .before .before .before .before .before .before .before .before .before .before .before .args .t .now) ≡ from7 (c .before .before .before .before .before .before .before .before .before .before .before .before .before .args .t .now)
-past6 c = past5 (c .before .before) ∙ kept-by-all 6 names _ _ _ _ (c .before .before .before .before .if4 .left) (c .before .first-misnamed .ensures) (c .if6 .left)
+left-nesting : (c : tie.After-first-deep) → Left (table (at-edition (at-length (at-fields (at-names c)) .before))) from-nesting
+left-nesting c =
+    left-names (at-names c)
+    ∙ kept-by-all _ 6 names _ _ _ (at-fields (at-names c) .before .if4 .left) (at-names c .first-misnamed .ensures) (depths-found c .before .before .if6 .left)
 
-past7 : (c : tie.Else7) → Reasons.check (c .before .before .before .before .before .before .before .before .before .before .before .before .before .before .before .before .before .before .before .args .t .now) ≡ from8 (c .before .before .before .before .before .before .before .before .before .before .before .before .before .before .before .before .before .before .before .args .t .now)
-past7 c = past6 (c .before .before .before .before .before .before) ∙ kept-by-all 7 nesting _ _ _ _ (c .before .before .before .before .before .before .before .before .before .before .if4 .left) (c .before .first-deep .ensures) (c .if7 .left)
+left-owners : (c : tie.After-first-clash) → Left (table (at-edition (at-length (at-fields (at-names (at-nesting c))) .before))) from-owners
+left-owners c =
+    left-nesting (at-nesting c)
+    ∙ kept-by-all _ 7 nesting _ _ _ (at-fields (at-names (at-nesting c)) .before .if4 .left) (at-nesting c .first-deep .ensures) (c .before .if7 .left)
 
-past8 : (c : tie.Else8) → Reasons.check (c .before .before .before .before .before .before .before .before .before .before .before .before .before .before .before .before .before .before .before .before .before .args .t .now) ≡ from9 (c .before .before .before .before .before .before .before .before .before .before .before .before .before .before .before .before .before .before .before .before .before .args .t .now)
-past8 c = past7 (c .before .before) ∙ kept-by-all 8 owners _ _ _ _ (c .before .before .before .before .before .before .before .before .before .before .before .before .if4 .left) (c .before .first-clash .ensures) (c .if8 .left)
+left-cost : (c : tie.After-bound) → Left (table (at-edition (at-length (at-fields (at-names (at-nesting (at-owners c)))) .before))) from-cost
+left-cost c =
+    left-owners (at-owners c)
+    ∙ kept-by-all _ 8 owners _ _ _ (at-fields (at-names (at-nesting (at-owners c))) .before .if4 .left) (at-owners c .first-clash .ensures)
+    (c .before .before .if8 .left)
 
--- the lists are few, since the counts are inside their limits
-few : (c : tie.Else3) → c .before .before .before .before .before .read-layout .result .lists ≤ 256
-few c =
-    let some = few-lists _ (sym (c .before .counts-inside .ensures) ∙ not-false _ (c .if3 .left)) in
-    omega (arith, c .before .before .before .before .before .read-layout .ensures .lists .value)
+-- the exits
 
 returns : tie.Need-returns
 unfolding hasHeader
-returns c = refuses _ 1 0 refl (from1 _ ∙ broken 1 _ _ (lt-leb 3 _ (c .if1 .taken)))
+returns c = refuses _ 1 0 refl (from-header _ ∙ broken _ 1 _ _ (lt-leb 3 _ (c .if1 .taken)))
 
 returns-2 : tie.Need-returns-2
 unfolding knownEdition
-returns-2 c = refuses _ 2 0 refl (past1 (c .before .before .before .before) ∙ broken 2 _ _ (ne-eqb _ 1 (λ e. c .if2 .taken (c .before .edition .ensures .value ∙ ap (field 0 8) (c .before .before .word .ensures) ∙ e))))
+returns-2 c = refuses _ 2 0 refl (left-edition (c .before) ∙ broken _ 2 _ _ (ne-eqb _ 1 (λ e. c .if2 .taken (edition-is (c .before) ∙ e))))
 
 returns-3 : tie.Need-returns-3
-returns-3 c = refuses _ 3 0 refl (past2 (c .before .before) ∙ broken 3 _ _ (sym (c .before .counts-inside .ensures) ∙ not-true _ (c .if3 .taken)))
+returns-3 c = refuses _ 3 0 refl (left-counts (c .before) ∙ broken _ 3 _ _ (sym (c .before .counts-inside .ensures) ∙ not-true _ (c .if3 .taken)))
 
 returns-4 : tie.Need-returns-4
 unfolding exactLength
-returns-4 c = refuses _ 4 0 refl (past3 (c .before) ∙ broken 4 _ _ (ne-eqb _ _ (λ e. c .if4 .taken (e ∙ sym (c .before .before .before .before .before .before .read-layout .ensures .length)))))
+returns-4 c =
+    refuses _ 4 0 refl
+    (left-length (c .before) ∙ broken _ 4 _ _ (ne-eqb _ _ (λ e. c .if4 .taken (e ∙ sym (layout (c .before) .read-layout .ensures .length)))))
 
 returns-5 : tie.Need-returns-5
-returns-5 c = refuses _ 5 _ refl (past4 (c .before .before) ∙ broken-at 5 ownFields _ _ _ _ (c .before .before .if4 .left) (c .before .first-misfit .ensures) (c .if5 .taken))
+returns-5 c =
+    refuses _ 5 _ refl
+    (left-fields (c .before)
+    ∙ broken-at _ 5 ownFields _ _ _ (c .before .before .if4 .left) (c .before .first-misfit .ensures) (c .if5 .taken))
 
 returns-6 : tie.Need-returns-6
-returns-6 c = refuses _ 6 _ refl (past5 (c .before .before) ∙ broken-at 6 names _ _ _ _ (c .before .before .before .before .if4 .left) (c .before .first-misnamed .ensures) (c .if6 .taken))
+returns-6 c =
+    refuses _ 6 _ refl
+    (left-names (c .before)
+    ∙ broken-at _ 6 names _ _ _ (at-fields (c .before) .before .if4 .left) (c .before .first-misnamed .ensures) (c .if6 .taken))
 
 find-depths-requires : tie.Need-find-depths-requires
-find-depths-requires c κs = (c .before .before .before .before .before .before .before .before .before .before .before .read-layout .ensures, few (c .before .before .before .before .before .before), no-round (c .before .before .before .before .before .before .before .before .before .before .before .before .before .before .args .t .now))
+find-depths-requires c κs =
+    let here = at-length (at-fields (before-depths c)) in
+    record { laid = layout here .read-layout .ensures; few = few here; found = no-round (table (at-edition (here .before))) }
 
 returns-7 : tie.Need-returns-7
-returns-7 c = refuses _ 7 _ refl (past6 (c .before .before .before .before .before .before) ∙ broken-at 7 nesting _ _ _ _ (c .before .before .before .before .before .before .before .before .before .before .if4 .left) (c .before .first-deep .ensures) (c .if7 .taken))
+returns-7 c =
+    refuses _ 7 _ refl
+    (left-nesting (c .before)
+    ∙ broken-at _ 7 nesting _ _ _ (at-fields (at-names (c .before)) .before .if4 .left) (c .before .first-deep .ensures) (c .if7 .taken))
 
 returns-8 : tie.Need-returns-8
-returns-8 c = refuses _ 8 _ refl (past7 (c .before .before) ∙ broken-at 8 owners _ _ _ _ (c .before .before .before .before .before .before .before .before .before .before .before .before .if4 .left) (c .before .first-clash .ensures) (c .if8 .taken))
+returns-8 c =
+    refuses _ 8 _ refl
+    (left-owners (c .before)
+    ∙ broken-at _ 8 owners _ _ _ (at-fields (at-names (at-nesting (c .before))) .before .if4 .left) (c .before .first-clash .ensures) (c .if8 .taken))
 
 bound-requires : tie.Need-bound-requires
-bound-requires c κs = (c .before .before .before .before .before .before .before .before .before .before .before .before .before .before .before .before .before .before .before .read-layout .ensures, few (c .before .before .before .before .before .before .before .before .before .before .before .before .before .before), c .before .before .before .before .before .before .before .find-depths .ensures, no-deep-list _ _ _ (c .before .before .before .before .before .before .before .before .before .before .before .before .before .if4 .left) (c .before .before .before .before .before .before .before .before .before .before .before .before .before .before .before .before .before .before .before .read-layout .ensures .length) (c .before .before .before .before .first-deep .ensures) (c .before .before .before .if7 .left))
+bound-requires c κs =
+    let deep = at-nesting (c .before .before) in
+    let misfit = at-fields (at-names deep) in
+    let here = at-length misfit in
+    let laid = layout here .read-layout .ensures in
+    record {
+      searched = record { laid = laid; few = few here; found = depths-found deep .find-depths .ensures };
+      nested = no-deep-list _ _ _ (misfit .before .if4 .left) (laid .length) (deep .first-deep .ensures) (c .before .before .before .if7 .left);
+    }
 
 returns-9 : tie.Need-returns-9
-returns-9 c = refuses _ 9 0 refl (past8 (c .before .before .before) ∙ broken 9 _ _ (dear _ _ (c .before .bound .ensures) (c .if9 .taken)))
+returns-9 c = refuses _ 9 0 refl (left-cost (c .before) ∙ broken _ 9 _ _ (dear _ _ (c .before .bound .ensures) (c .if9 .taken)))
 
 returns-10 : tie.Need-returns-10
-returns-10 c = accepts _ _ (past8 (c .before .before .before) ∙ kept 9 _ _ (cheap _ _ (c .before .bound .ensures) (c .if9 .left))) (c .before .bound .ensures) (c .if9 .left)
+returns-10 c =
+    accepts _ _ (left-cost (c .before) ∙ kept _ 9 _ _ (cheap _ _ (c .before .bound .ensures) (c .if9 .left)) ∙ none-left _)
+    (c .before .bound .ensures) (c .if9 .left)
 
 pub check-spec : {M : Type 1} → statement M
 check-spec =

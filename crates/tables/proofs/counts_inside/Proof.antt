@@ -6,7 +6,17 @@ use Rattle.tables.proofs.counts_inside.Tie as tie
 
 returns : tie.Need-returns
 unfolding countsInside
-returns c = simp (leb·zero, c .pre .ports .value, c .pre .networks .value, c .pre .sources .value, c .pre .expressions .value, c .pre .rules .value, c .pre .lists .value, c .pre .items .value)
+returns c =
+    simp (
+      leb·zero,
+      c .pre .ports .value,
+      c .pre .networks .value,
+      c .pre .sources .value,
+      c .pre .expressions .value,
+      c .pre .rules .value,
+      c .pre .lists .value,
+      c .pre .items .value,
+    )
 
 pub counts-inside-spec : {M : Type 1} → statement M
 counts-inside-spec = tie.close (tie.spec returns)

@@ -6,9 +6,13 @@ use borrow.Author.Needs.{needs}
 use Rattle.text.proofs.input.read_word.Statement.{statement}
 use Rattle.text.proofs.input.read_word.Tie as tie
 
+-- The places that the answers cite, each seen from a later one.
+abbrev start : tie.After-shared-slice-known2 → tie.Start
+start c = c .before .before .before
+
 returns : tie.Need-returns
 returns c =
-    let a = c .before .before .before .before .before .before .before .args in
+    let a = start (c .before .before .before .before) .args in
     c .word-of .ensures ∙ sym (made (a .bytes .now) (a .i) (omega arith))
 
 returns-2 : tie.Need-returns-2

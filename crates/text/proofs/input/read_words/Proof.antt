@@ -17,10 +17,14 @@ Inv-loop bytes words₀ n i₀ words i = (i ≤ n) × (length words ≡ length w
 abbrev μ-loop : tie.MeasureT-loop
 μ-loop bytes words₀ n i₀ words i = n - i
 
+-- The places that the answers cite, each seen from a later one.
+abbrev start : tie.After-least Inv-loop μ-loop → tie.Start Inv-loop μ-loop
+start c = c .before .before .before .before
+
 loop-again : tie.Need-loop-again Inv-loop μ-loop
 loop-again c =
     let l = c .before .before .loop in
-    let a = c .before .before .before .before .before .before .before .args in (
+    let a = start (c .before .before .before) .args in (
       omega arith,
       simp length-set (l .inv .1),
       rw (l .inv .2, c .read-word .ensures) (front-more (wordsOf (a .bytes .now)) (a .words .now) (l .i) (omega arith) (omega arith)),

@@ -18,18 +18,25 @@ Inv-loop out₀ at n base k end last i₀ rest₀ out i rest =
 abbrev μ-loop : tie.MeasureT-loop
 μ-loop out₀ at n base k end last i₀ rest₀ out i rest = i
 
+-- The places that the answers cite, each seen from a later one.
+abbrev start : tie.At-loop Inv-loop μ-loop → tie.Start Inv-loop μ-loop
+start c = c .before .before .before .before
+
+abbrev at-loop : tie.After-digit Inv-loop μ-loop → tie.At-loop Inv-loop μ-loop
+at-loop c = c .before .before
+
 returns : tie.Need-returns Inv-loop μ-loop
 returns c =
     let a = c .before .before .before .args in
     digits-full (a .at) (a .base) (a .out .now) (a .k) (a .n) (a .end) (omega arith)
 
 slice-write-out-2 : tie.Need-slice-write-out-2 Inv-loop μ-loop
-slice-write-out-2 c = omega (arith, simp length-set at (c .before .before .loop .inv .1))
+slice-write-out-2 c = omega (arith, simp length-set at (at-loop c .loop .inv .1))
 
 loop-again : tie.Need-loop-again Inv-loop μ-loop
 loop-again c =
-    let s = c .before .before .before .before .before .before in
-    let l = c .before .before .loop in
+    let s = start (at-loop c) in
+    let l = at-loop c .loop in
     let same = simp length-set at (l .inv .1) in
     let turn =
     digits-turn (s .args .at) (s .args .base) (l .out) (l .i) (l .rest) (c .digit .result)
@@ -42,7 +49,7 @@ same-length c = simp length-set at (c .before .loop .inv .1)
 
 returns-2 : tie.Need-returns-2 Inv-loop μ-loop
 returns-2 c =
-    let a = c .before .before .before .before .before .args in
+    let a = start (c .before) .args in
     let l = c .before .loop in
     digits-end (a .at) (a .base) (a .out .now) (l .out) (a .k) (a .n) (a .end) (l .i) (l .rest) (omega arith) (c .loop-test .left) (l .inv .2)
 

@@ -18,15 +18,25 @@ Inv-loop out₀ at words from to n next₀ i₀ out next i =
 abbrev μ-loop : tie.MeasureT-loop
 μ-loop out₀ at words from to n next₀ i₀ out next i = n - i
 
+-- The places that the answers cite, each seen from a later one.
+abbrev after-least : tie.After-least2 Inv-loop μ-loop → tie.After-least Inv-loop μ-loop
+after-least c = c .before .before .before
+
+abbrev start : tie.After-least2 Inv-loop μ-loop → tie.Start Inv-loop μ-loop
+start c = after-least c .before .before .before
+
+abbrev at-loop : tie.After-put-hex-line Inv-loop μ-loop → tie.At-loop Inv-loop μ-loop
+at-loop c = c .before .before .before .before
+
 loop-holds : tie.Need-loop-holds Inv-loop μ-loop
 loop-holds c =
-    let a = c .before .before .before .before .before .before .args in
+    let a = start c .args in
     (omega arith, refl, omega arith, none-laid (a .out .now) (a .at) (run (a .words .now) (a .from) (a .to)))
 
 loop-again : tie.Need-loop-again Inv-loop μ-loop
 loop-again c =
-    let l = c .before .before .before .before .before .before .loop in
-    let a = c .before .before .before .before .before .before .before .before .before .before .before .before .before .args in
+    let l = at-loop (c .before .before) .loop in
+    let a = start (at-loop (c .before .before) .before) .args in
     let p = c .before .before .put-hex-line in
     let ws = run (a .words .now) (a .from) (a .to) in
     let inside : l .i < length ws = omega (arith, length-run (a .words .now) (a .from) (a .to)) in
@@ -44,7 +54,7 @@ same-length c = c .before .loop .inv .1
 returns : tie.Need-returns Inv-loop μ-loop
 returns c =
     let l = c .before .loop in
-    let a = c .before .before .before .before .before .before .before .before .args in
+    let a = start (c .before .before) .args in
     let q : l .i ≡ c .before .before .least2 .result = omega arith in
     record { count = omega arith; place = omega arith; bytes = rw q at (l .inv .3) }
 

@@ -5,31 +5,31 @@ use Rattle.words.proofs.parts.part_at.Statement.{statement}
 use Rattle.words.proofs.parts.part_at.Tie as tie
 
 returns : tie.Need-returns
-returns c = item-part _ _ (c .before .pre .0) _ (c .if1 .taken)
+returns c = item-part _ _ (c .before .pre .laid) _ (c .if1 .taken)
 
 returns-2 : tie.Need-returns-2
-returns-2 c = list-part _ _ (c .before .before .pre .0) _ (c .if2 .taken) (c .before .if1 .left)
+returns-2 c = list-part _ _ (c .before .before .pre .laid) _ (c .if2 .taken) (c .before .if1 .left)
 
 returns-3 : tie.Need-returns-3
-returns-3 c = rule-part _ _ (c .before .before .before .pre .0) _ (c .if3 .taken) (c .before .if2 .left)
+returns-3 c = rule-part _ _ (c .before .before .before .pre .laid) _ (c .if3 .taken) (c .before .if2 .left)
 
 returns-4 : tie.Need-returns-4
-returns-4 c = expression-part _ _ (c .before .before .before .before .pre .0) _ (c .if4 .taken) (c .before .if3 .left)
+returns-4 c = expression-part _ _ (c .before .before .before .before .pre .laid) _ (c .if4 .taken) (c .before .if3 .left)
 
 returns-5 : tie.Need-returns-5
-returns-5 c = source-part _ _ (c .before .before .before .before .before .pre .0) _ (c .if5 .taken) (c .before .if4 .left)
+returns-5 c = source-part _ _ (c .before .before .before .before .before .pre .laid) _ (c .if5 .taken) (c .before .if4 .left)
 
 returns-6 : tie.Need-returns-6
-returns-6 c = network-part _ _ (c .before .before .before .before .before .before .before .pre .0) _ (c .before .if6 .taken) (c .before .before .if5 .left) (c .if7 .taken)
+returns-6 c = network-part _ _ (c .before .before .before .before .before .before .before .pre .laid) _ (c .before .if6 .taken) (c .before .before .if5 .left) (c .if7 .taken)
 
 returns-7 : tie.Need-returns-7
-returns-7 c = waits-part _ _ (c .before .before .before .before .before .before .before .pre .0) _ (c .before .if6 .taken) (c .before .before .if5 .left) (c .if7 .left)
+returns-7 c = waits-part _ _ (c .before .before .before .before .before .before .before .pre .laid) _ (c .before .if6 .taken) (c .before .before .if5 .left) (c .if7 .left)
 
 returns-8 : tie.Need-returns-8
-returns-8 c = port-part _ _ (c .before .before .before .before .before .before .before .pre .0) _ (c .if8 .taken) (c .before .if6 .left)
+returns-8 c = port-part _ _ (c .before .before .before .before .before .before .before .pre .laid) _ (c .if8 .taken) (c .before .if6 .left)
 
 returns-9 : tie.Need-returns-9
-returns-9 c = header-part _ _ (c .before .before .before .before .before .before .before .pre .0) _ (c .if8 .left)
+returns-9 c = header-part _ _ (c .before .before .before .before .before .before .before .pre .laid) _ (c .if8 .left)
 
 pub part-at-spec : {M : Type 1} → statement M
 part-at-spec =

@@ -7,29 +7,29 @@ use Rattle.rulebook.specs.Reasons.{check, accepted, bound as boundOf}
 use Rattle.tables.specs.declared.Checked.{Checked}
 use Rattle.tables.specs.declared.Checked.the-variants.{Accepted, TooShort, WrongEdition, WrongCounts, WrongLength, Misfit, Misnamed, TooDeep, OwnersClash, TooDear}
 
-pub record Told : Type 0 where
+pub record Finding : Type 0 where
   pub reason : ℕ
   pub place : ℕ
   pub bound : ℕ
 
-abbrev pub refused : ℕ → ℕ → Told
+abbrev pub refused : ℕ → ℕ → Finding
 refused k i = record { reason = k; place = i; bound = 0 }
 
-abbrev pub told : Checked → Told
-told (Accepted b) = record { reason = 0; place = 0; bound = b }
-told TooShort = refused 1 0
-told WrongEdition = refused 2 0
-told WrongCounts = refused 3 0
-told WrongLength = refused 4 0
-told (Misfit i) = refused 5 i
-told (Misnamed i) = refused 6 i
-told (TooDeep i) = refused 7 i
-told (OwnersClash i) = refused 8 i
-told TooDear = refused 9 0
+abbrev pub finding : Checked → Finding
+finding (Accepted b) = record { reason = 0; place = 0; bound = b }
+finding TooShort = refused 1 0
+finding WrongEdition = refused 2 0
+finding WrongCounts = refused 3 0
+finding WrongLength = refused 4 0
+finding (Misfit i) = refused 5 i
+finding (Misnamed i) = refused 6 i
+finding (TooDeep i) = refused 7 i
+finding (OwnersClash i) = refused 8 i
+finding TooDear = refused 9 0
 
 -- a table check's answer in three numbers: the reason, the place and B, 0 where there is none
-abbrev pub Says : Told → ℕ → ℕ → ℕ → Type 0
+abbrev pub Says : Finding → ℕ → ℕ → ℕ → Type 0
 Says x reason place bound = (reason ≡ x .reason) × (place ≡ x .place) × (bound ≡ x .bound)
 
-unfoldable pub promised : List ℕ → Told
+unfoldable pub promised : List ℕ → Finding
 promised t = record { reason = check t .reason; place = check t .place; bound = cond (accepted t) (boundOf t) 0 }
