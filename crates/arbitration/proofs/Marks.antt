@@ -19,7 +19,7 @@ use Rattle.words.proofs.Fill.{none-of-zeros, raise-more}
 use Rattle.laws.proofs.Tests.{split}
 use Rattle.laws.proofs.Walks.{any-at}
 use Rattle.laws.proofs.Order.{each-weaker, order-there}
-use Rattle.lists.specs.Runs.{Ran}
+use Rattle.lists.specs.Runs.{Ran, nothing}
 use Rattle.arbitration.specs.Outcomes.{Marked}
 use Rattle.arbitration.proofs.Passes.{raised-flag}
 use Rattle.arbitration.proofs.Picking.{none-chosen}
@@ -37,9 +37,6 @@ unfolding flagged
 set-flag-other flags p k v isnt = rw (getD-set-other flags p k v 0 isnt)
 
 -- the marked ports
-pub marked-by : (t s : List ℕ) (p n m w : ℕ) → n ≡ ports t → w ≡ word s p → m ≡ field 1 1 w → (ltb p n && eqb m 1) ≡ markedIn t s p
-unfolding markedIn
-marked-by t s p n m w hn hw hm = rw (hn, hm, hw)
 
 -- the flags of the ports before p are right, the others are down
 pub record MarkedBefore (p : ℕ) (t s flags : List ℕ) : Type 0 where
@@ -50,7 +47,8 @@ pub record MarkedBefore (p : ℕ) (t s flags : List ℕ) : Type 0 where
 pub marked-start : (t s : List ℕ) → MarkedBefore 0 t s (replicate 256 0)
 marked-start t s = record { long = refl; says = λ k h. absurd (omega arith); rest = λ k h. none-of-zeros 256 k }
 
-pub marked-more : (p v : ℕ) (t s flags : List ℕ) (b : Bool) → p < 256 → MarkedBefore p t s flags → v ≡ cond b 1 0 → b ≡ markedIn t s p → MarkedBefore (p + 1) t s (set flags p v)
+pub marked-more : (p v : ℕ) (t s flags : List ℕ) (b : Bool) → p < 256 → MarkedBefore p t s flags → v ≡ cond b 1 0 → b ≡ markedIn t s p
+    → MarkedBefore (p + 1) t s (set flags p v)
 marked-more p v t s flags b inside m hv hb =
     let room : p < length flags = rw (m .long) inside in
     record {
@@ -86,7 +84,8 @@ any-none p i (suc n) h = rw (h i) (any-none p (suc i) n h)
 module _ (t : List ℕ) (q : ℕ → Bool) (none : (p : ℕ) → q p ≡ false) where
   level-none : (below : ℕ → Bool) → ((e : ℕ) → below e ≡ false) → (e : ℕ) → expressionMentions t q below e ≡ false
   unfolding expressionMentions
-  level-none below h e = split (operator t e) (λ y. rw (y, expressionMentions) (rw (h (left t e), h (right t e), and-false))) (λ y. rw (y, expressionMentions) (none _))
+  level-none below h e =
+      split (operator t e) (λ y. rw (y, expressionMentions) (rw (h (left t e), h (right t e), and-false))) (λ y. rw (y, expressionMentions) (none _))
 
   mentions-none : (d e : ℕ) → mentions d t q e ≡ false
   unfolding mentions
@@ -120,5 +119,5 @@ unfolding markedIn
 none-marked t s h p =
     split (ltb p (ports t)) (λ e. any-at (markedIn t s) 0 (ports t) p h (omega arith) (let z : p < ports t = ltb-true _ _ e in omega arith)) (λ e. rw e)
 
-pub nothing-marked : (t s T : List ℕ) → any 0 (ports t) (markedIn t s) ≡ false → Ran (arbitrate t (markedIn t s) s) s T T 0
+pub nothing-marked : (t s T : List ℕ) → any 0 (ports t) (markedIn t s) ≡ false → Ran (arbitrate t (markedIn t s) s) s T T nothing
 nothing-marked t s T h = rw (arbitrate-none t (markedIn t s) (none-marked t s h) s) (record { state = refl; words = refl; count = refl })

@@ -13,7 +13,6 @@ use borrow.Author.Tests.{eq-eqb, ne-eqb, eqb-true, eqb-false, not-true, not-fals
 use Rattle.rulebook.specs.Words.{word, field, any, each}
 use Rattle.rulebook.specs.Table.{rules, ruleWord, nestedOnly, ruleExpression, noList, triggered}
 use Rattle.rulebook.specs.Expressions.{deepest, mentions}
-use Rattle.rulebook.specs.State.{packPort}
 use Rattle.rulebook.specs.Lists.{start, unready, resultIn, previousIn, listFor, choice, choiceIn, setResult}
 use Rattle.rulebook.specs.Arbitration.{unmarkPort, unmarkPorts, evaluated, storeResult, storeResults, chooses, chosen, order, runChosen, decide, arbitrate}
 use Rattle.words.specs.Flags.{flagged}
@@ -23,64 +22,6 @@ use Rattle.laws.proofs.Tests.{split}
 use Rattle.laws.proofs.Fields.{digit-small}
 use Rattle.laws.proofs.Items.{result-small}
 use Rattle.arbitration.specs.Outcomes.{outcome, Outcomes, storeBy, choosesBy, pickBy, Chosen}
-
--- a port, by what is read of its word
-module _ (flags s : List ℕ) (p : ℕ) (b : Bool) (hb : b ≡ flagged flags p) where
-  pub unmarked-port : b ≡ true → (w d v r u : ℕ) → w ≡ word s p → d ≡ field 0 1 w → v ≡ field 2 8 w → r ≡ field 16 16 w → u ≡ packPort d 0 v r
-      → set s p u ≡ unmarkPort (flagged flags) p s
-  unfolding unmarkPort
-  unmarked-port up w d v r u hw hd hv hr hu = rw (hu, hd, hv, hr, hw, sym hb ∙ up)
-
-  pub left-port : b ≡ false → s ≡ unmarkPort (flagged flags) p s
-  unfolding unmarkPort
-  left-port down = rw (sym hb ∙ down)
-
--- a rule has the word w, and by it is nested-only or not, and has the expression e
-module _ (t : List ℕ) (q : ℕ → Bool) (s : List ℕ) (r w n : ℕ) (hw : w ≡ ruleWord t r) (hn : n ≡ field 6 1 w) where
-  is-nested : n ≡ nestedOnly t r
-  is-nested = hn ∙ ap (field 6 1) hw
-
-  pub outcome-nested : (n ≡ 0 → ⊥) → 2 ≡ outcome t q s r
-  unfolding outcome evaluated
-  outcome-nested h = rw (ne-eqb (nestedOnly t r) 0 (λ z. h (is-nested ∙ z)))
-
-  module _ (h : n ≡ 0) (e : ℕ) (he : e ≡ field 7 9 w) (m : Bool) (hm : m ≡ mentions deepest t q e) where
-    outer : eqb (nestedOnly t r) 0 ≡ true
-    outer = eq-eqb _ 0 (sym is-nested ∙ h)
-
-    mentioned : m ≡ mentions deepest t q (ruleExpression t r)
-    mentioned = hm ∙ ap (mentions deepest t q) (he ∙ ap (field 7 9) hw)
-
-    pub outcome-unmentioned : not m ≡ true → 2 ≡ outcome t q s r
-    unfolding outcome evaluated
-    outcome-unmentioned none = rw (outer, sym mentioned ∙ not-true m none)
-
-    module _ (some : not m ≡ false) (u : Bool) (hu : u ≡ unready t s r) where
-      pub outcome-unready : u ≡ true → 2 ≡ outcome t q s r
-      unfolding outcome evaluated
-      outcome-unready y = rw (outer, sym mentioned ∙ not-false m some, sym hu ∙ y)
-
-      pub outcome-result : u ≡ false → (x : ℕ) → x ≡ resultIn t s r → x ≡ outcome t q s r
-      unfolding outcome evaluated
-      outcome-result y x hx = hx ∙ rw (outer, sym mentioned ∙ not-false m some, sym hu ∙ y)
-
--- what the rule picks, by its outcome x
-module _ (t results s : List ℕ) (r x : ℕ) (hx : x ≡ word results r) where
-  pub picks-none : x ≡ 2 → 256 ≡ pickBy t results s r
-  unfolding pickBy
-  picks-none h = rw (eq-eqb (word results r) 2 (sym hx ∙ h))
-
-  pub picks : (x ≡ 2 → ⊥) → (previous l : ℕ) → previous ≡ previousIn t s r → l ≡ choice t r previous x → l ≡ pickBy t results s r
-  unfolding pickBy
-  picks h previous l hp hl = hl ∙ rw (hp, hx, ne-eqb (word results r) 2 (λ e. h (hx ∙ e)))
-
-  pub stores-none : x ≡ 2 → s ≡ storeBy t results r s
-  unfolding storeBy
-  stores-none h = rw (eq-eqb (word results r) 2 (sym hx ∙ h))
-
-  pub stores : (x ≡ 2 → ⊥) → (s' : List ℕ) → s' ≡ setResult t r x s → s' ≡ storeBy t results r s
-  unfolding storeBy
-  stores h s' hs = hs ∙ rw (hx, ne-eqb (word results r) 2 (λ e. h (hx ∙ e)))
 
 list-small : (t : List ℕ) (r result : ℕ) → listFor t r result < 256
 list-small t r result = split (eqb result 1) (λ e. rw e (digit-small _ 256 _ (omega arith))) (λ e. rw e (digit-small _ 256 _ (omega arith)))

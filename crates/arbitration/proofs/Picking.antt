@@ -22,21 +22,6 @@ use Rattle.laws.proofs.Cases.{if-chosen, if-not}
 use Rattle.laws.proofs.Order.{each-weaker, order-there, once, in-order}
 use Rattle.arbitration.specs.Picking.{better, Best}
 
--- list k, by what is read: u says whether its flag is up, p is its priority, and m that of the best so far
-module _ (t flags : List ℕ) (k best : ℕ) (u : Bool) (hu : u ≡ flagged flags k) where
-  pub better-none : u ≡ false → best ≡ better t flags k best
-  unfolding better
-  better-none h = rw (sym hu ∙ h)
-
-  module _ (n p m : ℕ) (up : u ≡ true) (hn : n ≡ lists t) (hp : p ≡ priority t k) (hm : m ≡ priority t best) where
-    pub better-takes : (leb n best || ltb m p) ≡ true → k ≡ better t flags k best
-    unfolding better
-    better-takes h = rw (sym hu ∙ up, rw (hn, hp, hm) at h)
-
-    pub better-stays : (leb n best || ltb m p) ≡ false → best ≡ better t flags k best
-    unfolding better
-    better-stays h = rw (sym hu ∙ up, rw (hn, hp, hm) at h)
-
 -- The loop for the best.
 
 pub best-none : (t flags : List ℕ) (l : ℕ) → lists t ≤ l → Best t flags 0 l
@@ -165,7 +150,8 @@ module _ (t flags : List ℕ) (l : ℕ) (b : Best t flags (lists t) l) where
   pub chosen-end : lists t ≤ l → (x : Run) → runChosen t (flagged flags) (order t) x ≡ x
   chosen-end h x =
       none-chosen t (flagged flags) (order t) x
-      (each-weaker _ (λ k. flagged flags k ≡ false) (order t) (λ k z. split (flagged flags k) (λ u. absurd (past (b .first k z u .0) h)) (λ u. u)) (order-there t))
+      (each-weaker _ (λ k. flagged flags k ≡ false) (order t) (λ k z. split (flagged flags k) (λ u. absurd (past (b .first k z u .0) h)) (λ u. u))
+      (order-there t))
     where
       past : l < lists t → lists t ≤ l → ⊥
       past a b = omega arith

@@ -1,8 +1,6 @@
 // Arbitration: the marks of the arbitrated ports are cleared, every rule that is to be evaluated is evaluated before any list runs,
 // and the chosen lists run once each, larger priority first, then lower number.
 ghost use mathlib.Core.Path.{_≡_};
-ghost use Prim.Native.Nat.{_≤_, _<_};
-ghost use lib.ListN.{length, replicate};
 ghost use Rattle.rulebook.specs.Words.{any, each};
 ghost use Rattle.rulebook.specs.Table.{ports as portsOf, rules as rulesOf, lists as listsOf};
 ghost use Rattle.rulebook.specs.Lists.{start};
@@ -10,12 +8,14 @@ ghost use Rattle.rulebook.specs.Arbitration.{unmarkPort, unmarkPorts, order, ru
 ghost use Rattle.rulebook.specs.Events.{only, markedIn, arbitrateMarked};
 ghost use Rattle.words.specs.Flags.{flagged};
 ghost use Rattle.words.specs.Sections.{Laid};
-ghost use Rattle.lists.specs.Runs.{Safe, Ran};
+ghost use Rattle.lists.specs.Runs.{MayRun, Ran};
 ghost use Rattle.arbitration.specs.Outcomes.{outcome as outcomeOf, Outcomes, storeBy, pickBy, Chosen, Marked};
+ghost use Rattle.arbitration.specs.Asked.{ResultsLent, FlagsDown, MayArbitrate, MayArbitratePort};
 ghost use Rattle.arbitration.specs.Picking.{better as betterOf, Best};
 use evaluation;
 use expression::mentions;
 use lists;
+use lists::Written;
 use words::flag;
 use words::numbers::UNDEFINED_RESULT;
 use words::put;
@@ -23,7 +23,7 @@ use words::raised;
 use words::sections;
 use words::sections::Layout;
 use words::state;
-use words::table;
+use words::state::Port;
 use words::word;
 
 // Clears port p's mark, if its flag is up.
@@ -31,9 +31,14 @@ fn unmark_port(flags: &[u32], s: &mut [u32], p: u32)
     ensures { λ _. ⌜ now (s .exit) ≡ unmarkPort (flagged (now (flags .entry))) p (now (s .entry)) ⌝ }
 {
     if flag(flags, p) {
-        let w = word(s, p as usize);
-        let unmarked = state::pack_port(state::defined(w), 0, state::value(w), state::remaining(w));
-        put(s, p as usize, unmarked);
+        let c = state::port_in(s, p);
+        let unmarked = Port {
+            defined: c.defined,
+            marked: 0,
+            value: c.value,
+            remaining: c.remaining,
+        };
+        state::put_port(s, p, unmarked);
     }
 }
 
@@ -55,12 +60,11 @@ fn outcome(t: &[u32], h: Layout, flags: &[u32], s: &[u32], r: u32) -> u32
     requires { ⌜ Laid (now t) h ⌝ }
     ensures { λ n. ⌜ n ≡ outcomeOf (now (t .entry)) (flagged (now (flags .entry))) (now (s .entry)) r ⌝ }
 {
-    let w = sections::rule_word(t, h, r);
-    let nested = table::nested_only(w);
-    if nested != 0 {
+    let rule = sections::rule_at(t, h, r);
+    if rule.nested_only != 0 {
         return 2;
     }
-    if !mentions(t, h.expression0, flags, table::rule_expression(w), 7) {
+    if !mentions(t, h.expression0, flags, rule.expression, 7) {
         return 2;
     }
     if evaluation::unready(t, h, s, r) {
@@ -71,7 +75,7 @@ fn outcome(t: &[u32], h: Layout, flags: &[u32], s: &[u32], r: u32) -> u32
 
 // The outcomes of all rules, all from the one state, into lent words.
 fn find_outcomes(t: &[u32], h: Layout, flags: &[u32], s: &[u32], results: &mut [u32])
-    requires { ⌜ Laid (now t) h × (h .rules ≤ 256) × (length (now results) ≡ 256) ⌝ }
+    requires { ⌜ ResultsLent (now t) h (now results) ⌝ }
     ensures { λ _. ⌜ Outcomes (now (t .entry)) (flagged (now (flags .entry))) (now (s .entry)) (now (results .exit)) ⌝ }
 {
     let rules = h.rules;
@@ -92,13 +96,13 @@ fn pick(t: &[u32], h: Layout, results: &[u32], s: &[u32], r: u32) -> u32
     if result == UNDEFINED_RESULT {
         return 256;
     }
-    evaluation::choice(t, h, r, lists::previous(t, h, s, r), result)
+    evaluation::choice(t, h, r, state::result_in(t, h, s, r), result)
 }
 
 // Puts up the flags of the lists that the rules choose, from the state before the results are stored. Flag 255 means nothing: no
 // list has that number.
 fn choose(t: &[u32], h: Layout, results: &[u32], s: &[u32], flags: &mut [u32])
-    requires { ⌜ Laid (now t) h × (now flags ≡ replicate 256 0) ⌝ }
+    requires { ⌜ FlagsDown (now t) h (now flags) ⌝ }
     ensures { λ _. ⌜ Chosen (now (t .entry)) (now (results .entry)) (now (s .entry)) (now (flags .exit)) ⌝ }
 {
     let rules = h.rules;
@@ -119,7 +123,7 @@ fn store_result(t: &[u32], h: Layout, results: &[u32], s: &mut [u32], r: u32)
     if result == UNDEFINED_RESULT {
         return;
     }
-    lists::set_result(t, h, s, r, result);
+    state::set_result(t, h, s, r, result);
 }
 
 // Stores the results.
@@ -144,9 +148,9 @@ fn better(t: &[u32], h: Layout, flags: &[u32], k: u32, best: u32) -> u32
         return best;
     }
     let lists = h.lists;
-    let priority = table::list_priority(sections::list_word(t, h, k));
-    let best_priority = table::list_priority(sections::list_word(t, h, best));
-    let takes = (lists <= best) | (best_priority < priority);
+    let list = sections::list_at(t, h, k);
+    let before = sections::list_at(t, h, best);
+    let takes = (lists <= best) | (before.priority < list.priority);
     if takes {
         return k;
     }
@@ -169,26 +173,27 @@ fn best(t: &[u32], h: Layout, flags: &[u32]) -> u32
 }
 
 // Runs the lists whose flags are up, once each; each gets the trace from the first free word on.
-fn run_chosen(t: &[u32], h: Layout, flags: &mut [u32], s: &mut [u32], trace: &mut [u32]) -> usize
-    requires { ⌜ Laid (now t) h × Safe (runChosen (now t) (flagged (now flags)) (order (now t)) (start (now s))) (now trace) ⌝ }
-    ensures { λ n. ⌜ Ran (runChosen (now (t .entry)) (flagged (now (flags .entry))) (order (now (t .entry))) (start (now (s .entry)))) (now (s .exit)) (now (trace .entry)) (now (trace .exit)) n ⌝ }
+fn run_chosen(t: &[u32], h: Layout, flags: &mut [u32], s: &mut [u32], trace: &mut [u32]) -> Written
+    requires { ⌜ MayRun (now t) h (runChosen (now t) (flagged (now flags)) (order (now t)) (start (now s))) (now trace) ⌝ }
+    ensures { λ w. ⌜ Ran (runChosen (now (t .entry)) (flagged (now (flags .entry))) (order (now (t .entry))) (start (now (s .entry)))) (now (s .exit)) (now (trace .entry)) (now (trace .exit)) w ⌝ }
 {
     let lists = h.lists;
-    let mut at: usize = 0;
+    let mut written = lists::nothing();
     let mut l = best(t, h, flags);
     while l < lists {
         put(flags, l as usize, 0);
-        let n = lists::run_list(t, h, l, 7, s, &mut trace[at..]);
-        at += n;
+        let at = written.count;
+        let more = lists::run_list(t, h, l, 7, s, &mut trace[at..]);
+        written = lists::plus(written, more);
         l = best(t, h, flags);
     }
-    at
+    written
 }
 
 // Arbitrates the ports whose flags are up.
-pub fn arbitrate(t: &[u32], h: Layout, flags: &[u32], s: &mut [u32], trace: &mut [u32]) -> usize
-    requires { ⌜ Laid (now t) h × (h .rules ≤ 256) × Safe (arbitrateOf (now t) (flagged (now flags)) (now s)) (now trace) ⌝ }
-    ensures { λ n. ⌜ Ran (arbitrateOf (now (t .entry)) (flagged (now (flags .entry))) (now (s .entry))) (now (s .exit)) (now (trace .entry)) (now (trace .exit)) n ⌝ }
+pub fn arbitrate(t: &[u32], h: Layout, flags: &[u32], s: &mut [u32], trace: &mut [u32]) -> Written
+    requires { ⌜ MayArbitrate (now t) h (arbitrateOf (now t) (flagged (now flags)) (now s)) (now trace) ⌝ }
+    ensures { λ w. ⌜ Ran (arbitrateOf (now (t .entry)) (flagged (now (flags .entry))) (now (s .entry))) (now (s .exit)) (now (trace .entry)) (now (trace .exit)) w ⌝ }
 {
     unmark(t, h, flags, s);
     let mut results = [0u32; 256];
@@ -200,9 +205,9 @@ pub fn arbitrate(t: &[u32], h: Layout, flags: &[u32], s: &mut [u32], trace: &mut
 }
 
 // Arbitrates port p alone.
-pub fn arbitrate_one(t: &[u32], h: Layout, p: u32, s: &mut [u32], trace: &mut [u32]) -> usize
-    requires { ⌜ Laid (now t) h × (h .rules ≤ 256) × (p < 256) × Safe (arbitrateOf (now t) (only p) (now s)) (now trace) ⌝ }
-    ensures { λ n. ⌜ Ran (arbitrateOf (now (t .entry)) (only p) (now (s .entry))) (now (s .exit)) (now (trace .entry)) (now (trace .exit)) n ⌝ }
+pub fn arbitrate_one(t: &[u32], h: Layout, p: u32, s: &mut [u32], trace: &mut [u32]) -> Written
+    requires { ⌜ MayArbitratePort (now t) h p (arbitrateOf (now t) (only p) (now s)) (now trace) ⌝ }
+    ensures { λ w. ⌜ Ran (arbitrateOf (now (t .entry)) (only p) (now (s .entry))) (now (s .exit)) (now (trace .entry)) (now (trace .exit)) w ⌝ }
 {
     let mut flags = [0u32; 256];
     flags[p as usize] = 1;
@@ -215,8 +220,8 @@ fn is_marked(t: &[u32], h: Layout, s: &[u32], p: u32) -> bool
     ensures { λ r. ⌜ r ≡ markedIn (now (t .entry)) (now (s .entry)) p ⌝ }
 {
     let ports = h.ports;
-    let marked = state::marked(word(s, p as usize));
-    (p < ports) & (marked == 1)
+    let c = state::port_in(s, p);
+    (p < ports) & (c.marked == 1)
 }
 
 // Whether any port is marked.
@@ -237,7 +242,7 @@ fn any_marked(t: &[u32], h: Layout, s: &[u32]) -> bool
 
 // Puts up the flags of the marked ports.
 fn flag_marked(t: &[u32], h: Layout, s: &[u32], flags: &mut [u32])
-    requires { ⌜ Laid (now t) h × (now flags ≡ replicate 256 0) ⌝ }
+    requires { ⌜ FlagsDown (now t) h (now flags) ⌝ }
     ensures { λ _. ⌜ Marked (now (t .entry)) (now (s .entry)) (now (flags .exit)) ⌝ }
 {
     let ports = h.ports;
@@ -250,12 +255,12 @@ fn flag_marked(t: &[u32], h: Layout, s: &[u32], flags: &mut [u32])
 }
 
 // Arbitrates all marked ports. Where none is marked no rule is looked at.
-pub fn arbitrate_marked(t: &[u32], h: Layout, s: &mut [u32], trace: &mut [u32]) -> usize
-    requires { ⌜ Laid (now t) h × (h .rules ≤ 256) × Safe (arbitrateMarked (now t) (now s)) (now trace) ⌝ }
-    ensures { λ n. ⌜ Ran (arbitrateMarked (now (t .entry)) (now (s .entry))) (now (s .exit)) (now (trace .entry)) (now (trace .exit)) n ⌝ }
+pub fn arbitrate_marked(t: &[u32], h: Layout, s: &mut [u32], trace: &mut [u32]) -> Written
+    requires { ⌜ MayArbitrate (now t) h (arbitrateMarked (now t) (now s)) (now trace) ⌝ }
+    ensures { λ w. ⌜ Ran (arbitrateMarked (now (t .entry)) (now (s .entry))) (now (s .exit)) (now (trace .entry)) (now (trace .exit)) w ⌝ }
 {
     if !any_marked(t, h, s) {
-        return 0;
+        return lists::nothing();
     }
     let mut flags = [0u32; 256];
     flag_marked(t, h, s, &mut flags);

@@ -7,7 +7,7 @@ use native.Mathlib.Omega.{arith}
 use lib.Dec.{leb, eqb}
 use borrow.Author.Tests.{not-true, not-false}
 use Rattle.rulebook.specs.Words.{field}
-use Rattle.rulebook.specs.Table.{expressionWord, expressionKind, left, right, noList, listWord, triggered}
+use Rattle.rulebook.specs.Table.{expressionWord, expressionKind, left, right, noList, triggered}
 use Rattle.rulebook.specs.Expressions as Expressions
 use Rattle.rulebook.specs.Expressions.{operator, joined, expressionHolds, holds}
 use Rattle.rulebook.specs.Lists.{listFor, choice}
@@ -67,9 +67,9 @@ module _ (t : List ℕ) (e d w k : ℕ) (more : d ≡ 0 → ⊥) (hw : w ≡ exp
   both-hold h l r a b hl ha hr hb = sym (joined-holds h ∙ rw (← hl, ← ha, ← hr, ← hb))
 
 -- what a rule chooses: its list l for the result, whose triggered field is g
-module _ (t : List ℕ) (r previous result l w g : ℕ) (hl : l ≡ listFor t r result) (hw : w ≡ listWord t l) (hg : g ≡ field 4 1 w) where
+module _ (t : List ℕ) (r previous result l g : ℕ) (hl : l ≡ listFor t r result) (hg : g ≡ triggered t l) where
   is-triggered : g ≡ triggered t (listFor t r result)
-  is-triggered = hg ∙ ap (field 4 1) (hw ∙ ap (listWord t) hl)
+  is-triggered = hg ∙ ap (triggered t) hl
 
   pub choice-starts : (eqb g 0 || not (eqb result previous)) ≡ true → l ≡ choice t r previous result
   unfolding choice

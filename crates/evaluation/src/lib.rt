@@ -17,8 +17,8 @@ use words::numbers::OPERATOR_OR;
 use words::numbers::OPERATOR_XOR;
 use words::sections::Layout;
 use words::sections::expression_word;
-use words::sections::list_word;
-use words::sections::rule_word;
+use words::sections::list_at;
+use words::sections::rule_at;
 use words::state;
 use words::table;
 use words::word;
@@ -124,8 +124,8 @@ pub fn unready(t: &[u32], h: Layout, s: &[u32], r: u32) -> bool
     requires { ⌜ Laid (now t) h ⌝ }
     ensures { λ b. ⌜ b ≡ unreadyOf (now (t .entry)) (now (s .entry)) r ⌝ }
 {
-    let w = rule_word(t, h, r);
-    mentions_undefined(t, h.expression0, s, table::rule_expression(w), 7)
+    let rule = rule_at(t, h, r);
+    mentions_undefined(t, h.expression0, s, rule.expression, 7)
 }
 
 // Rule r's result: 0 false, 1 true.
@@ -133,8 +133,8 @@ pub fn result(t: &[u32], h: Layout, s: &[u32], r: u32) -> u32
     requires { ⌜ Laid (now t) h ⌝ }
     ensures { λ n. ⌜ n ≡ resultIn (now (t .entry)) (now (s .entry)) r ⌝ }
 {
-    let w = rule_word(t, h, r);
-    words::raised(holds(t, h.expression0, s, table::rule_expression(w), 7))
+    let rule = rule_at(t, h, r);
+    words::raised(holds(t, h.expression0, s, rule.expression, 7))
 }
 
 // The list that rule r has for a result; 255 for none.
@@ -142,11 +142,12 @@ fn list_for(t: &[u32], h: Layout, r: u32, result: u32) -> u32
     requires { ⌜ Laid (now t) h ⌝ }
     ensures { λ l. ⌜ Field (listFor (now (t .entry)) r result) 256 l ⌝ }
 {
-    let w = rule_word(t, h, r);
+    let rule = rule_at(t, h, r);
     if result == 1 {
-        return table::true_list(w);
+        rule.true_list
+    } else {
+        rule.false_list
     }
-    table::false_list(w)
 }
 
 // The list that rule r starts by its result and the one before; 255 for none.
@@ -155,8 +156,8 @@ pub fn choice(t: &[u32], h: Layout, r: u32, previous: u32, result: u32) -> u32
     ensures { λ l. ⌜ Field (choiceOf (now (t .entry)) r previous result) 256 l ⌝ }
 {
     let l = list_for(t, h, r, result);
-    let triggered = table::list_triggered(list_word(t, h, l));
-    let starts = (triggered == 0) | (result != previous);
+    let list = list_at(t, h, l);
+    let starts = (list.triggered == 0) | (result != previous);
     if starts {
         return l;
     }

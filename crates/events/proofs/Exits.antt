@@ -11,7 +11,8 @@ use Rattle.rulebook.specs.Lists.{start}
 use Rattle.rulebook.specs.Arbitration.{arbitrate}
 use Rattle.rulebook.specs.Events.{eventKind, eventIndex, eventValue, only, request, tick, happen}
 use Rattle.rulebook.specs.Step.{finish, handle}
-use Rattle.lists.specs.Runs.{Ran}
+use Rattle.lists.specs.declared.Written.{Written}
+use Rattle.lists.specs.Runs.{Ran, nothing}
 use Rattle.things.specs.Requests.{Requested}
 use Rattle.things.proofs.Requests.{request-goes}
 use Rattle.things.proofs.Changes.{change-goes}
@@ -26,7 +27,7 @@ use Rattle.events.specs.declared.Answer.the-variants.{Done}
 use Rattle.events.specs.Answers.{numberOf, countOf, Told}
 
 -- a run that only changes the state
-pub ran-start : (s trace : List ℕ) → Ran (start s) s trace trace 0
+pub ran-start : (s trace : List ℕ) → Ran (start s) s trace trace nothing
 ran-start s trace = record { state = refl; words = refl; count = refl }
 
 -- Requests.
@@ -63,9 +64,10 @@ module _ (t s trace : List ℕ) (e : ℕ) (h : EventCheck) (is : h ≡ eventChec
   pub told-refused : (r : Answer) → eqb (answerOf h) 0 ≡ false → numberOf r ≡ answerOf h → countOf r ≡ 0 → Told (handle t s e) trace r s trace
   told-refused r z a c = rw (handle-refused t e s h is z) (record { answer = a; count = c; state = refl; words = refl })
 
-  pub told-done : (n : ℕ) (s′ trace′ : List ℕ) → eqb (answerOf h) 0 ≡ true → happen t e s .deep ≡ false → Ran (happen t e s) s′ trace trace′ n → Told (handle t s e) trace (Done (record { count = n })) s′ trace′
+  pub told-done : (w : Written) (s′ trace′ : List ℕ) → eqb (answerOf h) 0 ≡ true → happen t e s .deep ≡ false → Ran (happen t e s) s′ trace trace′ w
+      → Told (handle t s e) trace (Done w) s′ trace′
   unfolding finish
-  told-done n s′ trace′ z d r = rw (handle-taken t e s h is z, d) (record { answer = refl; count = r .count; state = r .state; words = r .words })
+  told-done w s′ trace′ z d r = rw (handle-taken t e s h is z, d) (record { answer = refl; count = r .count; state = r .state; words = r .words })
 
 -- what `let .. else` knows of an answer that is not `Taken`: its variant is one of the others
 abbrev others : List ℕ

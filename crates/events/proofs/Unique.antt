@@ -29,7 +29,8 @@ back Malformed = refl
 back NoSuchThing = refl
 back NotItsOwner = refl
 
-pub one-answer : (x : Result) (trace : List ℕ) (r₁ r₂ : Answer) (s₁ s₂ w₁ w₂ : List ℕ) → Told x trace r₁ s₁ w₁ → Told x trace r₂ s₂ w₂ → (r₁ ≡ r₂) × (s₁ ≡ s₂) × (w₁ ≡ w₂)
+pub one-answer : (x : Result) (trace : List ℕ) (r₁ r₂ : Answer) (s₁ s₂ w₁ w₂ : List ℕ) → Told x trace r₁ s₁ w₁ → Told x trace r₂ s₂ w₂
+    → (r₁ ≡ r₂) × (s₁ ≡ s₂) × (w₁ ≡ w₂)
 one-answer x trace r₁ r₂ s₁ s₂ w₁ w₂ a b = (
   sym (back r₁) ∙ ap₂ answering (a .answer ∙ sym (b .answer)) (a .count ∙ sym (b .count)) ∙ back r₂,
   a .state ∙ sym (b .state),

@@ -1,6 +1,6 @@
 -- A run goes along a lent trace: its words so far fill the front of the trace, and what is still to run gets the rest of it. One
 -- invariant for every loop and every call on the tail of a trace, with its start, next and end. Assumes nothing.
-use Prim.Native.Nat.{ℕ, _+_, _-_, _≤_}
+use Prim.Native.Nat.{ℕ, _+_, _-_, _≤_, _<_}
 use mathlib.Core.Path.{_≡_, refl, sym, ap, _∙_}
 use mathlib.Core.Bool.{false}
 use mathlib.Core.List.{List, [], _++_, append-assoc, append-nil}
@@ -11,17 +11,18 @@ use borrow.Rule.Slice.PartMut.{midOf, putMid}
 use Rattle.rulebook.specs.Lists.{Run, start}
 use Rattle.laws.proofs.Tests.{or-none}
 use Rattle.laws.proofs.Frame.{Framed}
-use Rattle.lists.specs.Runs.{Safe, Ran}
+use Rattle.lists.specs.declared.Written.{Written}
+use Rattle.lists.specs.Runs.{Safe, Ran, Addable, nothing, plus}
 
 -- the run so far: the state s, and as its words the first `at` of the trace T
 abbrev pub sofar : List ℕ → List ℕ → ℕ → Run
 sofar s T at = record { state = s; words = take at T; deep = false }
 
--- The whole run is `rest` of the run so far; from `at` on the trace is as it was.
-pub record Along (whole : Run) (rest : Run → Run) (before s T : List ℕ) (at : ℕ) : Type 0 where
-  pub run : whole ≡ rest (sofar s T at)
-  pub kept : drop at T ≡ drop at before
-  pub inside : at ≤ length T
+-- The whole run is `rest` of the run so far, which has written w; from there on the trace is as it was.
+pub record Along (whole : Run) (rest : Run → Run) (before s T : List ℕ) (w : Written) : Type 0 where
+  pub run : whole ≡ rest (sofar s T (w .count))
+  pub kept : drop (w .count) T ≡ drop (w .count) before
+  pub inside : w .count ≤ length T
   pub long : length T ≡ length before
 
 same-run : (x : Run) (s w : List ℕ) → x .state ≡ s → x .words ≡ w → x .deep ≡ false → x ≡ record { state = s; words = w; deep = false }
@@ -35,7 +36,8 @@ module _ (whole : Run) (rest : Run → Run) (framed : Framed rest) (x : Run) (ru
   begin-room : length (x .words) ≤ length before
   begin-room =
       let a : length (whole .words) ≤ length before = safe .room in
-      let b : length (whole .words) ≡ length (x .words) + length (rest (start (x .state)) .words) = ap length begin-words ∙ length-append (x .words) (rest (start (x .state)) .words) in
+      let b : length (whole .words) ≡ length (x .words) + length (rest (start (x .state)) .words) =
+      ap length begin-words ∙ length-append (x .words) (rest (start (x .state)) .words) in
       omega arith
 
   begin-shallow : x .deep ≡ false
@@ -45,46 +47,57 @@ module _ (whole : Run) (rest : Run → Run) (framed : Framed rest) (x : Run) (ru
   begin-safe = record { room = begin-room; shallow = begin-shallow }
 
 -- nothing has run yet
-pub along-none : (whole : Run) (rest : Run → Run) (s T : List ℕ) → whole ≡ rest (start s) → Along whole rest T s T 0
+pub along-none : (whole : Run) (rest : Run → Run) (s T : List ℕ) → whole ≡ rest (start s) → Along whole rest T s T nothing
 along-none whole rest s T h = record { run = h; kept = refl; inside = omega arith; long = refl }
 
 -- what is still to run may be said in another way
-pub along-as : (whole : Run) (rest other : Run → Run) (before s T : List ℕ) (at : ℕ) → ((x : Run) → rest x ≡ other x)
-    → Along whole rest before s T at → Along whole other before s T at
-along-as whole rest other before s T at h a =
-    record { run = a .run ∙ h (sofar s T at); kept = a .kept; inside = a .inside; long = a .long }
+pub along-as : (whole : Run) (rest other : Run → Run) (before s T : List ℕ) (w : Written) → ((x : Run) → rest x ≡ other x)
+    → Along whole rest before s T w → Along whole other before s T w
+along-as whole rest other before s T w h a =
+    record { run = a .run ∙ h (sofar s T (w .count)); kept = a .kept; inside = a .inside; long = a .long }
 
 -- nothing is left to run
-pub along-end : (whole : Run) (rest : Run → Run) (before s T : List ℕ) (at : ℕ) → ((x : Run) → rest x ≡ x) → Along whole rest before s T at
-    → Ran whole s before T at
-along-end whole rest before s T at h a =
-    let e : whole ≡ sofar s T at = a .run ∙ h (sofar s T at) in
-    let n : length (take at T) ≡ at = length-take-le at T (a .inside) in
+pub along-end : (whole : Run) (rest : Run → Run) (before s T : List ℕ) (w : Written) → ((x : Run) → rest x ≡ x) → Along whole rest before s T w
+    → Ran whole s before T w
+along-end whole rest before s T w h a =
+    let e : whole ≡ sofar s T (w .count) = a .run ∙ h (sofar s T (w .count)) in
+    let n : length (take (w .count) T) ≡ w .count = length-take-le (w .count) T (a .inside) in
     rw e
     (record {
       state = refl;
-      words = rw (n, ← a .kept) (sym (take-append-drop at T));
+      words = rw (n, ← a .kept) (sym (take-append-drop (w .count) T));
       count = sym n;
     })
 
+-- what was written in two parts is counted in 64 bits, for the trace is
+pub along-addable : (whole : Run) (rest : Run → Run) (before s T : List ℕ) (a b : Written) → Along whole rest before s T (plus a b)
+    → length before < 18446744073709551616 → Addable a b
+along-addable whole rest before s T a b x h = record { count = omega (arith, x .inside, x .long) }
+
 -- a first part has run on the whole trace
-pub along-ran : (whole : Run) (rest : Run → Run) → Framed rest → (x : Run) → whole ≡ rest x → (before s T : List ℕ) (n : ℕ) → Safe whole before
-    → Ran x s before T n → Along whole rest before s T n
-along-ran whole rest framed x run before s T n safe r =
-    let m : length (x .words) ≡ n = sym (r .count) in
+pub along-ran : (whole : Run) (rest : Run → Run) → Framed rest → (x : Run) → whole ≡ rest x → (before s T : List ℕ) (w : Written) → Safe whole before
+    → Ran x s before T w → Along whole rest before s T w
+along-ran whole rest framed x run before s T w safe r =
+    let m : length (x .words) ≡ w .count = sym (r .count) in
     let room : length (x .words) ≤ length before = begin-room whole rest framed x run before safe in
-    let e : T ≡ x .words ++ drop n before = r .words ∙ ap (λ (k : ℕ). x .words ++ drop k before) m in
-    let l : length T ≡ length (x .words) + (length before - n) = ap length e ∙ length-append (x .words) (drop n before) ∙ ap (λ (k : ℕ). length (x .words) + k) (length-drop n before) in
+    let e : T ≡ x .words ++ drop (w .count) before = r .words ∙ ap (λ (k : ℕ). x .words ++ drop k before) m in
+    let l : length T ≡ length (x .words) + (length before - w .count) =
+    ap length e ∙ length-append (x .words) (drop (w .count) before) ∙ ap (λ (k : ℕ). length (x .words) + k) (length-drop (w .count) before) in
     record {
-      run = run ∙ ap rest (same-run x s (take n T) (sym (r .state)) (sym (ap (take n) e ∙ take-at (x .words) (drop n before) n m)) (begin-shallow whole rest framed x run before safe));
-      kept = ap (drop n) e ∙ drop-at (x .words) (drop n before) n m;
+      run = run
+          ∙ ap rest (same-run x s (take (w .count) T) (sym (r .state))
+          (sym (ap (take (w .count)) e ∙ take-at (x .words) (drop (w .count) before) (w .count) m)) (begin-shallow whole rest framed x run before safe));
+      kept = ap (drop (w .count)) e ∙ drop-at (x .words) (drop (w .count) before) (w .count) m;
       inside = omega arith;
       long = omega arith;
     }
 
--- f is next, on the part of the trace from `at` on, and `rest` comes after it
-module _ (whole : Run) (f rest : Run → Run) (ff : Framed f) (fr : Framed rest) (before s T : List ℕ) (at : ℕ)
-    (a : Along whole (λ x. rest (f x)) before s T at) (safe : Safe whole before) where
+-- f is next, on the part of the trace behind what w counts, and `rest` comes after it
+module _ (whole : Run) (f rest : Run → Run) (ff : Framed f) (fr : Framed rest) (before s T : List ℕ) (w : Written)
+    (a : Along whole (λ x. rest (f x)) before s T w) (safe : Safe whole before) where
+  abbrev at : ℕ
+  at = w .count
+
   abbrev part : List ℕ
   part = midOf at (length T - at) T
 
@@ -106,7 +119,8 @@ module _ (whole : Run) (f rest : Run → Run) (ff : Framed f) (fr : Framed rest)
   next-room : at + length (f (start s) .words) ≤ length T
   next-room =
       let r : length (f (sofar s T at) .words) ≤ length before = begin-room whole rest fr (f (sofar s T at)) (a .run) before safe in
-      let e : length (f (sofar s T at) .words) ≡ length (take at T) + length (f (start s) .words) = ap length next-words ∙ length-append (take at T) (f (start s) .words) in
+      let e : length (f (sofar s T at) .words) ≡ length (take at T) + length (f (start s) .words) =
+      ap length next-words ∙ length-append (take at T) (f (start s) .words) in
       let k = front in
       let g = a .long in
       omega arith
@@ -118,7 +132,10 @@ module _ (whole : Run) (f rest : Run → Run) (ff : Framed f) (fr : Framed rest)
         shallow = next-shallow;
       }
 
-  module _ (s' part' : List ℕ) (n : ℕ) (r : Ran (f (start s)) s' part part' n) where
+  module _ (s' part' : List ℕ) (v : Written) (r : Ran (f (start s)) s' part part' v) where
+    abbrev n : ℕ
+    n = v .count
+
     m : length (f (start s) .words) ≡ n
     m = sym (r .count)
 
@@ -133,13 +150,18 @@ module _ (whole : Run) (f rest : Run → Run) (ff : Framed f) (fr : Framed rest)
         (sym (append-assoc (take at T) (f (start s) .words) (drop (at + n) T))))
 
     done-long : length done ≡ at + n
-    done-long = let e : length done ≡ length (take at T) + length (f (start s) .words) = length-append (take at T) (f (start s) .words) in let k = front in let j = m in omega arith
+    done-long =
+        let e : length done ≡ length (take at T) + length (f (start s) .words) = length-append (take at T) (f (start s) .words) in
+        let k = front in
+        let j = m in
+        omega arith
 
-    pub next : Along whole rest before s' (putMid at (length T - at) T part') (at + n)
+    pub next : Along whole rest before s' (putMid at (length T - at) T part') (plus w v)
     next =
         let room = next-room in
         let j = m in
-        let l : length (done ++ drop (at + n) T) ≡ length done + (length T - (at + n)) = length-append done (drop (at + n) T) ∙ ap (λ (k : ℕ). length done + k) (length-drop (at + n) T) in
+        let l : length (done ++ drop (at + n) T) ≡ length done + (length T - (at + n)) =
+        length-append done (drop (at + n) T) ∙ ap (λ (k : ℕ). length done + k) (length-drop (at + n) T) in
         let d = done-long in
         let g = a .long in
         rw whole-again

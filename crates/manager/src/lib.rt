@@ -16,7 +16,7 @@ pub fn check_table(t: &[u32]) -> Checked
 pub fn state_words(t: &[u32]) -> usize
     ensures { λ r. ⌜ CountsWords (now (t .entry)) r ⌝ }
 {
-    states::state_length(t, words::sections::read_layout(t))
+    words::state::length(t, words::sections::read_layout(t))
 }
 
 // Makes a fresh state in the lent words, or refuses and writes nothing.

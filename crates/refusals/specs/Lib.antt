@@ -1,3 +1,2 @@
 -- What the contracts of the refusals cite beside the rulebook.
-pub mod Things
 pub mod Answers

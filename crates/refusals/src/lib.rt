@@ -4,8 +4,8 @@ ghost use Rattle.rulebook.specs.State.{ownerOf};
 ghost use Rattle.rulebook.specs.Step.{wellFormed, named as namedOf, present as presentOf, suited as suitedOf};
 ghost use Rattle.rulebook.specs.Step.{known as knownOf, sentByOwner};
 ghost use Rattle.words.specs.Sections.{Laid};
+ghost use Rattle.words.specs.State.{thingOf};
 ghost use Rattle.refusals.specs.Answers.{passes, eventChecked};
-ghost use Rattle.refusals.specs.Things.{thingOf};
 use names::held;
 use words::numbers::EVENT_BUS_OFF;
 use words::numbers::EVENT_CLEAR;
@@ -16,17 +16,11 @@ use words::numbers::PORT_EVENT;
 use words::numbers::PORT_MODE;
 use words::sections;
 use words::sections::Layout;
-use words::table;
+use words::state::Thing;
 
 pub mod event;
 
-// The thing that an event other than a tick names.
-enum Thing {
-    Port(u32),
-    Network(u32),
-    Source(u32),
-}
-
+// The thing that an event other than a tick names. No event names a rule.
 fn named(e: u32) -> Thing
     ensures { λ r. ⌜ thingOf r ≡ namedOf e ⌝ }
 {
@@ -47,10 +41,12 @@ fn present(t: &[u32], h: Layout, thing: Thing) -> bool
     ensures { λ r. ⌜ r ≡ presentOf (now (t .entry)) (thingOf thing) ⌝ }
 {
     let ports = h.ports;
+    let rules = h.rules;
     let networks = h.networks;
     let sources = h.sources;
     match thing {
         Thing::Port(p) => p < ports,
+        Thing::Rule(r) => r < rules,
         Thing::Network(n) => n < networks,
         Thing::Source(k) => k < sources,
     }
@@ -61,9 +57,10 @@ fn owner(t: &[u32], h: Layout, thing: Thing) -> u32
     ensures { λ r. ⌜ r ≡ ownerOf (now (t .entry)) (thingOf thing) ⌝ }
 {
     match thing {
-        Thing::Port(p) => table::port_owner(sections::port_word(t, p)),
-        Thing::Network(n) => table::network_owner(sections::network_word(t, h, n)),
-        Thing::Source(k) => table::source_owner(sections::source_word(t, h, k)),
+        Thing::Port(p) => sections::port_at(t, p).owner,
+        Thing::Rule(r) => sections::rule_at(t, h, r).owner,
+        Thing::Network(n) => sections::network_at(t, h, n).owner,
+        Thing::Source(k) => sections::source_at(t, h, k).owner,
     }
 }
 
@@ -74,13 +71,13 @@ fn suited(t: &[u32], h: Layout, e: u32) -> bool
 {
     let kind = event::kind(e);
     let p = event::index(e);
-    let port_kind = table::port_kind(sections::port_word(t, p));
+    let port = sections::port_at(t, p);
     if kind == EVENT_MODE {
         let taken = held(t, h, p, h.networks, h.sources);
-        return (port_kind == PORT_MODE) & !taken;
+        return (port.kind == PORT_MODE) & !taken;
     }
     if kind == EVENT_REQUEST {
-        return port_kind == PORT_EVENT;
+        return port.kind == PORT_EVENT;
     }
     true
 }

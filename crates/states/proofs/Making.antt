@@ -11,32 +11,17 @@ use lib.Seq.{ext-getD}
 use types.Run.{OneOf, miss}
 use denote.Enum.Declared.{tagOf}
 use borrow.Author.Tests.{eq-eqb, ne-eqb}
-use Rattle.rulebook.specs.Words.{field}
-use Rattle.rulebook.specs.Table.{portWord, portKind, hasInitial}
 use Rattle.rulebook.specs.Reasons.{check, accepted}
-use Rattle.rulebook.specs.State.{Thing, thing, packPort, freshPort, freshThing, freshAt, fresh, freshAnswer, freshState, stateLength}
+use Rattle.rulebook.specs.State.{Thing, thing, freshThing, freshAt, fresh, freshAnswer, freshState, stateLength}
 use Rattle.walks.proofs.Walks.{length-listed, getD-listed}
 use Rattle.tables.specs.declared.Checked.{Checked}
-use Rattle.tables.specs.declared.Checked.the-variants.{Accepted, TooShort, WrongEdition, WrongCounts, WrongLength as LengthDiffers, Misfit, Misnamed, TooDeep, OwnersClash, TooDear}
+use Rattle.tables.specs.declared.Checked.the-variants.{Accepted, TooShort, WrongEdition, WrongCounts, WrongLength as LengthDiffers, Misfit, Misnamed}
+use Rattle.tables.specs.declared.Checked.the-variants.{TooDeep, OwnersClash, TooDear}
 use Rattle.tables.proofs.Checked.{the-type}
 use Rattle.tables.specs.Finding.{Finding as Told, finding as told, promised}
 use Rattle.states.specs.declared.Made.{Made}
 use Rattle.states.specs.declared.Made.the-variants.{Done, BadTable, WrongLength}
 use Rattle.states.specs.Made.{numberOf, Fresh}
-
--- port p has the word w, of kind k, with has-initial i and initial v
-module _ (t : List ℕ) (p w k i v : ℕ) (hw : w ≡ portWord t p) (hk : k ≡ field 0 2 w) (hi : i ≡ field 3 1 w) (hv : v ≡ field 8 8 w) where
-  pub port-initial : i ≡ 1 → packPort 1 0 v 0 ≡ freshPort t p
-  unfolding freshPort
-  port-initial e = rw (eq-eqb (hasInitial t p) 1 (sym (hi ∙ ap (field 3 1) hw) ∙ e), hv, hw)
-
-  pub port-undefined : (i ≡ 1 → ⊥) → k ≡ 0 → packPort 0 0 0 0 ≡ freshPort t p
-  unfolding freshPort
-  port-undefined f e = rw (ne-eqb (hasInitial t p) 1 (rw (hi ∙ ap (field 3 1) hw) at f), eq-eqb (portKind t p) 0 (sym (hk ∙ ap (field 0 2) hw) ∙ e))
-
-  pub port-defined : (i ≡ 1 → ⊥) → (k ≡ 0 → ⊥) → packPort 1 0 0 0 ≡ freshPort t p
-  unfolding freshPort
-  port-defined f g = rw (ne-eqb (hasInitial t p) 1 (rw (hi ∙ ap (field 3 1) hw) at f), ne-eqb (portKind t p) 0 (rw (hk ∙ ap (field 0 2) hw) at g))
 
 pub fresh-here : (t : List ℕ) (i w : ℕ) (x : Thing) → w ≡ freshThing t x → x ≡ thing t i → w ≡ freshAt t i
 unfolding freshAt

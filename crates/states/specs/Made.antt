@@ -2,9 +2,17 @@
 use Prim.Native.Nat.{ℕ}
 use mathlib.Core.Path.{_≡_}
 use mathlib.Core.List.{List}
-use Rattle.rulebook.specs.State.{freshAnswer, freshState}
+use lib.ListN.{length}
+use Rattle.rulebook.specs.State.{freshAnswer, freshState, stateLength}
+use Rattle.words.specs.declared.sections.Layout.{Layout}
+use Rattle.words.specs.Sections.{Laid}
 use Rattle.states.specs.declared.Made.{Made}
 use Rattle.states.specs.declared.Made.the-variants.{Done, BadTable, WrongLength}
+
+-- asked before the words of a fresh state are written: the lent state has a word for each
+pub record OfLength (t : List ℕ) (h : Layout) (s : List ℕ) : Type 0 where
+  pub laid : Laid t h
+  pub long : length s ≡ stateLength t
 
 abbrev pub numberOf : Made → ℕ
 numberOf Done = 0

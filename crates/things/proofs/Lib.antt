@@ -1,4 +1,3 @@
 -- Laws that belong to no one function.
-pub mod Parts
 pub mod Requests
 pub mod Changes

@@ -1,4 +1,3 @@
 -- What the contracts of the things cite beside the rulebook.
-pub mod Networks
 pub mod Requests
 pub mod Changes

@@ -1,13 +1,9 @@
 // Networks: what a bus-off, a tick and a request for a mode do to one. A network is handed on by value, by its named fields.
 ghost use mathlib.Core.Path.{_≡_};
-ghost use Prim.Native.Nat.{_+_, min};
-ghost use Rattle.rulebook.specs.State.{networkIndex};
-ghost use Rattle.rulebook.specs.Lists.{networkIn, setNetwork};
 ghost use Rattle.rulebook.specs.Events.{shown as shownOf, moved as movedOf, moveNetwork, takes as takesOf, wait as waitOf, offBus};
-ghost use Rattle.rulebook.specs.Events.{busOff, countedNetwork, tickedNetwork, tickNetwork};
+ghost use Rattle.rulebook.specs.Events.{counterPlusOne, busOff, countedNetwork, tickedNetwork, tickNetwork};
 ghost use Rattle.words.specs.Sections.{Laid};
-ghost use Rattle.things.specs.Networks.{networkAs};
-use crate::ports::set_port;
+ghost use Rattle.words.specs.State.{networkAs};
 use words::numbers::ASKED_FULL;
 use words::numbers::ASKED_NONE;
 use words::numbers::ASKED_SILENT;
@@ -16,54 +12,13 @@ use words::numbers::STATE_FULL;
 use words::numbers::STATE_NONE;
 use words::numbers::STATE_RECOVER;
 use words::numbers::STATE_SILENT;
-use words::put;
-use words::sections;
 use words::sections::Layout;
-use words::state;
-use words::table;
-use words::word;
-
-pub struct Network {
-    pub asked: u32,
-    pub state: u32,
-    pub counter: u32,
-    pub remaining: u32,
-}
-
-// Where network n's word stands in the state. The table stands here for the proof alone.
-fn network_index(t: &[u32], h: Layout, n: u32) -> usize
-    requires { ⌜ Laid (now t) h ⌝ }
-    ensures { λ r. ⌜ r ≡ networkIndex (now (t .entry)) n ⌝ }
-{
-    h.ports as usize + h.rules as usize + n as usize
-}
-
-pub fn network_in(t: &[u32], h: Layout, s: &[u32], n: u32) -> Network
-    requires { ⌜ Laid (now t) h ⌝ }
-    ensures { λ r. ⌜ networkAs r ≡ networkIn (now (t .entry)) n (now (s .entry)) ⌝ }
-{
-    let i = network_index(t, h, n);
-    let w = word(s, i);
-    let asked = state::asked(w);
-    let state = state::network_state(w);
-    let counter = state::counter(w);
-    let remaining = state::remaining(w);
-    Network {
-        asked,
-        state,
-        counter,
-        remaining,
-    }
-}
-
-pub fn set_network(t: &[u32], h: Layout, s: &mut [u32], n: u32, c: Network)
-    requires { ⌜ Laid (now t) h ⌝ }
-    ensures { λ _. ⌜ now (s .exit) ≡ setNetwork (now (t .entry)) n (networkAs c) (now (s .entry)) ⌝ }
-{
-    let i = network_index(t, h, n);
-    let w = state::pack_network(c.asked, c.state, c.counter, c.remaining);
-    put(s, i, w);
-}
+use words::sections::network_at;
+use words::sections::waits_at;
+use words::state::Network;
+use words::state::network_in;
+use words::state::set_network;
+use words::state::set_port;
 
 // The same network in another state; what it is asked for stays.
 fn moved(state: u32, counter: u32, remaining: u32, c: Network) -> Network
@@ -102,8 +57,8 @@ fn move_network(t: &[u32], h: Layout, s: &mut [u32], n: u32, c: Network)
     if shows == showed {
         return;
     }
-    let port = table::network_port(sections::network_word(t, h, n));
-    set_port(s, port, 1, shows, 0);
+    let network = network_at(t, h, n);
+    set_port(s, network.port, 1, shows, 0);
 }
 
 // Whether a bus-off is taken: in check or full alone.
@@ -115,9 +70,10 @@ fn takes(c: Network) -> bool
 }
 
 // The counter after one bus-off more, held at 255.
-fn counted_up(counter: u32) -> u32
-    ensures { λ r. ⌜ r ≡ min 255 (counter + 1) ⌝ }
+fn counted_up(c: Network) -> u32
+    ensures { λ r. ⌜ r ≡ counterPlusOne (networkAs c) ⌝ }
 {
+    let counter = c.counter;
     if counter < 255 { counter + 1 } else { 255 }
 }
 
@@ -126,11 +82,13 @@ fn wait(t: &[u32], h: Layout, n: u32, counter: u32) -> u32
     requires { ⌜ Laid (now t) h ⌝ }
     ensures { λ r. ⌜ r ≡ waitOf (now (t .entry)) n counter ⌝ }
 {
-    let threshold = table::network_threshold(sections::network_word(t, h, n));
-    let waits = sections::waits_word(t, h, n);
-    let l1 = table::l1(waits);
-    let l2 = table::l2(waits);
-    if counter <= threshold { l1 } else { l2 }
+    let network = network_at(t, h, n);
+    let waits = waits_at(t, h, n);
+    if counter <= network.threshold {
+        waits.l1
+    } else {
+        waits.l2
+    }
 }
 
 fn off_bus(t: &[u32], h: Layout, n: u32, counter: u32, c: Network) -> Network
@@ -147,7 +105,7 @@ pub fn bus_off(t: &[u32], h: Layout, s: &mut [u32], n: u32)
 {
     let c = network_in(t, h, s, n);
     if takes(c) {
-        let counter = counted_up(c.counter);
+        let counter = counted_up(c);
         let off = off_bus(t, h, n, counter, c);
         move_network(t, h, s, n, off);
     }
@@ -162,8 +120,8 @@ fn counted_network(t: &[u32], h: Layout, n: u32, c: Network) -> Network
     let remaining = c.remaining;
     if state == STATE_RECOVER {
         if remaining <= 1 {
-            let e_ticks = table::e_ticks(sections::waits_word(t, h, n));
-            return moved(STATE_CHECK, c.counter, e_ticks, c);
+            let waits = waits_at(t, h, n);
+            return moved(STATE_CHECK, c.counter, waits.e_ticks, c);
         }
         return moved(STATE_RECOVER, c.counter, remaining - 1, c);
     }
@@ -192,8 +150,8 @@ fn ticked_network(t: &[u32], h: Layout, n: u32, c: Network) -> Network
     }
     let opened = (asked == ASKED_FULL) & ((state == STATE_NONE) | (state == STATE_SILENT));
     if opened {
-        let e_ticks = table::e_ticks(sections::waits_word(t, h, n));
-        return moved(STATE_CHECK, 0, e_ticks, c);
+        let waits = waits_at(t, h, n);
+        return moved(STATE_CHECK, 0, waits.e_ticks, c);
     }
     counted_network(t, h, n, c)
 }

@@ -2,3 +2,4 @@
 pub mod Places
 pub mod Fill
 pub mod Items
+pub mod Things

@@ -3,3 +3,4 @@ pub mod Field
 pub mod Sections
 pub mod Flags
 pub mod Parts
+pub mod State

@@ -1,10 +1,10 @@
 // Words: the fields of one, and reading and writing of lent words that never fails.
 ghost use mathlib.Core.Bool.{cond};
 ghost use mathlib.Core.Path.{_≡_};
-ghost use Prim.Native.Nat.{_<_};
+ghost use Prim.Native.Nat.{max};
 ghost use lib.ListN.{set};
 ghost use Rattle.rulebook.specs.Words.{digit, word as wordOf};
-ghost use Rattle.words.specs.Field.{Field};
+ghost use Rattle.words.specs.Field.{Field, Sized};
 ghost use Rattle.words.specs.Flags.{flagged};
 
 pub mod numbers;
@@ -14,8 +14,8 @@ pub mod state;
 pub mod table;
 
 // `digit` of the rulebook: how many whole units w has, beyond whole multiples of `size` of them.
-fn field(w: u32, unit: u32, size: u32) -> u32
-    requires { ⌜ (0 < unit) × (0 < size) ⌝ }
+pub fn field(w: u32, unit: u32, size: u32) -> u32
+    requires { ⌜ Sized unit size ⌝ }
     ensures { λ r. ⌜ Field (digit unit size w) size r ⌝ }
 {
     w / unit % size
@@ -50,4 +50,10 @@ pub fn raised(up: bool) -> u32
     ensures { λ r. ⌜ r ≡ cond up 1 0 ⌝ }
 {
     if up { 1 } else { 0 }
+}
+
+pub fn larger(a: u32, b: u32) -> u32
+    ensures { λ r. ⌜ r ≡ max a b ⌝ }
+{
+    if a < b { b } else { a }
 }

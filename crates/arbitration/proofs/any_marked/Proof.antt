@@ -1,12 +1,13 @@
 -- `arbitration::any_marked` meets its contract. The loop's invariant: what the whole walk gives is what the rest of it gives. Assumes nothing.
 use Prim.Native.Nat.{_-_}
 use mathlib.Core.Path.{_≡_, sym, _∙_}
-use native.Mathlib.Omega.{arith}
 use native.Mathlib.Nat.{sub-zero}
 use Rattle.rulebook.specs.Words.{any}
 use Rattle.rulebook.specs.Table as Table
 use Rattle.rulebook.specs.Events.{markedIn}
 use Rattle.walks.proofs.Walks.{any-turn, any-here, any-end}
+use native.Mathlib.Omega.{arith}
+use borrow.Author.Needs.{needs}
 use Rattle.arbitration.proofs.any_marked.Statement.{statement}
 use Rattle.arbitration.proofs.any_marked.Tie as tie
 
@@ -19,11 +20,11 @@ abbrev μ-loop : tie.MeasureT-loop
 loop-holds : tie.Need-loop-holds Inv-loop μ-loop
 loop-holds c = rw sub-zero
 
-is-marked-requires : tie.Need-is-marked-requires Inv-loop μ-loop
-is-marked-requires c κs = c .before .before .before .before .pre
-
 returns : tie.Need-returns Inv-loop μ-loop
-returns c = sym (c .before .before .before .loop .inv ∙ any-here _ _ _ (omega (arith, c .before .before .loop-test .taken, c .before .before .before .before .before .before .pre .ports .value)) (sym (c .before .is-marked .ensures) ∙ c .if1 .taken))
+returns c =
+    sym (c .before .before .before .loop .inv ∙ any-here _ _ _
+    (omega (arith, c .before .before .loop-test .taken, c .before .before .before .before .before .before .pre .ports .value))
+    (sym (c .before .is-marked .ensures) ∙ c .if1 .taken))
 
 add-p : tie.Need-add-p Inv-loop μ-loop
 add-p c = omega (arith, c .before .before .loop-test .taken, c .before .before .before .before .before .before .pre .ports .small)
@@ -32,21 +33,14 @@ loop-less : tie.Need-loop-less Inv-loop μ-loop
 loop-less c = omega (arith, c .before .before .loop-test .taken)
 
 loop-again : tie.Need-loop-again Inv-loop μ-loop
-loop-again c = c .before .before .before .loop .inv ∙ any-turn _ _ _ (omega (arith, c .before .before .loop-test .taken, c .before .before .before .before .before .before .pre .ports .value)) (sym (c .before .is-marked .ensures) ∙ c .if1 .left)
+loop-again c =
+    c .before .before .before .loop .inv ∙ any-turn _ _ _
+    (omega (arith, c .before .before .loop-test .taken, c .before .before .before .before .before .before .pre .ports .value))
+    (sym (c .before .is-marked .ensures) ∙ c .if1 .left)
 
 returns-2 : tie.Need-returns-2 Inv-loop μ-loop
 returns-2 c = sym (c .before .loop .inv ∙ any-end _ _ _ (omega (arith, c .loop-test .left, c .before .before .before .before .pre .ports .value)))
 
 pub any-marked-spec : {M : Type 1} → statement M
 any-marked-spec =
-    tie.close
-    (tie.spec
-    Inv-loop
-    μ-loop
-    loop-holds
-    is-marked-requires
-    returns
-    add-p
-    loop-less
-    loop-again
-    returns-2)
+    tie.close (tie.spec Inv-loop μ-loop loop-holds (λ c κs. search needs) returns add-p loop-less loop-again returns-2)

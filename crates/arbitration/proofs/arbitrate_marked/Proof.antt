@@ -11,29 +11,38 @@ use borrow.Author.Needs.{needs}
 use Rattle.arbitration.proofs.arbitrate_marked.Statement.{statement}
 use Rattle.arbitration.proofs.arbitrate_marked.Tie as tie
 
+abbrev entry : tie.After-arbitrate-arg2 → tie.Start
+entry c = c .before .before .before .before .before .before .before .before .before .before .before .before .before
+
+abbrev entry-2 : tie.After-slice-known4 → tie.Start
+entry-2 c = entry (c .before .before .before .before .before)
+
+abbrev after-flag-marked : tie.After-slice-known4 → tie.After-flag-marked
+after-flag-marked c = c .before .before .before .before .before .before .before .before .before
+
 returns : tie.Need-returns
 unfolding arbitrateMarked
-returns c = nothing-marked _ _ _ (sym (c .before .any-marked .ensures) ∙ not-true _ (c .if1 .taken))
+returns c = rw (c .nothing .ensures) (nothing-marked _ _ _ (sym (c .before .before .any-marked .ensures) ∙ not-true _ (c .before .if1 .taken)))
 
 arbitrate-requires : tie.Need-arbitrate-requires
 unfolding arbitrateMarked
-arbitrate-requires c κs = (c .before .before .before .before .before .before .before .before .before .before .before .before .before .pre .0, c .before .before .before .before .before .before .before .before .before .before .before .before .before .pre .1, safe-as _ _ _ (ap (λ (q : ℕ → Bool). arbitrate (c .before .before .before .before .before .before .before .before .before .before .before .before .before .args .t .now) q (c .before .before .before .before .before .before .before .before .before .before .before .before .before .args .s .now)) (sym (marked-are _ _ _ (c .before .before .before .before .flag-marked .ensures)))) (c .before .before .before .before .before .before .before .before .before .before .before .before .before .pre .2))
+arbitrate-requires c κs =
+    record {
+      laid = entry c .pre .laid;
+      few = entry c .pre .few;
+      safe = safe-as _ _ _ (ap (λ (q : ℕ → Bool). arbitrate (entry c .args .t .now) q (entry c .args .s .now))
+          (sym (marked-are _ _ _ (c .before .before .before .before .flag-marked .ensures)))) (entry c .pre .safe);
+    }
 
 returns-2 : tie.Need-returns-2
 unfolding arbitrateMarked
-returns-2 c = ran-as _ _ _ _ _ _ (ap (λ (q : ℕ → Bool). arbitrate (c .before .before .before .before .before .before .before .before .before .before .before .before .before .before .before .before .before .before .args .t .now) q (c .before .before .before .before .before .before .before .before .before .before .before .before .before .before .before .before .before .before .args .s .now)) (sym (marked-are _ _ _ (c .before .before .before .before .before .before .before .before .before .flag-marked .ensures)))) (c .before .before .before .before .arbitrate .ensures)
+returns-2 c =
+    ran-as _ _ _ _ _ _ (ap (λ (q : ℕ → Bool). arbitrate (entry-2 c .args .t .now) q (entry-2 c .args .s .now))
+    (sym (marked-are _ _ _ (after-flag-marked c .flag-marked .ensures)))) (c .before .before .before .before .arbitrate .ensures)
 
 pub arbitrate-marked-spec : {M : Type 1} → statement M
 arbitrate-marked-spec =
     tie.close
     (tie.spec
-    (λ c κs. search needs)
-    (λ c. search needs)
-    returns
-    (λ c. search needs)
-    (λ c κs. search needs)
-    (λ c. search needs)
-    arbitrate-requires
-    (λ c. search needs)
-    (λ c. search needs)
-    returns-2)
+    (λ c κs. search needs) (λ c κs. search needs) (λ c. search needs) returns (λ c. search needs) (λ c κs. search needs) (λ c. search needs)
+    arbitrate-requires (λ c. search needs) (λ c. search needs) returns-2)

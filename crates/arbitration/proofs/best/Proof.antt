@@ -1,10 +1,11 @@
 -- `arbitration::best` meets its contract. The loop's invariant: the list is the best of those passed. Assumes nothing.
 use Prim.Native.Nat.{_-_, _≤_}
 use mathlib.Core.Path.{_≡_}
-use native.Mathlib.Omega.{arith}
 use Rattle.rulebook.specs.Table as Table
 use Rattle.arbitration.specs.Picking.{Best}
 use Rattle.arbitration.proofs.Picking.{best-none, best-more}
+use native.Mathlib.Omega.{arith}
+use borrow.Author.Needs.{needs}
 use Rattle.arbitration.proofs.best.Statement.{statement}
 use Rattle.arbitration.proofs.best.Tie as tie
 
@@ -17,9 +18,6 @@ abbrev μ-loop : tie.MeasureT-loop
 loop-holds : tie.Need-loop-holds Inv-loop μ-loop
 loop-holds c = (omega arith, best-none _ _ _ (omega (arith, c .before .before .pre .lists .value)))
 
-better-requires : tie.Need-better-requires Inv-loop μ-loop
-better-requires c κs = c .before .before .before .before .pre
-
 add-k : tie.Need-add-k Inv-loop μ-loop
 add-k c = omega (arith, c .before .loop-test .taken, c .before .before .before .before .before .pre .lists .small)
 
@@ -27,14 +25,19 @@ loop-less : tie.Need-loop-less Inv-loop μ-loop
 loop-less c = omega (arith, c .before .loop-test .taken)
 
 loop-again : tie.Need-loop-again Inv-loop μ-loop
-loop-again c = (omega (arith, c .before .loop-test .taken), rw (c .better .ensures) (best-more _ _ _ _ (c .before .before .loop .inv .1) (omega (arith, c .before .loop-test .taken, c .before .before .before .before .before .pre .lists .value))))
+loop-again c = (
+  omega (arith, c .before .loop-test .taken),
+  rw (c .better .ensures)
+      (best-more _ _ _ _ (c .before .before .loop .inv .1)
+      (omega (arith, c .before .loop-test .taken, c .before .before .before .before .before .pre .lists .value))),
+)
 
 returns : tie.Need-returns Inv-loop μ-loop
 returns c =
-    let all : c .before .loop .k ≡ Table.lists (c .before .before .before .before .args .t .now) = omega (arith, c .loop-test .left, c .before .loop .inv .0, c .before .before .before .before .pre .lists .value) in
+    let all : c .before .loop .k ≡ Table.lists (c .before .before .before .before .args .t .now) = omega
+    (arith, c .loop-test .left, c .before .loop .inv .0, c .before .before .before .before .pre .lists .value) in
     rw all at (c .before .loop .inv .1)
 
 pub best-spec : {M : Type 1} → statement M
 best-spec =
-    tie.close
-    (tie.spec Inv-loop μ-loop loop-holds better-requires add-k loop-less loop-again returns)
+    tie.close (tie.spec Inv-loop μ-loop loop-holds (λ c κs. search needs) add-k loop-less loop-again returns)

@@ -2,55 +2,62 @@
 use Prim.Native.Nat.{ℕ, _-_, _≤_}
 use mathlib.Core.Path.{_≡_, sym, ap, _∙_}
 use mathlib.Core.Bool.{_||_}
-use native.Mathlib.Omega.{arith}
 use lib.ListN.{length}
 use Rattle.rulebook.specs.Words.{any}
 use Rattle.rulebook.specs.Table as Table
 use Rattle.words.specs.Flags.{flagged}
 use Rattle.arbitration.specs.Outcomes.{choosesBy}
 use Rattle.arbitration.proofs.Passes.{chose-none, chose-more, chose-all}
+use native.Mathlib.Omega.{arith}
+use borrow.Author.Needs.{needs}
 use Rattle.arbitration.proofs.choose.Statement.{statement}
 use Rattle.arbitration.proofs.choose.Tie as tie
 
 abbrev Inv-loop : tie.InvT-loop
-Inv-loop t h results s flags₀ rules r₀ flags r = (r ≤ rules) × (length flags ≡ 256) × ((k : ℕ) → any 0 (Table.rules t) (choosesBy t results s k) ≡ (flagged flags k || any r (Table.rules t - r) (choosesBy t results s k)))
+Inv-loop t h results s flags₀ rules r₀ flags r =
+    (r ≤ rules) × (length flags ≡ 256)
+    × ((k : ℕ) → any 0 (Table.rules t) (choosesBy t results s k) ≡ (flagged flags k || any r (Table.rules t - r) (choosesBy t results s k)))
 
 abbrev μ-loop : tie.MeasureT-loop
 μ-loop t h results s flags₀ rules r₀ flags r = rules - r
 
-loop-holds : tie.Need-loop-holds Inv-loop μ-loop
-loop-holds c = (omega arith, ap length (c .before .before .before .before .pre .1), λ k. rw (c .before .before .before .before .pre .1) (chose-none _ _ _ _ k))
+abbrev entry : tie.After-slice-known2 Inv-loop μ-loop → tie.Start Inv-loop μ-loop
+entry c = c .before .before .before .before .before .before .before .before .before .before .before
 
-pick-requires : tie.Need-pick-requires Inv-loop μ-loop
-pick-requires c κs = c .before .before .before .before .before .before .pre .0
+loop-holds : tie.Need-loop-holds Inv-loop μ-loop
+loop-holds c = (
+  omega arith,
+  ap length (c .before .before .before .before .pre .down),
+  λ k. rw (c .before .before .before .before .pre .down)
+      (chose-none _ _ _ _ k),
+)
 
 add-r : tie.Need-add-r Inv-loop μ-loop
-add-r c = omega (arith, c .before .before .before .before .before .loop-test .taken, c .before .before .before .before .before .before .before .before .before .before .before .pre .0 .rules .small)
+add-r c = omega (arith, c .before .before .before .before .before .loop-test .taken, entry c .pre .laid .rules .small)
 
 loop-less : tie.Need-loop-less Inv-loop μ-loop
 loop-less c = omega (arith, c .before .before .before .before .before .loop-test .taken)
 
 loop-again : tie.Need-loop-again Inv-loop μ-loop
-loop-again c = (omega (arith, c .before .before .before .before .before .loop-test .taken), c .before .before .put .kept .0 ∙ c .before .before .before .before .before .before .loop .inv .1, λ k. rw (c .before .before .put .ensures) (chose-more _ _ _ _ _ _ (c .before .before .before .before .before .before .loop .inv .1) (c .before .before .before .before .pick .ensures) _ k (omega (arith, c .before .before .before .before .before .loop-test .taken, c .before .before .before .before .before .before .before .before .before .before .before .pre .0 .rules .value)) (c .before .before .before .before .before .before .loop .inv .2 k)))
+loop-again c = (
+  omega (arith, c .before .before .before .before .before .loop-test .taken),
+  c .before .before .put .kept .0 ∙ c .before .before .before .before .before .before .loop .inv .1,
+  λ k. rw (c .before .before .put .ensures)
+      (chose-more _ _ _ _ _ _ (c .before .before .before .before .before .before .loop .inv .1) (c .before .before .before .before .pick .ensures) _ k
+      (omega (arith, c .before .before .before .before .before .loop-test .taken, entry c .pre .laid .rules .value))
+      (c .before .before .before .before .before .before .loop .inv .2 k)),
+)
 
 same-length : tie.Need-same-length Inv-loop μ-loop
-same-length c = c .before .loop .inv .1 ∙ sym (ap length (c .before .before .before .before .before .before .pre .1))
+same-length c = c .before .loop .inv .1 ∙ sym (ap length (c .before .before .before .before .before .before .pre .down))
 
 returns : tie.Need-returns Inv-loop μ-loop
-returns c = chose-all _ _ _ _ _ (c .before .loop .inv .1) (omega (arith, c .loop-test .left, c .before .before .before .before .before .before .pre .0 .rules .value)) (c .before .loop .inv .2)
+returns c =
+    chose-all _ _ _ _ _ (c .before .loop .inv .1) (omega
+    (arith, c .loop-test .left, c .before .before .before .before .before .before .pre .laid .rules .value)) (c .before .loop .inv .2)
 
 pub choose-spec : {M : Type 1} → statement M
 choose-spec =
     tie.close
     (tie.spec
-    Inv-loop
-    μ-loop
-    loop-holds
-    pick-requires
-    (λ c. omega arith)
-    (λ c κs. tt)
-    add-r
-    loop-less
-    loop-again
-    same-length
-    returns)
+    Inv-loop μ-loop loop-holds (λ c κs. search needs) (λ c. omega arith) (λ c κs. tt) add-r loop-less loop-again same-length returns)

@@ -1,9 +1,10 @@
 -- `arbitration::flag_marked` meets its contract. The loop's invariant: the flags of the ports passed are right, the others are down. Assumes nothing.
 use Prim.Native.Nat.{_-_, _≤_}
 use mathlib.Core.Path.{sym, ap, _∙_}
-use native.Mathlib.Omega.{arith}
 use lib.ListN.{length}
 use Rattle.arbitration.proofs.Marks.{MarkedBefore, marked-start, marked-more, all-marked}
+use native.Mathlib.Omega.{arith}
+use borrow.Author.Needs.{needs}
 use Rattle.arbitration.proofs.flag_marked.Statement.{statement}
 use Rattle.arbitration.proofs.flag_marked.Tie as tie
 
@@ -13,40 +14,48 @@ Inv-loop t h s flags₀ ports p₀ flags p = (p ≤ ports) × MarkedBefore p t s
 abbrev μ-loop : tie.MeasureT-loop
 μ-loop t h s flags₀ ports p₀ flags p = ports - p
 
-loop-holds : tie.Need-loop-holds Inv-loop μ-loop
-loop-holds c = (omega arith, rw (c .before .before .before .pre .1) (marked-start (c .before .before .before .args .t .now) (c .before .before .before .args .s .now)))
+abbrev entry : tie.After-slice-known2 Inv-loop μ-loop → tie.Start Inv-loop μ-loop
+entry c = c .before .before .before .before .before .before .before .before .before .before .before
 
-is-marked-requires : tie.Need-is-marked-requires Inv-loop μ-loop
-is-marked-requires c κs = c .before .before .before .before .before .pre .0
+abbrev at-loop : tie.After-slice-known2 Inv-loop μ-loop → tie.At-loop Inv-loop μ-loop
+at-loop c = c .before .before .before .before .before .before .before
+
+loop-holds : tie.Need-loop-holds Inv-loop μ-loop
+loop-holds c = (
+  omega arith,
+  rw (c .before .before .before .pre .down)
+      (marked-start (c .before .before .before .args .t .now) (c .before .before .before .args .s .now)),
+)
 
 add-p : tie.Need-add-p Inv-loop μ-loop
-add-p c = omega (arith, c .before .before .before .before .before .before .loop-test .taken, c .before .before .before .before .before .before .before .before .before .before .before .pre .0 .ports .small)
+add-p c = omega (arith, c .before .before .before .before .before .before .loop-test .taken, entry c .pre .laid .ports .small)
 
 loop-less : tie.Need-loop-less Inv-loop μ-loop
 loop-less c = omega (arith, c .before .before .before .before .before .before .loop-test .taken)
 
 loop-again : tie.Need-loop-again Inv-loop μ-loop
-loop-again c = (omega (arith, c .before .before .before .before .before .before .loop-test .taken), rw (c .before .before .put .ensures) (marked-more _ _ _ _ _ _ (omega (arith, c .before .before .before .before .before .before .loop-test .taken, c .before .before .before .before .before .before .before .before .before .before .before .pre .0 .ports .small)) (c .before .before .before .before .before .before .before .loop .inv .1) (c .before .before .before .before .raised .ensures) (c .before .before .before .before .before .is-marked .ensures)))
+loop-again c = (
+  omega (arith, c .before .before .before .before .before .before .loop-test .taken),
+  rw (c .before .before .put .ensures)
+      (marked-more _ _ _ _ _ _ (omega (
+        arith,
+        c .before .before .before .before .before .before .loop-test .taken,
+        at-loop
+            c .before .before .before .before .pre .laid .ports .small,
+      )) (at-loop c .loop .inv .1) (c .before .before .before .before .raised .ensures)
+      (c .before .before .before .before .before .is-marked .ensures)),
+)
 
 same-length : tie.Need-same-length Inv-loop μ-loop
-same-length c = c .before .loop .inv .1 .long ∙ sym (ap length (c .before .before .before .before .before .pre .1))
+same-length c = c .before .loop .inv .1 .long ∙ sym (ap length (c .before .before .before .before .before .pre .down))
 
 returns : tie.Need-returns Inv-loop μ-loop
-returns c = all-marked _ _ _ _ (omega (arith, c .loop-test .left, c .before .before .before .before .before .pre .0 .ports .value)) (c .before .loop .inv .1)
+returns c =
+    all-marked _ _ _ _ (omega (arith, c .loop-test .left, c .before .before .before .before .before .pre .laid .ports .value))
+    (c .before .loop .inv .1)
 
 pub flag-marked-spec : {M : Type 1} → statement M
 flag-marked-spec =
     tie.close
     (tie.spec
-    Inv-loop
-    μ-loop
-    loop-holds
-    is-marked-requires
-    (λ c κs. tt)
-    (λ c. omega arith)
-    (λ c κs. tt)
-    add-p
-    loop-less
-    loop-again
-    same-length
-    returns)
+    Inv-loop μ-loop loop-holds (λ c κs. search needs) (λ c κs. tt) (λ c. omega arith) (λ c κs. tt) add-p loop-less loop-again same-length returns)

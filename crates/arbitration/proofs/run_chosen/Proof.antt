@@ -1,39 +1,82 @@
 -- `arbitration::run_chosen` meets its contract. The loop keeps `Along`, with the best of the lists still flagged next; the measure is the
 -- number of flags that are up. Assumes nothing.
-use Prim.Native.Nat.{_+_, _-_}
 use mathlib.Core.Path.{_≡_, refl, _∙_}
-use native.Mathlib.Omega.{arith}
-use borrow.Author.Needs.{needs}
-use borrow.Rule.Slice.PartMut.{putMid}
 use lib.ListN.{length}
 use Rattle.rulebook.specs.Words.{sum}
 use Rattle.rulebook.specs.Table as Table
 use Rattle.rulebook.specs.Lists.{start}
 use Rattle.rulebook.specs.Arbitration.{order, runChosen}
 use Rattle.words.specs.Flags.{flagged}
-use Rattle.lists.proofs.Along.{Along, along-none}
+use Rattle.lists.specs.Runs.{plus}
+use Rattle.lists.proofs.Along.{Along, along-none, along-addable}
+use Rattle.lists.proofs.Cycle.{anew}
 use Rattle.arbitration.specs.Picking.{Best}
 use Rattle.arbitration.proofs.Picking.{upIn, fewer}
 use Rattle.arbitration.proofs.Running.{chosen-ran, list-safe, list-next}
+use native.Mathlib.Omega.{arith}
+use borrow.Author.Needs.{needs}
 use Rattle.arbitration.proofs.run_chosen.Statement.{statement}
 use Rattle.arbitration.proofs.run_chosen.Tie as tie
 
 abbrev Inv-loop : tie.InvT-loop
-Inv-loop t h flags₀ s₀ trace₀ lists at₀ l₀ flags s trace at l =
+Inv-loop t h flags₀ s₀ trace₀ lists written₀ l₀ flags s trace written l =
     (length flags ≡ length flags₀) × (length s ≡ length s₀) × Best t flags (Table.lists t) l
-    × Along (runChosen t (flagged flags₀) (order t) (start s₀)) (runChosen t (flagged flags) (order t)) trace₀ s trace at
+    × Along (runChosen t (flagged flags₀) (order t) (start s₀)) (runChosen t (flagged flags) (order t)) trace₀ s trace written
 
 abbrev μ-loop : tie.MeasureT-loop
-μ-loop t h flags₀ s₀ trace₀ lists at₀ l₀ flags s trace at l = sum 0 lists (upIn flags)
+μ-loop t h flags₀ s₀ trace₀ lists written₀ l₀ flags s trace written l = sum 0 lists (upIn flags)
 
-best-requires : tie.Need-best-requires Inv-loop μ-loop
-best-requires c κs = c .before .before .before .before .before .pre .0
+abbrev entry : tie.After-loop Inv-loop μ-loop → tie.Start Inv-loop μ-loop
+entry c = c .before .before .before .before .before .before .before .before .before
+
+abbrev entry-2 : tie.After-run-list-arg Inv-loop μ-loop → tie.Start Inv-loop μ-loop
+entry-2 c = c .before .before .before .before .before .before .before .before .before .before .before .before .before .before
+
+abbrev entry-3 : tie.After-slice-known6 Inv-loop μ-loop → tie.Start Inv-loop μ-loop
+entry-3 c = entry-2 (c .before .before .before .before .before .before)
+
+abbrev entry-4 : tie.After-best2 Inv-loop μ-loop → tie.Start Inv-loop μ-loop
+entry-4 c = entry-3 (c .before .before .before)
+
+abbrev at-loop : tie.After-run-list-arg2 Inv-loop μ-loop → tie.At-loop Inv-loop μ-loop
+at-loop c = c .before .before .before .before .before .before .before
+
+abbrev at-loop-2 : tie.After-best2 Inv-loop μ-loop → tie.At-loop Inv-loop μ-loop
+at-loop-2 c = at-loop (c .before .before .before .before .before .before .before .before)
+
+abbrev after-put : tie.After-slice-known6 Inv-loop μ-loop → tie.After-put Inv-loop μ-loop
+after-put c = c .before .before .before .before .before .before .before .before .before
+
+abbrev after-put-2 : tie.After-best2 Inv-loop μ-loop → tie.After-put Inv-loop μ-loop
+after-put-2 c = after-put (c .before .before .before)
+
+abbrev after-run-list : tie.After-best2 Inv-loop μ-loop → tie.After-run-list Inv-loop μ-loop
+after-run-list c = c .before .before .before .before .before .before .before
+
+-- when the list is back, its flag is down and the loop stands at the next one
+run-next : (c : tie.After-slice-known6 Inv-loop μ-loop)
+    → let a = entry-3 c .args in let x = after-put c .before .before .before .loop in
+    Along (runChosen (a .t .now) (flagged (a .flags .now)) (order (a .t .now)) (start (a .s .now)))
+    (runChosen (a .t .now) (flagged (after-put c .put .last .0)) (order (a .t .now))) (a .trace .now)
+    (c .before .before .before .before .run-list .last .1 .1 .1 .1 .0)
+    (anew (x .written) (x .trace) (c .before .before .before .before .run-list .last .1 .1 .1 .1 .1 .0))
+    (plus (x .written) (c .before .before .before .before .run-list .result))
+run-next c =
+    list-next _ _ _ (after-put c .before .before .before .loop .inv .2) _ _ _ _ _ (after-put c .before .before .before .loop .inv .3) _
+    (after-put c .put .ensures) (omega (arith, after-put c .before .before .loop-test .taken, entry-3 c .pre .laid .lists .value))
+    (entry-3 c .pre .safe) _ _ _ (c .before .before .before .before .run-list .ensures)
 
 loop-holds : tie.Need-loop-holds Inv-loop μ-loop
-loop-holds c = (refl, refl, c .best .ensures, along-none _ _ _ _ refl)
+loop-holds c = (refl, refl, c .best .ensures, rw (c .before .before .nothing .ensures) (along-none _ _ _ _ refl))
 
 mul-run-list : tie.Need-mul-run-list Inv-loop μ-loop
-mul-run-list c = omega (arith, c .before .before .before .before .before .before .loop .inv .3 .inside, c .before .before .before .before .before .before .loop .inv .3 .long, c .before .before .before .before .before .before .before .before .before .before .before .before .before .good .1 .1 .1 .1 .0)
+mul-run-list c =
+    omega (
+      arith,
+      c .before .before .before .before .before .before .loop .inv .3 .inside,
+      c .before .before .before .before .before .before .loop .inv .3 .long,
+      entry-2 c .good .1 .1 .1 .1 .0,
+    )
 
 sub-run-list : tie.Need-sub-run-list Inv-loop μ-loop
 sub-run-list c = c .before .before .before .before .before .before .loop .inv .3 .inside
@@ -42,28 +85,30 @@ part-run-list-start : tie.Need-part-run-list-start Inv-loop μ-loop
 part-run-list-start c = c .before .before .before .before .before .before .loop .inv .3 .inside
 
 run-list-requires : tie.Need-run-list-requires Inv-loop μ-loop
-run-list-requires c κs = (c .before .before .before .before .before .before .before .before .before .before .before .before .before .before .pre .0, list-safe _ _ _ (c .before .before .before .before .before .before .before .loop .inv .2) _ _ _ _ _ (c .before .before .before .before .before .before .before .loop .inv .3) _ (c .before .before .before .before .put .ensures) (omega (arith, c .before .before .before .before .before .before .loop-test .taken, c .before .before .before .before .before .before .before .before .before .before .before .before .before .before .pre .0 .lists .value)) (c .before .before .before .before .before .before .before .before .before .before .before .before .before .before .pre .1))
+run-list-requires c κs =
+    record {
+      laid = entry-2 (c .before) .pre .laid;
+      safe = list-safe _ _ _ (at-loop c .loop .inv .2) _ _ _ _ _ (at-loop c .loop .inv .3) _ (c .before .before .before .before .put .ensures)
+          (omega (arith, c .before .before .before .before .before .before .loop-test .taken, entry-2 (c .before) .pre .laid .lists .value))
+          (entry-2 (c .before) .pre .safe);
+    }
 
--- when the list is back, its flag is down and the loop stands at the next one
-run-next : (c : tie.After-slice-known6 Inv-loop μ-loop)
-    → let a = c .before .before .before .before .before .before .before .before .before .before .before .before .before .before .before .before .before .before .before .args in let x = c .before .before .before .before .before .before .before .before .before .before .before .before .loop in
-    Along (runChosen (a .t .now) (flagged (a .flags .now)) (order (a .t .now)) (start (a .s .now))) (runChosen (a .t .now) (flagged (c .before .before .before .before .before .before .before .before .before .put .last .0)) (order (a .t .now))) (a .trace .now)
-    (c .before .before .before .before .run-list .last .1 .1 .1 .1 .0) (putMid (x .at) (length (x .trace) - x .at) (x .trace) (c .before .before .before .before .run-list .last .1 .1 .1 .1 .1 .0)) (x .at + c .before .before .before .before .run-list .result)
-run-next c =
-    list-next _ _ _ (c .before .before .before .before .before .before .before .before .before .before .before .before .loop .inv .2) _ _ _ _ _ (c .before .before .before .before .before .before .before .before .before .before .before .before .loop .inv .3) _ (c .before .before .before .before .before .before .before .before .before .put .ensures) (omega (arith, c .before .before .before .before .before .before .before .before .before .before .before .loop-test .taken, c .before .before .before .before .before .before .before .before .before .before .before .before .before .before .before .before .before .before .before .pre .0 .lists .value)) (c .before .before .before .before .before .before .before .before .before .before .before .before .before .before .before .before .before .before .before .pre .1)
-    _ _ _ (c .before .before .before .before .run-list .ensures)
-
-add-at : tie.Need-add-at Inv-loop μ-loop
-add-at c = let n = run-next c in omega (arith, n .inside, n .long, c .before .before .before .before .before .before .before .before .before .before .before .before .before .before .before .before .before .before .before .good .1 .1 .1 .1 .0)
-
-best-requires-2 : tie.Need-best-requires-2 Inv-loop μ-loop
-best-requires-2 c κs = c .before .before .before .before .before .before .before .before .before .before .before .before .before .before .before .before .before .before .before .before .pre .0
+plus-requires : tie.Need-plus-requires Inv-loop μ-loop
+plus-requires c κs = along-addable _ _ _ _ _ _ _ (run-next c) (omega (arith, entry-3 c .good .1 .1 .1 .1 .0))
 
 loop-less : tie.Need-loop-less Inv-loop μ-loop
-loop-less c = rw (c .before .before .before .before .before .before .before .before .before .before .before .put .ensures) (fewer _ _ _ (c .before .before .before .before .before .before .before .before .before .before .before .before .before .loop-test .taken) (c .before .before .before .before .before .before .before .before .before .before .before .before .before .before .loop .inv .2 .up (omega (arith, c .before .before .before .before .before .before .before .before .before .before .before .before .before .loop-test .taken, c .before .before .before .before .before .before .before .before .before .before .before .before .before .before .before .before .before .before .before .before .before .pre .0 .lists .value))))
+loop-less c =
+    rw (after-put-2 c .put .ensures) (fewer _ _ _ (after-put-2 c .before .before .loop-test .taken)
+    (after-put-2 c .before .before .before .loop .inv .2 .up
+    (omega (arith, after-put-2 c .before .before .loop-test .taken, entry-4 c .pre .laid .lists .value))))
 
 loop-again : tie.Need-loop-again Inv-loop μ-loop
-loop-again c = (c .before .before .before .before .before .before .before .before .before .before .before .put .kept .0 ∙ c .before .before .before .before .before .before .before .before .before .before .before .before .before .before .loop .inv .0, c .before .before .before .before .before .before .run-list .kept .1 .1 .1 .1 .0 ∙ c .before .before .before .before .before .before .before .before .before .before .before .before .before .before .loop .inv .1, c .best2 .ensures, run-next (c .before .before))
+loop-again c = (
+  after-run-list c .before .before .before .before .before .put .kept .0 ∙ at-loop-2 c .loop .inv .0,
+  after-run-list c .run-list .kept .1 .1 .1 .1 .0 ∙ at-loop-2 c .loop .inv .1,
+  c .best2 .ensures,
+  rw (c .before .before .plus .ensures) (run-next (c .before .before .before)),
+)
 
 same-length : tie.Need-same-length Inv-loop μ-loop
 same-length c = c .before .loop .inv .0
@@ -75,28 +120,14 @@ same-length-3 : tie.Need-same-length-3 Inv-loop μ-loop
 same-length-3 c = c .before .loop .inv .3 .long
 
 returns : tie.Need-returns Inv-loop μ-loop
-returns c = chosen-ran _ _ _ (c .before .loop .inv .2) _ _ _ _ _ (c .before .loop .inv .3) (omega (arith, c .loop-test .left, c .before .before .before .before .before .before .before .before .pre .0 .lists .value))
+returns c =
+    chosen-ran _ _ _ (c .before .loop .inv .2) _ _ _ _ _ (c .before .loop .inv .3)
+    (omega (arith, c .loop-test .left, entry c .pre .laid .lists .value))
 
 pub run-chosen-spec : {M : Type 1} → statement M
 run-chosen-spec =
     tie.close
     (tie.spec
-    Inv-loop
-    μ-loop
-    best-requires
-    loop-holds
-    (λ c. search needs)
-    (λ c κs. search needs)
-    mul-run-list
-    sub-run-list
-    part-run-list-start
-    (λ c. search needs)
-    run-list-requires
-    add-at
-    best-requires-2
-    loop-less
-    loop-again
-    same-length
-    same-length-2
-    same-length-3
-    returns)
+    Inv-loop μ-loop (λ c κs. tt) (λ c κs. search needs) loop-holds (λ c. search needs) (λ c κs. search needs) mul-run-list sub-run-list
+    part-run-list-start (λ c. search needs) run-list-requires plus-requires (λ c κs. search needs) loop-less loop-again same-length same-length-2
+    same-length-3 returns)

@@ -1,14 +1,22 @@
--- `arbitration::store_result` meets its contract: each exit by the law of its test. Assumes nothing.
-use Rattle.arbitration.proofs.Passes.{stores-none, stores}
+-- `arbitration::store_result` meets its contract: each exit by its test. Assumes nothing.
+use borrow.Author.Tests.{eq-eqb, ne-eqb}
+use Rattle.arbitration.specs.Outcomes.{storeBy}
 use borrow.Author.Needs.{needs}
 use Rattle.arbitration.proofs.store_result.Statement.{statement}
 use Rattle.arbitration.proofs.store_result.Tie as tie
 
 returns : tie.Need-returns
-returns c = stores-none _ _ _ _ _ (c .before .word .ensures) (c .if1 .taken)
+unfolding storeBy
+returns c = rw (← c .before .word .ensures, eq-eqb _ _ (c .if1 .taken))
 
 returns-2 : tie.Need-returns-2
-returns-2 c = stores _ _ _ _ _ (c .before .before .before .before .before .word .ensures) (c .before .before .before .before .if1 .left) _ (c .before .before .set-result .ensures)
+unfolding storeBy
+returns-2 c =
+    rw (
+      ← c .before .before .before .before .before .word .ensures,
+      ne-eqb _ _ (c .before .before .before .before .if1 .left),
+    )
+    (c .before .before .set-result .ensures)
 
 pub store-result-spec : {M : Type 1} → statement M
 store-result-spec =

@@ -1,27 +1,28 @@
--- `arbitration::unmark_port` meets its contract: each exit by the law of its test. Assumes nothing.
-use mathlib.Core.Path.{_∙_}
-use Rattle.arbitration.proofs.Passes.{unmarked-port, left-port}
+-- `arbitration::unmark_port` meets its contract: each exit by its test. Assumes nothing.
+use mathlib.Core.Path.{sym, _∙_}
+use Rattle.rulebook.specs.Arbitration.{unmarkPort}
 use borrow.Author.Needs.{needs}
 use Rattle.arbitration.proofs.unmark_port.Statement.{statement}
 use Rattle.arbitration.proofs.unmark_port.Tie as tie
 
+abbrev after-flag : tie.After-slice-known2 → tie.After-flag
+after-flag c = c .before .before .before .before .before .before .before
+
 returns : tie.Need-returns
-returns c = c .before .before .put .ensures ∙ unmarked-port _ _ _ _ (c .before .before .before .before .before .before .before .before .before .before .before .flag .ensures) (c .before .before .before .before .before .before .before .before .before .before .if1 .taken) _ _ _ _ _ (c .before .before .before .before .before .before .before .before .word .ensures) (c .before .before .before .before .before .before .before .defined .ensures .value) (c .before .before .before .before .before .before .value .ensures .value) (c .before .before .before .before .before .remaining .ensures .value) (c .before .before .before .before .pack-port .ensures)
+unfolding unmarkPort
+returns c =
+    rw (
+      sym (after-flag c .flag .ensures) ∙ c .before .before .before .before .before .before .if1 .taken,
+      ← c .before .before .before .before .port-in .ensures .defined .value,
+      ← c .before .before .before .before .port-in .ensures .value .value,
+      ← c .before .before .before .before .port-in .ensures .remaining .value,
+    )
+    (c .before .before .put-port .ensures)
 
 returns-2 : tie.Need-returns-2
-returns-2 c = left-port _ _ _ _ (c .before .flag .ensures) (c .if1 .left)
+unfolding unmarkPort
+returns-2 c = rw (sym (c .before .flag .ensures) ∙ c .if1 .left)
 
 pub unmark-port-spec : {M : Type 1} → statement M
 unmark-port-spec =
-    tie.close
-    (tie.spec
-    (λ c κs. search needs)
-    (λ c κs. search needs)
-    (λ c κs. search needs)
-    (λ c κs. search needs)
-    (λ c κs. search needs)
-    (λ c κs. search needs)
-    (λ c κs. search needs)
-    (λ c. search needs)
-    returns
-    returns-2)
+    tie.close (tie.spec (λ c κs. search needs) (λ c κs. search needs) (λ c κs. search needs) (λ c. search needs) returns returns-2)

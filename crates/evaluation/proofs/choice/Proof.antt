@@ -6,12 +6,19 @@ use Rattle.evaluation.proofs.choice.Statement.{statement}
 use Rattle.evaluation.proofs.choice.Tie as tie
 
 returns : tie.Need-returns
-returns c = record { value = choice-starts _ _ _ _ _ _ _ (c .before .before .before .list-for .ensures .value) (c .before .before .list-word .ensures) (c .before .list-triggered .ensures .value) (c .if1 .taken); small = c .before .before .before .list-for .ensures .small }
+returns c =
+    record {
+      value = choice-starts _ _ _ _ _ _ (c .before .before .before .list-for .ensures .value) (c .before .before .list-at .ensures .triggered .value) (c .if1 .taken);
+      small = c .before .before .before .list-for .ensures .small;
+    }
 
 returns-2 : tie.Need-returns-2
-returns-2 c = record { value = choice-none _ _ _ _ _ _ _ (c .before .before .before .list-for .ensures .value) (c .before .before .list-word .ensures) (c .before .list-triggered .ensures .value) (c .if1 .left); small = omega arith }
+returns-2 c =
+    record {
+      value = choice-none _ _ _ _ _ _ (c .before .before .before .list-for .ensures .value) (c .before .before .list-at .ensures .triggered .value) (c .if1 .left);
+      small = omega arith;
+    }
 
 pub choice-spec : {M : Type 1} → statement M
 choice-spec =
-    tie.close
-    (tie.spec (λ c κs. search needs) (λ c κs. search needs) (λ c κs. search needs) returns returns-2)
+    tie.close (tie.spec (λ c κs. search needs) (λ c κs. search needs) returns returns-2)

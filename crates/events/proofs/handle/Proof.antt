@@ -4,21 +4,23 @@ use borrow.Author.Needs.{needs}
 use Rattle.events.proofs.handle.Statement.{statement}
 use Rattle.events.proofs.handle.Tie as tie
 
+abbrev after-enum-told : tie.After-slice-known4 → tie.After-enum-told
+after-enum-told c = c .before .before .before .before .before .before .before
+
 returns : tie.Need-returns
-returns c = told-refused _ (c .before .before .before .before .before .before .args .s .now) (c .before .before .before .before .before .before .args .trace .now) _ _ (c .before .before .check-event .ensures) (c .refused .result) (not-taken (c .before .before .check-event .result) (c .before .match .keys2)) (c .refused .ensures .0) (c .refused .ensures .1)
+returns c =
+    told-refused _ (c .before .before .before .before .before .before .args .s .now)
+    (c .before .before .before .before .before .before .args .trace .now) _ _ (c .before .before .check-event .ensures) (c .refused .result)
+    (not-taken (c .before .before .check-event .result) (c .before .match .keys2)) (c .refused .ensures .0) (c .refused .ensures .1)
 
 returns-2 : tie.Need-returns-2
-returns-2 c = told-done _ _ _ _ _ (c .before .before .before .before .before .before .before .before .before .check-event .ensures) _ _ _ (is-taken _ (c .before .before .before .before .before .before .before .enum-told .given .1)) (c .before .before .before .before .before .before .before .before .before .before .before .before .before .pre .2 .shallow) (c .before .before .before .before .happen .ensures)
+returns-2 c =
+    told-done _ _ _ _ _ (after-enum-told c .before .before .check-event .ensures) _ _ _ (is-taken _ (after-enum-told c .enum-told .given .1))
+    (after-enum-told c .before .before .before .before .before .before .pre .safe .shallow) (c .before .before .before .before .happen .ensures)
 
 pub handle-spec : {M : Type 1} → statement M
 handle-spec =
     tie.close
     (tie.spec
-    (λ c κs. search needs)
-    (λ c. search needs)
-    (λ c κs. search needs)
-    returns
-    (λ c κs. search needs)
-    (λ c. search needs)
-    (λ c. search needs)
+    (λ c κs. search needs) (λ c. search needs) (λ c κs. search needs) returns (λ c κs. search needs) (λ c. search needs) (λ c. search needs)
     returns-2)

@@ -4,23 +4,39 @@ use borrow.Author.Needs.{needs}
 use Rattle.events.proofs.request.Statement.{statement}
 use Rattle.events.proofs.request.Tie as tie
 
+abbrev entry : tie.After-arbitrate-one-arg2 → tie.Start
+entry c = c .before .before .before .before .before .before .before .before .before .before
+
+abbrev then1 : tie.After-slice-known5 → tie.Then1
+then1 c = c .before .before .before .before .before .before .before
+
 arbitrate-one-requires : tie.Need-arbitrate-one-requires
-arbitrate-one-requires c κs = (c .before .before .before .before .before .before .before .before .before .before .pre .0, c .before .before .before .before .before .before .before .before .before .before .pre .1, c .before .before .before .before .before .before .before .before .before .before .pre .2, rw (request-now _ _ _ _ _ _ (c .before .before .before .before .before .request-port .ensures) (c .before .before .if1 .taken)) at (c .before .before .before .before .before .before .before .before .before .before .pre .3))
+arbitrate-one-requires c κs =
+    record {
+      laid = entry c .pre .laid;
+      few = entry c .pre .few;
+      port = entry c .pre .port;
+      safe = rw
+          (request-now _ _ _ _ _ _ (c .before .before .before .before .before .request-port .ensures) (c .before .before .if1 .taken)) at
+          (entry c .pre .safe);
+    }
 
 returns : tie.Need-returns
-returns c = rw (request-now _ _ _ _ _ _ (c .before .before .before .before .before .before .before .before .before .before .request-port .ensures) (c .before .before .before .before .before .before .before .if1 .taken)) (c .before .before .before .before .arbitrate-one .ensures)
+returns c =
+    rw (request-now _ _ _ _ _ _ (then1 c .before .before .before .request-port .ensures) (then1 c .if1 .taken))
+    (c .before .before .before .before .arbitrate-one .ensures)
 
 returns-2 : tie.Need-returns-2
-returns-2 c = rw (request-late _ _ _ _ _ _ (c .before .before .before .request-port .ensures) (c .if1 .left)) (ran-start _ _)
+returns-2 c =
+    rw (
+      request-late _ _ _ _ _ _ (c .before .before .before .before .request-port .ensures) (c .before .if1 .left),
+      c .nothing .ensures,
+    )
+    (ran-start _ _)
 
 pub request-spec : {M : Type 1} → statement M
 request-spec =
     tie.close
     (tie.spec
-    (λ c κs. search needs)
-    arbitrate-one-requires
-    (λ c. search needs)
-    (λ c. search needs)
-    returns
-    (λ c. search needs)
+    (λ c κs. search needs) arbitrate-one-requires (λ c. search needs) (λ c. search needs) returns (λ c κs. search needs) (λ c. search needs)
     returns-2)

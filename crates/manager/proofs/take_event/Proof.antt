@@ -70,20 +70,20 @@ returns-3 c =
     (sym (after-told2-from-enum-told4 c .told2 .ensures) ∙ ap passes (c .enum-told4 .given .1))
 
 handle-requires : tie.Need-handle-requires
-handle-requires c κs = (
-  after-read-layout c .read-layout .ensures,
-  few-rules _ _
+handle-requires c κs = record {
+  laid = after-read-layout c .read-layout .ensures;
+  few = few-rules _ _
       (is-accepted _ _ _ (after-checked (after-told-from-handle-arg2 c) .checked .given .1)
       (after-check (after-told-from-handle-arg2 c) .check .ensures))
-      (after-read-layout c .read-layout .ensures .rules .value),
-  safe _ _ _ _ _
+      (after-read-layout c .read-layout .ensures .rules .value);
+  safe = safe _ _ _ _ _
       (told-bound _ _ _ (after-checked (after-told-from-handle-arg2 c) .checked .given .1) (after-check (after-told-from-handle-arg2 c) .check .ensures)
       (is-accepted _ _ _ (after-checked (after-told-from-handle-arg2 c) .checked .given .1)
       (after-check (after-told-from-handle-arg2 c) .check .ensures)))
       (is-accepted _ _ _ (after-checked (after-told-from-handle-arg2 c) .checked .given .1)
       (after-check (after-told-from-handle-arg2 c) .check .ensures))
-      (sym (after-told2 c .told2 .ensures) ∙ ap passes (after-enum-told3 c .enum-told3 .given .1)),
-)
+      (sym (after-told2 c .told2 .ensures) ∙ ap passes (after-enum-told3 c .enum-told3 .given .1));
+}
 
 returns-4 : tie.Need-returns-4
 returns-4 c =

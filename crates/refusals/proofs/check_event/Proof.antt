@@ -5,42 +5,42 @@ use borrow.Author.Needs.{needs}
 use Rattle.refusals.proofs.check_event.Statement.{statement}
 use Rattle.refusals.proofs.check_event.Tie as tie
 
+abbrev after-well-formed : tie.After-sent-by-owner → tie.After-well-formed
+after-well-formed c = c .before .before .before .before .before .before
+
 returns : tie.Need-returns
 unfolding eventChecked
 returns c = rw (sym (c .before .before .well-formed .ensures) ∙ ap passes (c .enum-told2 .given .1))
 
-known-requires : tie.Need-known-requires
-known-requires c κs = c .before .before .before .before .pre
-
 returns-2 : tie.Need-returns-2
 unfolding eventChecked
-returns-2 c = rw (sym (c .before .before .before .before .before .well-formed .ensures) ∙ ap passes (c .before .before .before .enum-told .given .1), sym (c .before .before .known .ensures) ∙ ap passes (c .enum-told4 .given .1))
-
-sent-by-owner-requires : tie.Need-sent-by-owner-requires
-sent-by-owner-requires c κs = c .before .before .before .before .before .before .before .pre
+returns-2 c =
+    rw (
+      sym (c .before .before .before .before .before .well-formed .ensures) ∙ ap passes (c .before .before .before .enum-told .given .1),
+      sym (c .before .before .known .ensures) ∙ ap passes (c .enum-told4 .given .1),
+    )
 
 returns-3 : tie.Need-returns-3
 unfolding eventChecked
-returns-3 c = rw (sym (c .before .before .before .before .before .before .before .before .well-formed .ensures) ∙ ap passes (c .before .before .before .before .before .before .enum-told .given .1), sym (c .before .before .before .before .before .known .ensures) ∙ ap passes (c .before .before .before .enum-told3 .given .1), sym (c .before .before .sent-by-owner .ensures) ∙ ap passes (c .enum-told6 .given .1))
+returns-3 c =
+    rw (
+      sym (after-well-formed (c .before .before) .well-formed .ensures) ∙ ap passes (c .before .before .before .before .before .before .enum-told .given .1),
+      sym (c .before .before .before .before .before .known .ensures) ∙ ap passes (c .before .before .before .enum-told3 .given .1),
+      sym (c .before .before .sent-by-owner .ensures) ∙ ap passes (c .enum-told6 .given .1),
+    )
 
 returns-4 : tie.Need-returns-4
 unfolding eventChecked
-returns-4 c = rw (sym (c .before .before .before .before .before .before .before .before .well-formed .ensures) ∙ ap passes (c .before .before .before .before .before .before .enum-told .given .1), sym (c .before .before .before .before .before .known .ensures) ∙ ap passes (c .before .before .before .enum-told3 .given .1), sym (c .before .before .sent-by-owner .ensures) ∙ ap passes (c .enum-told5 .given .1))
+returns-4 c =
+    rw (
+      sym (after-well-formed (c .before .before) .well-formed .ensures) ∙ ap passes (c .before .before .before .before .before .before .enum-told .given .1),
+      sym (c .before .before .before .before .before .known .ensures) ∙ ap passes (c .before .before .before .enum-told3 .given .1),
+      sym (c .before .before .sent-by-owner .ensures) ∙ ap passes (c .enum-told5 .given .1),
+    )
 
 pub check-event-spec : {M : Type 1} → statement M
 check-event-spec =
     tie.close
     (tie.spec
-    (λ c κs. tt)
-    (λ c. search needs)
-    (λ c. search needs)
-    returns
-    known-requires
-    (λ c. search needs)
-    (λ c. search needs)
-    returns-2
-    sent-by-owner-requires
-    (λ c. search needs)
-    (λ c. search needs)
-    returns-3
-    returns-4)
+    (λ c κs. tt) (λ c. search needs) (λ c. search needs) returns (λ c κs. search needs) (λ c. search needs) (λ c. search needs) returns-2
+    (λ c κs. search needs) (λ c. search needs) (λ c. search needs) returns-3 returns-4)

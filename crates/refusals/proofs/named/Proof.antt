@@ -10,11 +10,24 @@ returns c = rw (← c .before .before .kind .ensures .value, ← c .before .inde
 
 returns-2 : tie.Need-returns-2
 unfolding named
-returns-2 c = rw (← c .before .before .before .kind .ensures .value, ← c .before .before .index .ensures .value, c .before .if1 .left, eq-eqb _ _ (c .if2 .taken))
+returns-2 c =
+    rw (
+      ← c .before .before .before .kind .ensures .value,
+      ← c .before .before .index .ensures .value,
+      c .before .if1 .left,
+      eq-eqb _ _ (c .if2 .taken),
+    )
 
 returns-3 : tie.Need-returns-3
 unfolding named
-returns-3 c = rw (← c .before .before .before .kind .ensures .value, ← c .before .before .index .ensures .value, c .before .if1 .left, ne-eqb _ _ (c .if2 .left))
+returns-3 c =
+    rw (
+      ← c .before .before .before .kind .ensures .value,
+      ← c .before .before .index .ensures .value,
+      c .before .if1 .left,
+      ne-eqb _ _ (c .if2 .left),
+    )
 
 pub named-spec : {M : Type 1} → statement M
-named-spec = tie.close (tie.spec (λ c κs. tt) (λ c κs. tt) returns returns-2 returns-3)
+named-spec =
+    tie.close (tie.spec (λ c κs. tt) (λ c κs. tt) returns returns-2 returns-3)

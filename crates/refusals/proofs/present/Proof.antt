@@ -10,13 +10,16 @@ returns c = rw (c .before .thing .given .1, c .before .before .before .pre .port
 
 returns-2 : tie.Need-returns-2
 unfolding present
-returns-2 c = rw (c .before .thing2 .given .1, c .before .before .before .pre .networks .value)
+returns-2 c = rw (c .before .thing2 .given .1, c .before .before .before .pre .rules .value)
 
 returns-3 : tie.Need-returns-3
 unfolding present
-returns-3 c = rw (c .before .thing3 .given .1, c .before .before .before .pre .sources .value)
+returns-3 c = rw (c .before .thing3 .given .1, c .before .before .before .pre .networks .value)
+
+returns-4 : tie.Need-returns-4
+unfolding present
+returns-4 c = rw (c .before .thing4 .given .1, c .before .before .before .pre .sources .value)
 
 pub present-spec : {M : Type 1} → statement M
 present-spec =
-    tie.close
-    (tie.spec (λ c. search needs) (λ c. search needs) (λ c. search needs) returns returns-2 returns-3)
+    tie.close (tie.spec (λ c. search needs) (λ c. search needs) (λ c. search needs) (λ c. search needs) returns returns-2 returns-3 returns-4)

@@ -1,16 +1,20 @@
 -- `refusals::sent_by_owner` meets its contract: the parts of the test are the rulebook's. Assumes nothing.
 use Rattle.rulebook.specs.Step.{sentByOwner}
+use borrow.Author.Needs.{needs}
 use Rattle.refusals.proofs.sent_by_owner.Statement.{statement}
 use Rattle.refusals.proofs.sent_by_owner.Tie as tie
 
-owner-requires-2 : tie.Need-owner-requires-2
-owner-requires-2 c κs = c .before .before .before .before .pre
-
 returns : tie.Need-returns
 unfolding sentByOwner
-returns c = rw (← c .before .before .before .before .kind .ensures .value, ← c .before .before .before .owner .ensures .value, ← c .before .before .named .ensures, ← c .before .owner2 .ensures) (c .told .ensures)
+returns c =
+    rw (
+      ← c .before .before .before .before .kind .ensures .value,
+      ← c .before .before .before .owner .ensures .value,
+      ← c .before .before .named .ensures,
+      ← c .before .owner2 .ensures,
+    )
+    (c .told .ensures)
 
 pub sent-by-owner-spec : {M : Type 1} → statement M
 sent-by-owner-spec =
-    tie.close
-    (tie.spec (λ c κs. tt) (λ c κs. tt) (λ c κs. tt) owner-requires-2 (λ c κs. tt) returns)
+    tie.close (tie.spec (λ c κs. tt) (λ c κs. tt) (λ c κs. tt) (λ c κs. search needs) (λ c κs. tt) returns)

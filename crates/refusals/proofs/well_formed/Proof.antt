@@ -6,16 +6,17 @@ use Rattle.refusals.proofs.well_formed.Tie as tie
 
 returns : tie.Need-returns
 unfolding wellFormed
-returns c = rw (not-not, ← c .before .before .before .before .before .kind .ensures .value, ← c .before .before .before .before .owner .ensures .value, ← c .before .before .before .index .ensures .value, ← c .before .before .value .ensures .value, ← c .before .zero .ensures .value) (c .told .ensures)
+returns c =
+    rw (
+      not-not,
+      ← c .before .before .before .before .before .kind .ensures .value,
+      ← c .before .before .before .before .owner .ensures .value,
+      ← c .before .before .before .index .ensures .value,
+      ← c .before .before .value .ensures .value,
+      ← c .before .zero .ensures .value,
+    )
+    (c .told .ensures)
 
 pub well-formed-spec : {M : Type 1} → statement M
 well-formed-spec =
-    tie.close
-    (tie.spec
-    (λ c κs. tt)
-    (λ c κs. tt)
-    (λ c κs. tt)
-    (λ c κs. tt)
-    (λ c κs. tt)
-    (λ c κs. tt)
-    returns)
+    tie.close (tie.spec (λ c κs. tt) (λ c κs. tt) (λ c κs. tt) (λ c κs. tt) (λ c κs. tt) (λ c κs. tt) returns)

@@ -31,7 +31,8 @@ abbrev after-lay-lines-arg3 : tie.After-slice-known6 → tie.After-lay-lines-arg
 after-lay-lines-arg3 c = c .before .before .before
 
 handle-requires : tie.Need-handle-requires
-handle-requires c κs = (start c .pre .0, few-rules _ _ (start c .pre .1 .table) (start c .pre .0 .rules .value), run-safe _ _ _ _ (start c .pre .1))
+handle-requires c κs =
+    record { laid = start c .pre .0; few = few-rules _ _ (start c .pre .1 .table) (start c .pre .0 .rules .value); safe = run-safe _ _ _ _ (start c .pre .1) }
 
 lay-lines-requires : tie.Need-lay-lines-requires
 lay-lines-requires c κs =

@@ -4,25 +4,26 @@ use borrow.Author.Needs.{needs}
 use Rattle.states.proofs.fresh.Statement.{statement}
 use Rattle.states.proofs.fresh.Tie as tie
 
+abbrev after-enum-told : tie.After-slice-known2 → tie.After-enum-told
+after-enum-told c = c .before .before .before .before .before .before .before
+
 returns : tie.Need-returns
 returns c = bad-table _ _ (is-refused _ (c .before .check .result) (c .match .keys2) (c .before .check .ensures))
 
 returns-2 : tie.Need-returns-2
-returns-2 c = wrong-length _ _ (is-accepted _ _ _ (c .before .before .before .enum-told .given .1) (c .before .before .before .before .before .check .ensures)) _ (c .before .state-length .ensures) (c .if1 .taken)
+returns-2 c =
+    wrong-length _ _ (is-accepted _ _ _ (c .before .before .before .enum-told .given .1) (c .before .before .before .before .before .check .ensures))
+    _ (c .before .length .ensures) (c .if1 .taken)
 
 returns-3 : tie.Need-returns-3
-returns-3 c = done _ _ (is-accepted _ _ _ (c .before .before .before .before .before .before .before .enum-told .given .1) (c .before .before .before .before .before .before .before .before .before .check .ensures)) _ (c .before .before .before .before .before .state-length .ensures) _ (c .before .before .before .before .if1 .left) (c .before .before .write-fresh .ensures)
+returns-3 c =
+    done _ _ (is-accepted _ _ _ (after-enum-told c .enum-told .given .1) (after-enum-told c .before .before .check .ensures)) _
+    (c .before .before .before .before .before .length .ensures) _ (c .before .before .before .before .if1 .left)
+    (c .before .before .write-fresh .ensures)
 
 pub fresh-spec : {M : Type 1} → statement M
 fresh-spec =
     tie.close
     (tie.spec
-    (λ c κs. search needs)
-    (λ c. search needs)
-    returns
-    (λ c κs. search needs)
-    (λ c κs. search needs)
-    returns-2
-    (λ c κs. search needs)
-    (λ c. search needs)
-    returns-3)
+    (λ c κs. search needs) (λ c. search needs) returns (λ c κs. search needs) (λ c κs. search needs) returns-2 (λ c κs. search needs)
+    (λ c. search needs) returns-3)

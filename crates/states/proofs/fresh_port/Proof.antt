@@ -1,30 +1,42 @@
--- `states::fresh_port` meets its contract: each exit by its law. Assumes nothing.
-use mathlib.Core.Path.{_∙_}
-use Rattle.states.proofs.Making.{port-initial, port-undefined, port-defined}
+-- `states::fresh_port` meets its contract: each exit by the tests that led there. Assumes nothing.
+use Rattle.rulebook.specs.State.{freshPort}
+use borrow.Author.Tests.{eq-eqb, ne-eqb}
 use borrow.Author.Needs.{needs}
 use Rattle.states.proofs.fresh_port.Statement.{statement}
 use Rattle.states.proofs.fresh_port.Tie as tie
 
 returns : tie.Need-returns
-returns c = c .pack-port .ensures ∙ port-initial _ _ _ _ _ _ (c .before .before .before .before .before .port-word .ensures) (c .before .before .before .before .port-kind .ensures .value) (c .before .before .before .port-has-initial .ensures .value) (c .before .before .port-initial .ensures .value) (c .before .if1 .taken)
+unfolding freshPort
+returns c =
+    rw (
+      ← c .before .before .before .port-at .ensures .has-initial .value,
+      eq-eqb _ _ (c .before .if1 .taken),
+      ← c .before .before .before .port-at .ensures .initial .value,
+    )
+    (c .pack-port .ensures)
 
 returns-2 : tie.Need-returns-2
-returns-2 c = c .pack-port2 .ensures ∙ port-undefined _ _ _ _ _ _ (c .before .before .before .before .before .before .port-word .ensures) (c .before .before .before .before .before .port-kind .ensures .value) (c .before .before .before .before .port-has-initial .ensures .value) (c .before .before .before .port-initial .ensures .value) (c .before .before .if1 .left) (c .before .if2 .taken)
+unfolding freshPort
+returns-2 c =
+    rw (
+      ← c .before .before .before .before .before .port-at .ensures .has-initial .value,
+      ne-eqb _ _ (c .before .before .before .if1 .left),
+      ← c .before .before .before .before .before .port-at .ensures .kind .value,
+      eq-eqb _ _ (c .before .if2 .taken),
+    )
+    (c .pack-port2 .ensures)
 
 returns-3 : tie.Need-returns-3
-returns-3 c = c .pack-port3 .ensures ∙ port-defined _ _ _ _ _ _ (c .before .before .before .before .before .before .port-word .ensures) (c .before .before .before .before .before .port-kind .ensures .value) (c .before .before .before .before .port-has-initial .ensures .value) (c .before .before .before .port-initial .ensures .value) (c .before .before .if1 .left) (c .before .if2 .left)
+unfolding freshPort
+returns-3 c =
+    rw (
+      ← c .before .before .before .before .before .port-at .ensures .has-initial .value,
+      ne-eqb _ _ (c .before .before .before .if1 .left),
+      ← c .before .before .before .before .before .port-at .ensures .kind .value,
+      ne-eqb _ _ (c .before .if2 .left),
+    )
+    (c .pack-port3 .ensures)
 
 pub fresh-port-spec : {M : Type 1} → statement M
 fresh-port-spec =
-    tie.close
-    (tie.spec
-    (λ c κs. search needs)
-    (λ c κs. search needs)
-    (λ c κs. search needs)
-    (λ c κs. search needs)
-    (λ c κs. search needs)
-    returns
-    (λ c κs. search needs)
-    returns-2
-    (λ c κs. search needs)
-    returns-3)
+    tie.close (tie.spec (λ c κs. search needs) (λ c κs. search needs) returns (λ c κs. search needs) returns-2 (λ c κs. search needs) returns-3)

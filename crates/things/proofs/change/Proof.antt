@@ -5,18 +5,6 @@ use borrow.Author.Needs.{needs}
 use Rattle.things.proofs.change.Statement.{statement}
 use Rattle.things.proofs.change.Tie as tie
 
-wake-requires : tie.Need-wake-requires
-wake-requires c κs = c .before .before .before .before .pre
-
-validate-requires : tie.Need-validate-requires
-validate-requires c κs = c .before .before .before .before .pre
-
-bus-off-requires : tie.Need-bus-off-requires
-bus-off-requires c κs = c .before .before .before .before .pre
-
-clear-requires : tie.Need-clear-requires
-clear-requires c κs = c .before .before .before .before .pre
-
 returns : tie.Need-returns
 unfolding changed
 returns c = rw (c .before .before .before .before .match .keys1) (c .before .before .wake .ensures)
@@ -31,21 +19,16 @@ returns-3 c = rw (c .before .before .before .before .match .keys3) (c .before .b
 
 returns-4 : tie.Need-returns-4
 unfolding changed
-returns-4 c = rw (ne-eqb _ _ (c .before .before .before .before .match .rest .0 .0 .1), ne-eqb _ _ (c .before .before .before .before .match .rest .0 .1), ne-eqb _ _ (c .before .before .before .before .match .rest .1)) (c .before .before .clear .ensures)
+returns-4 c =
+    rw (
+      ne-eqb _ _ (c .before .before .before .before .match .rest .0 .0 .1),
+      ne-eqb _ _ (c .before .before .before .before .match .rest .0 .1),
+      ne-eqb _ _ (c .before .before .before .before .match .rest .1),
+    ) (c .before .before .clear .ensures)
 
 pub change-spec : {M : Type 1} → statement M
 change-spec =
     tie.close
     (tie.spec
-    wake-requires
-    validate-requires
-    bus-off-requires
-    clear-requires
-    (λ c. search needs)
-    returns
-    (λ c. search needs)
-    returns-2
-    (λ c. search needs)
-    returns-3
-    (λ c. search needs)
-    returns-4)
+    (λ c κs. search needs) (λ c κs. search needs) (λ c κs. search needs) (λ c κs. search needs) (λ c. search needs) returns (λ c. search needs)
+    returns-2 (λ c. search needs) returns-3 (λ c. search needs) returns-4)

@@ -2,11 +2,12 @@
 use Prim.Native.Nat.{_-_, _≤_}
 use mathlib.Core.Path.{_≡_, refl, sym, _∙_}
 use native.Mathlib.Nat.{sub-zero}
-use native.Mathlib.Omega.{arith}
 use lib.ListN.{length}
 use Rattle.rulebook.specs.Words.{each}
 use Rattle.rulebook.specs.Events.{tickNetwork}
 use Rattle.walks.proofs.Walks.{each-turn, each-end}
+use native.Mathlib.Omega.{arith}
+use borrow.Author.Needs.{needs}
 use Rattle.things.proofs.tick_networks.Statement.{statement}
 use Rattle.things.proofs.tick_networks.Tie as tie
 
@@ -16,35 +17,28 @@ Inv-loop t h s₀ count n₀ s n = (n ≤ count) × (length s ≡ length s₀) �
 abbrev μ-loop : tie.MeasureT-loop
 μ-loop t h s₀ count n₀ s n = count - n
 
+abbrev entry : tie.After-slice-known2 Inv-loop μ-loop → tie.Start Inv-loop μ-loop
+entry c = c .before .before .before .before .before .before .before .before
+
 loop-holds : tie.Need-loop-holds Inv-loop μ-loop
 loop-holds c = (omega arith, refl, rw sub-zero)
-
-tick-network-requires : tie.Need-tick-network-requires Inv-loop μ-loop
-tick-network-requires c κs = c .before .before .before .before .before .pre
 
 loop-again : tie.Need-loop-again Inv-loop μ-loop
 loop-again c = (
   omega arith,
   c .before .before .tick-network .kept .1 .1 .0 ∙ c .before .before .before .before .before .loop .inv .1,
-  rw (c .before .before .tick-network .ensures) (c .before .before .before .before .before .loop .inv .2 ∙ each-turn _ _ (tickNetwork (c .before .before .before .before .before .before .before .before .args .t .now)) _ (c .before .before .before .before .loop-test .taken)),
+  rw (c .before .before .tick-network .ensures) (c .before .before .before .before .before .loop .inv .2 ∙ each-turn _ _
+      (tickNetwork (entry c .args .t .now)) _ (c .before .before .before .before .loop-test .taken)),
 )
 
 same-length : tie.Need-same-length Inv-loop μ-loop
 same-length c = c .before .loop .inv .1
 
 returns : tie.Need-returns Inv-loop μ-loop
-returns c = rw (← c .before .before .before .before .pre .networks .value) (sym (c .before .loop .inv .2 ∙ each-end _ _ (tickNetwork (c .before .before .before .before .args .t .now)) _ (c .loop-test .left)))
+returns c =
+    rw (← c .before .before .before .before .pre .networks .value)
+    (sym (c .before .loop .inv .2 ∙ each-end _ _ (tickNetwork (c .before .before .before .before .args .t .now)) _ (c .loop-test .left)))
 
 pub tick-networks-spec : {M : Type 1} → statement M
 tick-networks-spec =
-    tie.close
-    (tie.spec
-    Inv-loop
-    μ-loop
-    loop-holds
-    tick-network-requires
-    (λ c. omega arith)
-    (λ c. omega arith)
-    loop-again
-    same-length
-    returns)
+    tie.close (tie.spec Inv-loop μ-loop loop-holds (λ c κs. search needs) (λ c. omega arith) (λ c. omega arith) loop-again same-length returns)

@@ -4,25 +4,18 @@ use borrow.Author.Needs.{needs}
 use Rattle.things.proofs.tick_things.Statement.{statement}
 use Rattle.things.proofs.tick_things.Tie as tie
 
-tick-networks-requires : tie.Need-tick-networks-requires
-tick-networks-requires c κs = c .before .before .before .pre
-
-tick-sources-requires : tie.Need-tick-sources-requires
-tick-sources-requires c κs = c .before .before .before .before .before .before .before .pre
-
-tick-timers-requires : tie.Need-tick-timers-requires
-tick-timers-requires c κs = c .before .before .before .before .before .before .before .before .before .before .before .pre
+abbrev after-tick-networks : tie.After-slice-known4 → tie.After-tick-networks
+after-tick-networks c = c .before .before .before .before .before .before .before .before .before .before
 
 returns : tie.Need-returns
 unfolding tickThings
-returns c = rw (← c .before .before .before .before .before .before .before .before .before .before .tick-networks .ensures, ← c .before .before .before .before .before .before .tick-sources .ensures) (c .before .before .tick-timers .ensures)
+returns c =
+    rw (
+      ← after-tick-networks c .tick-networks .ensures,
+      ← c .before .before .before .before .before .before .tick-sources .ensures,
+    )
+    (c .before .before .tick-timers .ensures)
 
 pub tick-things-spec : {M : Type 1} → statement M
 tick-things-spec =
-    tie.close
-    (tie.spec
-    tick-networks-requires
-    tick-sources-requires
-    tick-timers-requires
-    (λ c. search needs)
-    returns)
+    tie.close (tie.spec (λ c κs. search needs) (λ c κs. search needs) (λ c κs. search needs) (λ c. search needs) returns)

@@ -2,11 +2,11 @@
 use Prim.Native.Nat.{_-_, _≤_}
 use mathlib.Core.Path.{_≡_, refl, sym, _∙_}
 use native.Mathlib.Nat.{sub-zero}
-use native.Mathlib.Omega.{arith}
 use lib.ListN.{length}
 use Rattle.rulebook.specs.Words.{each}
 use Rattle.rulebook.specs.Events.{tickTimer}
 use Rattle.walks.proofs.Walks.{each-turn, each-end}
+use native.Mathlib.Omega.{arith}
 use Rattle.things.proofs.tick_timers.Statement.{statement}
 use Rattle.things.proofs.tick_timers.Tie as tie
 
@@ -16,6 +16,9 @@ Inv-loop t s₀ count p₀ s p = (p ≤ count) × (length s ≡ length s₀) × 
 abbrev μ-loop : tie.MeasureT-loop
 μ-loop t s₀ count p₀ s p = count - p
 
+abbrev entry : tie.After-slice-known2 Inv-loop μ-loop → tie.Start Inv-loop μ-loop
+entry c = c .before .before .before .before .before .before .before .before
+
 loop-holds : tie.Need-loop-holds Inv-loop μ-loop
 loop-holds c = (omega arith, refl, rw sub-zero)
 
@@ -23,25 +26,18 @@ loop-again : tie.Need-loop-again Inv-loop μ-loop
 loop-again c = (
   omega arith,
   c .before .before .tick-timer .kept .1 .0 ∙ c .before .before .before .before .before .loop .inv .1,
-  rw (c .before .before .tick-timer .ensures) (c .before .before .before .before .before .loop .inv .2 ∙ each-turn _ _ (tickTimer (c .before .before .before .before .before .before .before .before .args .t .now)) _ (c .before .before .before .before .loop-test .taken)),
+  rw (c .before .before .tick-timer .ensures) (c .before .before .before .before .before .loop .inv .2 ∙ each-turn _ _
+      (tickTimer (entry c .args .t .now)) _ (c .before .before .before .before .loop-test .taken)),
 )
 
 same-length : tie.Need-same-length Inv-loop μ-loop
 same-length c = c .before .loop .inv .1
 
 returns : tie.Need-returns Inv-loop μ-loop
-returns c = rw (← c .before .before .before .before .pre .ports .value) (sym (c .before .loop .inv .2 ∙ each-end _ _ (tickTimer (c .before .before .before .before .args .t .now)) _ (c .loop-test .left)))
+returns c =
+    rw (← c .before .before .before .before .pre .ports .value)
+    (sym (c .before .loop .inv .2 ∙ each-end _ _ (tickTimer (c .before .before .before .before .args .t .now)) _ (c .loop-test .left)))
 
 pub tick-timers-spec : {M : Type 1} → statement M
 tick-timers-spec =
-    tie.close
-    (tie.spec
-    Inv-loop
-    μ-loop
-    loop-holds
-    (λ c κs. tt)
-    (λ c. omega arith)
-    (λ c. omega arith)
-    loop-again
-    same-length
-    returns)
+    tie.close (tie.spec Inv-loop μ-loop loop-holds (λ c κs. tt) (λ c. omega arith) (λ c. omega arith) loop-again same-length returns)

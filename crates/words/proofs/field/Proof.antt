@@ -8,7 +8,7 @@ use Rattle.words.proofs.field.Tie as tie
 
 returns : tie.Need-returns
 unfolding digit
-returns c = record { value = refl; small = mod-lt _ (c .pre .1) }
+returns c = record { value = refl; small = mod-lt _ (c .pre .some-size) }
 
 pub field-spec : {M : Type 1} → statement M
 field-spec = tie.close (tie.spec (λ c. search needs) (λ c. search needs) returns)

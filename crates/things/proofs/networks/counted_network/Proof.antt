@@ -5,12 +5,15 @@ use borrow.Author.Needs.{needs}
 use Rattle.things.proofs.networks.counted_network.Statement.{statement}
 use Rattle.things.proofs.networks.counted_network.Tie as tie
 
-waits-word-requires : tie.Need-waits-word-requires
-waits-word-requires c κs = c .before .before .before .pre
-
 returns : tie.Need-returns
 unfolding countedNetwork
-returns c = rw (eq-eqb _ _ (c .before .before .before .before .if1 .taken), le-leb _ _ (c .before .before .before .if2 .taken), ← c .before .before .waits-word .ensures, ← c .before .e-ticks .ensures .value) (c .moved .ensures)
+returns c =
+    rw (
+      eq-eqb _ _ (c .before .before .before .if1 .taken),
+      le-leb _ _ (c .before .before .if2 .taken),
+      ← c .before .waits-at .ensures .e-ticks .value,
+    )
+    (c .moved .ensures)
 
 returns-2 : tie.Need-returns-2
 unfolding countedNetwork
@@ -18,11 +21,23 @@ returns-2 c = rw (eq-eqb _ _ (c .before .before .if1 .taken), lt-leb _ _ (c .bef
 
 returns-3 : tie.Need-returns-3
 unfolding countedNetwork
-returns-3 c = rw (ne-eqb _ _ (c .before .before .before .if1 .left), eq-eqb _ _ (c .before .before .if3 .taken), le-leb _ _ (c .before .if4 .taken)) (c .moved3 .ensures)
+returns-3 c =
+    rw (
+      ne-eqb _ _ (c .before .before .before .if1 .left),
+      eq-eqb _ _ (c .before .before .if3 .taken),
+      le-leb _ _ (c .before .if4 .taken),
+    )
+    (c .moved3 .ensures)
 
 returns-4 : tie.Need-returns-4
 unfolding countedNetwork
-returns-4 c = rw (ne-eqb _ _ (c .before .before .before .if1 .left), eq-eqb _ _ (c .before .before .if3 .taken), lt-leb _ _ (c .before .if4 .left)) (c .moved4 .ensures)
+returns-4 c =
+    rw (
+      ne-eqb _ _ (c .before .before .before .if1 .left),
+      eq-eqb _ _ (c .before .before .if3 .taken),
+      lt-leb _ _ (c .before .if4 .left),
+    )
+    (c .moved4 .ensures)
 
 returns-5 : tie.Need-returns-5
 unfolding countedNetwork
@@ -32,16 +47,5 @@ pub counted-network-spec : {M : Type 1} → statement M
 counted-network-spec =
     tie.close
     (tie.spec
-    waits-word-requires
-    (λ c κs. tt)
-    (λ c κs. tt)
-    returns
-    (λ c. search needs)
-    (λ c κs. tt)
-    returns-2
-    (λ c κs. tt)
-    returns-3
-    (λ c. search needs)
-    (λ c κs. tt)
-    returns-4
-    returns-5)
+    (λ c κs. search needs) (λ c κs. search needs) returns (λ c. search needs) (λ c κs. search needs) returns-2 (λ c κs. search needs) returns-3
+    (λ c. search needs) (λ c κs. search needs) returns-4 returns-5)

@@ -4,25 +4,12 @@ use borrow.Author.Needs.{needs}
 use Rattle.things.proofs.networks.tick_network.Statement.{statement}
 use Rattle.things.proofs.networks.tick_network.Tie as tie
 
-network-in-requires : tie.Need-network-in-requires
-network-in-requires c κs = c .before .before .before .pre
-
-ticked-network-requires : tie.Need-ticked-network-requires
-ticked-network-requires c κs = c .before .before .before .before .pre
-
-move-network-requires : tie.Need-move-network-requires
-move-network-requires c κs = c .before .before .before .before .before .before .pre
-
 returns : tie.Need-returns
 unfolding tickNetwork
-returns c = rw (← c .before .before .before .before .before .network-in .ensures, ← c .before .before .before .before .ticked-network .ensures) (c .before .before .move-network .ensures)
+returns c =
+    rw (← c .before .before .before .before .before .network-in .ensures, ← c .before .before .before .before .ticked-network .ensures)
+    (c .before .before .move-network .ensures)
 
 pub tick-network-spec : {M : Type 1} → statement M
 tick-network-spec =
-    tie.close
-    (tie.spec
-    network-in-requires
-    ticked-network-requires
-    move-network-requires
-    (λ c. search needs)
-    returns)
+    tie.close (tie.spec (λ c κs. search needs) (λ c κs. search needs) (λ c κs. search needs) (λ c. search needs) returns)

@@ -1,6 +1,7 @@
 -- `things::networks::ticked_network` meets its contract: one answer for each thing that a tick can do, by the tests that led there. Assumes nothing.
 use Rattle.rulebook.specs.Events.{tickedNetwork}
 use borrow.Author.Tests.{eq-eqb, ne-eqb}
+use borrow.Author.Needs.{needs}
 use Rattle.things.proofs.networks.ticked_network.Statement.{statement}
 use Rattle.things.proofs.networks.ticked_network.Tie as tie
 
@@ -12,15 +13,16 @@ returns-2 : tie.Need-returns-2
 unfolding tickedNetwork
 returns-2 c = rw (ne-eqb _ _ (c .before .before .if1 .left), c .before .if2 .taken) (c .moved2 .ensures)
 
-waits-word-requires : tie.Need-waits-word-requires
-waits-word-requires c κs = c .before .before .before .before .pre
-
 returns-3 : tie.Need-returns-3
 unfolding tickedNetwork
-returns-3 c = rw (ne-eqb _ _ (c .before .before .before .before .before .if1 .left), c .before .before .before .before .if2 .left, c .before .before .before .if3 .taken, ← c .before .before .waits-word .ensures, ← c .before .e-ticks .ensures .value) (c .moved3 .ensures)
-
-counted-network-requires : tie.Need-counted-network-requires
-counted-network-requires c κs = c .before .before .before .before .pre
+returns-3 c =
+    rw (
+      ne-eqb _ _ (c .before .before .before .before .if1 .left),
+      c .before .before .before .if2 .left,
+      c .before .before .if3 .taken,
+      ← c .before .waits-at .ensures .e-ticks .value,
+    )
+    (c .moved3 .ensures)
 
 returns-4 : tie.Need-returns-4
 unfolding tickedNetwork
@@ -30,13 +32,5 @@ pub ticked-network-spec : {M : Type 1} → statement M
 ticked-network-spec =
     tie.close
     (tie.spec
-    (λ c κs. tt)
-    returns
-    (λ c κs. tt)
-    returns-2
-    waits-word-requires
-    (λ c κs. tt)
-    (λ c κs. tt)
-    returns-3
-    counted-network-requires
+    (λ c κs. search needs) returns (λ c κs. search needs) returns-2 (λ c κs. search needs) (λ c κs. search needs) returns-3 (λ c κs. search needs)
     returns-4)

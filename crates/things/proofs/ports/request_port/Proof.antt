@@ -5,26 +5,19 @@ use Rattle.things.proofs.ports.request_port.Statement.{statement}
 use Rattle.things.proofs.ports.request_port.Tie as tie
 
 returns : tie.Need-returns
-returns c = record {
-  written = rw (← c .before .before .before .before .before .before .port-word .ensures, ← c .before .before .before .before .before .port-deferred .ensures .value, eq-eqb _ _ (c .before .before .before .before .if1 .taken)) (c .before .before .set-port .ensures);
-  answered = rw (← c .before .before .before .before .before .before .port-word .ensures, ← c .before .before .before .before .before .port-deferred .ensures .value, eq-eqb _ _ (c .before .before .before .before .if1 .taken));
-}
+returns c =
+    let deferred = rw (c .before .before .before .before .before .before .port-at .ensures .deferred .value) at
+    (eq-eqb _ _ (c .before .before .before .before .if1 .taken)) in
+    record { written = rw deferred (c .before .before .set-port .ensures); answered = rw deferred }
 
 returns-2 : tie.Need-returns-2
-returns-2 c = record {
-  written = rw (← c .before .before .before .before .before .before .port-word .ensures, ← c .before .before .before .before .before .port-deferred .ensures .value, ne-eqb _ _ (c .before .before .before .before .if1 .left)) (c .before .before .set-port2 .ensures);
-  answered = rw (← c .before .before .before .before .before .before .port-word .ensures, ← c .before .before .before .before .before .port-deferred .ensures .value, ne-eqb _ _ (c .before .before .before .before .if1 .left));
-}
+returns-2 c =
+    let immediate = rw (c .before .before .before .before .before .before .port-at .ensures .deferred .value) at
+    (ne-eqb _ _ (c .before .before .before .before .if1 .left)) in
+    record { written = rw immediate (c .before .before .set-port2 .ensures); answered = rw immediate }
 
 pub request-port-spec : {M : Type 1} → statement M
 request-port-spec =
     tie.close
     (tie.spec
-    (λ c κs. tt)
-    (λ c κs. tt)
-    (λ c κs. tt)
-    (λ c. search needs)
-    returns
-    (λ c κs. tt)
-    (λ c. search needs)
-    returns-2)
+    (λ c κs. search needs) (λ c κs. search needs) (λ c. search needs) returns (λ c κs. search needs) (λ c. search needs) returns-2)

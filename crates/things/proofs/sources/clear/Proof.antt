@@ -4,12 +4,10 @@ use borrow.Author.Needs.{needs}
 use Rattle.things.proofs.sources.clear.Statement.{statement}
 use Rattle.things.proofs.sources.clear.Tie as tie
 
-move-source-requires : tie.Need-move-source-requires
-move-source-requires c κs = c .before .before .before .pre
-
 returns : tie.Need-returns
 unfolding clear
 returns c = c .before .before .move-source .ensures
 
 pub clear-spec : {M : Type 1} → statement M
-clear-spec = tie.close (tie.spec move-source-requires (λ c. search needs) returns)
+clear-spec =
+    tie.close (tie.spec (λ c κs. search needs) (λ c. search needs) returns)

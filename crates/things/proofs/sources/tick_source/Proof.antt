@@ -5,41 +5,41 @@ use borrow.Author.Needs.{needs}
 use Rattle.things.proofs.sources.tick_source.Statement.{statement}
 use Rattle.things.proofs.sources.tick_source.Tie as tie
 
-source-index-requires : tie.Need-source-index-requires
-source-index-requires c κs = c .before .before .pre
+abbrev after-source-in : tie.After-slice-known2 → tie.After-source-in
+after-source-in c = c .before .before .before .before .before .before .before .before
 
-move-source-requires : tie.Need-move-source-requires
-move-source-requires c κs = c .before .before .before .before .before .before .before .before .before .before .pre
-
-move-source-requires-2 : tie.Need-move-source-requires-2
-move-source-requires-2 c κs = c .before .before .before .before .before .before .before .before .before .before .pre
+abbrev then1 : tie.After-slice-known3 → tie.Then1
+then1 c = c .before .before .before .before .before .before .before
 
 returns : tie.Need-returns
 unfolding tickSource
-returns c = rw (← c .before .before .before .before .before .before .before .before .before .before .source-index .ensures, ← c .before .before .before .before .before .before .before .before .word .ensures, ← c .before .before .before .before .before .before .before .status .ensures .value, ← c .before .before .before .before .before .before .remaining .ensures .value, eq-eqb _ _ (c .before .before .before .before .before .if1 .taken), le-leb _ _ (c .before .before .before .before .if2 .taken)) (c .before .before .move-source .ensures)
+returns c =
+    rw (
+      ← after-source-in c .source-in .ensures .status .value,
+      ← after-source-in c .source-in .ensures .remaining .value,
+      eq-eqb _ _ (c .before .before .before .before .before .before .if1 .taken),
+      le-leb _ _ (c .before .before .before .before .if2 .taken),
+    )
+    (c .before .before .move-source .ensures)
 
 returns-2 : tie.Need-returns-2
 unfolding tickSource
-returns-2 c = rw (← c .before .before .before .before .before .before .before .before .before .before .source-index .ensures, ← c .before .before .before .before .before .before .before .before .word .ensures, ← c .before .before .before .before .before .before .before .status .ensures .value, ← c .before .before .before .before .before .before .remaining .ensures .value, eq-eqb _ _ (c .before .before .before .before .before .if1 .taken), lt-leb _ _ (c .before .before .before .before .if2 .left)) (c .before .before .move-source2 .ensures)
+returns-2 c =
+    rw (
+      ← then1 c .before .before .source-in .ensures .status .value,
+      ← then1 c .before .before .source-in .ensures .remaining .value,
+      eq-eqb _ _ (then1 c .if1 .taken),
+      lt-leb _ _ (c .before .before .before .before .before .if2 .left),
+    )
+    (c .before .before .move-source2 .ensures)
 
 returns-3 : tie.Need-returns-3
 unfolding tickSource
-returns-3 c = rw (← c .before .before .before .before .before .source-index .ensures, ← c .before .before .before .word .ensures, ← c .before .before .status .ensures .value, ne-eqb _ _ (c .if1 .left))
+returns-3 c = rw (← c .before .before .source-in .ensures .status .value, ne-eqb _ _ (c .if1 .left))
 
 pub tick-source-spec : {M : Type 1} → statement M
 tick-source-spec =
     tie.close
     (tie.spec
-    source-index-requires
-    (λ c κs. tt)
-    (λ c κs. tt)
-    (λ c κs. tt)
-    move-source-requires
-    (λ c. search needs)
-    move-source-requires-2
-    (λ c. search needs)
-    returns
-    (λ c. search needs)
-    returns-2
-    (λ c. search needs)
-    returns-3)
+    (λ c κs. search needs) (λ c κs. search needs) (λ c. search needs) (λ c κs. search needs) (λ c. search needs) returns (λ c. search needs) returns-2
+    (λ c. search needs) returns-3)

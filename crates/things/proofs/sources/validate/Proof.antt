@@ -5,27 +5,19 @@ use borrow.Author.Needs.{needs}
 use Rattle.things.proofs.sources.validate.Statement.{statement}
 use Rattle.things.proofs.sources.validate.Tie as tie
 
-source-status-requires : tie.Need-source-status-requires
-source-status-requires c κs = c .before .before .before .pre
-
-move-source-requires : tie.Need-move-source-requires
-move-source-requires c κs = c .before .before .before .before .before .before .pre
-
 returns : tie.Need-returns
 unfolding validate
-returns c = rw (← c .before .before .before .before .before .source-status .ensures .value, eq-eqb _ _ (c .before .before .before .before .if1 .taken)) (c .before .before .move-source .ensures)
+returns c =
+    rw (
+      ← c .before .before .before .before .before .before .source-in .ensures .status .value,
+      eq-eqb _ _ (c .before .before .before .before .if1 .taken),
+    )
+    (c .before .before .move-source .ensures)
 
 returns-2 : tie.Need-returns-2
 unfolding validate
-returns-2 c = rw (← c .before .source-status .ensures .value, ne-eqb _ _ (c .if1 .left))
+returns-2 c = rw (← c .before .before .source-in .ensures .status .value, ne-eqb _ _ (c .if1 .left))
 
 pub validate-spec : {M : Type 1} → statement M
 validate-spec =
-    tie.close
-    (tie.spec
-    source-status-requires
-    move-source-requires
-    (λ c. search needs)
-    returns
-    (λ c. search needs)
-    returns-2)
+    tie.close (tie.spec (λ c κs. search needs) (λ c κs. search needs) (λ c. search needs) returns (λ c. search needs) returns-2)

@@ -1,8 +1,8 @@
--- `things::ports::set_port` meets its contract: the word packed is the one that the rulebook sets. Assumes nothing.
+-- `words::state::set_port` meets its contract: the word packed is the one that the rulebook sets. Assumes nothing.
 use Rattle.rulebook.specs.Lists.{setPort}
 use borrow.Author.Needs.{needs}
-use Rattle.things.proofs.ports.set_port.Statement.{statement}
-use Rattle.things.proofs.ports.set_port.Tie as tie
+use Rattle.words.proofs.state.set_port.Statement.{statement}
+use Rattle.words.proofs.state.set_port.Tie as tie
 
 returns : tie.Need-returns
 unfolding setPort

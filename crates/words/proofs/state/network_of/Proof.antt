@@ -1,0 +1,17 @@
+-- `words::state::network_of` meets its contract: the four fields read are the rulebook's. Assumes nothing.
+use borrow.Author.Needs.{needs}
+use Rattle.words.proofs.state.network_of.Statement.{statement}
+use Rattle.words.proofs.state.network_of.Tie as tie
+
+returns : tie.Need-returns
+returns c =
+    rw (
+      ← c .before .before .before .asked .ensures .value,
+      ← c .before .before .network-state .ensures .value,
+      ← c .before .counter .ensures .value,
+      ← c .remaining .ensures .value,
+    )
+
+pub network-of-spec : {M : Type 1} → statement M
+network-of-spec =
+    tie.close (tie.spec (λ c κs. search needs) (λ c κs. search needs) (λ c κs. search needs) (λ c κs. search needs) returns)

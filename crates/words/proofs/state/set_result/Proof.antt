@@ -1,0 +1,16 @@
+-- `words::state::set_result` meets its contract: the word packed is the one that the rulebook sets. Assumes nothing.
+use Rattle.rulebook.specs.Lists.{setResult}
+use borrow.Author.Needs.{needs}
+use Rattle.words.proofs.state.set_result.Statement.{statement}
+use Rattle.words.proofs.state.set_result.Tie as tie
+
+abbrev entry : tie.After-slice-known2 → tie.Start
+entry c = c .before .before .before .before .before .before .before .before
+
+returns : tie.Need-returns
+unfolding setResult
+returns c = rw (← entry c .pre .ports .value, ← c .before .before .before .before .before .pack-rule .ensures) (c .before .before .put .ensures)
+
+pub set-result-spec : {M : Type 1} → statement M
+set-result-spec =
+    tie.close (tie.spec (λ c κs. search needs) (λ c. search needs) (λ c. search needs) (λ c κs. search needs) (λ c. search needs) returns)
