@@ -20,6 +20,7 @@ use Rattle.laws.proofs.Tests.{split}
 use Rattle.laws.proofs.Walks.{any-at}
 use Rattle.laws.proofs.Order.{each-weaker, order-there}
 use Rattle.lists.specs.Runs.{Ran, nothing}
+use Rattle.lists.proofs.Along.{ran-none}
 use Rattle.arbitration.specs.Outcomes.{Marked}
 use Rattle.arbitration.proofs.Passes.{raised-flag}
 use Rattle.arbitration.proofs.Picking.{none-chosen}
@@ -120,4 +121,4 @@ none-marked t s h p =
     split (ltb p (ports t)) (λ e. any-at (markedIn t s) 0 (ports t) p h (omega arith) (let z : p < ports t = ltb-true _ _ e in omega arith)) (λ e. rw e)
 
 pub nothing-marked : (t s T : List ℕ) → any 0 (ports t) (markedIn t s) ≡ false → Ran (arbitrate t (markedIn t s) s) s T T nothing
-nothing-marked t s T h = rw (arbitrate-none t (markedIn t s) (none-marked t s h) s) (record { state = refl; words = refl; count = refl })
+nothing-marked t s T h = rw (arbitrate-none t (markedIn t s) (none-marked t s h) s) (ran-none s T)

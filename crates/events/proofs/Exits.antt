@@ -12,7 +12,7 @@ use Rattle.rulebook.specs.Arbitration.{arbitrate}
 use Rattle.rulebook.specs.Events.{eventKind, eventIndex, eventValue, only, request, tick, happen}
 use Rattle.rulebook.specs.Step.{finish, handle}
 use Rattle.lists.specs.declared.Written.{Written}
-use Rattle.lists.specs.Runs.{Ran, nothing}
+use Rattle.lists.specs.Runs.{Ran}
 use Rattle.things.specs.Requests.{Requested}
 use Rattle.things.proofs.Requests.{request-goes}
 use Rattle.things.proofs.Changes.{change-goes}
@@ -25,10 +25,6 @@ use Rattle.refusals.proofs.EventCheck.{the-type}
 use Rattle.events.specs.declared.Answer.{Answer}
 use Rattle.events.specs.declared.Answer.the-variants.{Done}
 use Rattle.events.specs.Answers.{numberOf, countOf, Told}
-
--- a run that only changes the state
-pub ran-start : (s trace : List ℕ) → Ran (start s) s trace trace nothing
-ran-start s trace = record { state = refl; words = refl; count = refl }
 
 -- Requests.
 

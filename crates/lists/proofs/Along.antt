@@ -50,6 +50,10 @@ module _ (whole : Run) (rest : Run → Run) (framed : Framed rest) (x : Run) (ru
 pub along-none : (whole : Run) (rest : Run → Run) (s T : List ℕ) → whole ≡ rest (start s) → Along whole rest T s T nothing
 along-none whole rest s T h = record { run = h; kept = refl; inside = omega arith; long = refl }
 
+-- a run that only changes the state
+pub ran-none : (s T : List ℕ) → Ran (start s) s T T nothing
+ran-none s T = record { state = refl; words = refl; count = refl }
+
 -- what is still to run may be said in another way
 pub along-as : (whole : Run) (rest other : Run → Run) (before s T : List ℕ) (w : Written) → ((x : Run) → rest x ≡ other x)
     → Along whole rest before s T w → Along whole other before s T w

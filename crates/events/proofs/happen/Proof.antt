@@ -1,5 +1,6 @@
 -- `events::happen` meets its contract: the dispatch is the rulebook's. Assumes nothing.
-use Rattle.events.proofs.Exits.{ran-start, happens-tick, happens-mode, happens-request, happens-change}
+use Rattle.lists.proofs.Along.{ran-none}
+use Rattle.events.proofs.Exits.{happens-tick, happens-mode, happens-request, happens-change}
 use borrow.Author.Needs.{needs}
 use Rattle.events.proofs.happen.Statement.{statement}
 use Rattle.events.proofs.happen.Tie as tie
@@ -80,7 +81,7 @@ returns-4 c =
       ← (c .before .before .before .change .ensures),
       c .nothing .ensures,
     )
-    (ran-start _ _)
+    (ran-none _ _)
 
 pub happen-spec : {M : Type 1} → statement M
 happen-spec =

@@ -1,5 +1,6 @@
 -- `events::request` meets its contract: the write, and then the arbitration where it is immediate. Assumes nothing.
-use Rattle.events.proofs.Exits.{ran-start, request-now, request-late}
+use Rattle.lists.proofs.Along.{ran-none}
+use Rattle.events.proofs.Exits.{request-now, request-late}
 use borrow.Author.Needs.{needs}
 use Rattle.events.proofs.request.Statement.{statement}
 use Rattle.events.proofs.request.Tie as tie
@@ -32,7 +33,7 @@ returns-2 c =
       request-late _ _ _ _ _ _ (c .before .before .before .before .request-port .ensures) (c .before .if1 .left),
       c .nothing .ensures,
     )
-    (ran-start _ _)
+    (ran-none _ _)
 
 pub request-spec : {M : Type 1} → statement M
 request-spec =
