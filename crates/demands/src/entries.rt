@@ -1,5 +1,5 @@
 // The entries of `manager`.
-ghost use Rattle.tables.specs.Finding.{finding as told};
+ghost use Rattle.tables.specs.Finding.{finding};
 ghost use Rattle.states.specs.Made.{numberOf as madeNumber};
 ghost use Rattle.events.specs.Answers.{numberOf, countOf};
 ghost use Rattle.manager.specs.Answers.{stateNumber};
@@ -10,7 +10,7 @@ use states::Made;
 use tables::Checked;
 
 pub fn check_table(t: &[u32]) -> Checked
-    ensures { λ r. ⌜ OfTable (now (t .entry)) (told r .reason) (told r .place) (told r .bound) ⌝ }
+    ensures { λ r. ⌜ OfTable (now (t .entry)) (finding r .reason) (finding r .place) (finding r .bound) ⌝ }
 {
     manager::check_table(t)
 }

@@ -8,7 +8,7 @@ use lib.ListN.{length}
 use Rattle.rulebook.specs.State.{stateLength}
 use Rattle.rulebook.specs.Step.{refusedState, step}
 use Rattle.tables.specs.declared.Checked.{Checked}
-use Rattle.tables.specs.Finding.{finding as told, Says, promised}
+use Rattle.tables.specs.Finding.{finding, Says, promised}
 use Rattle.states.specs.declared.Made.{Made}
 use Rattle.states.specs.Made.{Makes}
 use Rattle.states.specs.Made as made
@@ -23,7 +23,7 @@ abbrev pub ChecksTableIn : List ℕ → ℕ → ℕ → ℕ → Type 0
 ChecksTableIn t reason place bound = Says (promised t) reason place bound
 
 abbrev pub ChecksTable : List ℕ → Checked → Type 0
-ChecksTable t r = ChecksTableIn t (told r .reason) (told r .place) (told r .bound)
+ChecksTable t r = ChecksTableIn t (finding r .reason) (finding r .place) (finding r .bound)
 
 -- `state_words` of table t
 abbrev pub CountsWords : List ℕ → ℕ → Type 0

@@ -14,7 +14,7 @@ use Rattle.laws.specs.Facts.{Counts}
 use Rattle.laws.proofs.Tests.{split}
 use Rattle.laws.proofs.Facts.{facts, counts-of}
 use Rattle.tables.specs.declared.Checked.{Checked}
-use Rattle.tables.specs.Finding.{Finding as Told, finding as told, promised}
+use Rattle.tables.specs.Finding.{Finding, finding, promised}
 use Rattle.session.specs.Promises.{Opens}
 use Rattle.tables.proofs.Chain.{from-header, from-edition, from-counts, from-length, from-fields, from-names, from-nesting, from-owners, from-cost}
 use Rattle.tables.proofs.Chain.{none-left, kept, broken, kept-by-all, broken-at}
@@ -66,14 +66,14 @@ state-small t h =
     let c = facts t h .counts in let a = c .ports in let b = c .networks in let d = c .sources in let f = c .rules in omega arith
 
 -- What opening a session answers.
-module _ (t : List ℕ) (r : Checked) (tells : told r ≡ promised t) (k i : ℕ) (kr : k ≡ told r .reason) (ir : i ≡ told r .place) where
+module _ (t : List ℕ) (r : Checked) (tells : finding r ≡ promised t) (k i : ℕ) (kr : k ≡ finding r .reason) (ir : i ≡ finding r .place) where
   reason-is : k ≡ check t .reason
   unfolding promised
-  reason-is = kr ∙ ap (λ (x : Told). x .reason) tells
+  reason-is = kr ∙ ap (λ (x : Finding). x .reason) tells
 
   pub place-is : i ≡ check t .place
   unfolding promised
-  place-is = ir ∙ ap (λ (x : Told). x .place) tells
+  place-is = ir ∙ ap (λ (x : Finding). x .place) tells
 
   pub opens-none : accepted t ≡ false → Opens t (record { reason = k; place = i; state = 0; trace = 0 })
   opens-none h = record { reason = reason-is; place = place-is; state = rw h; trace = rw h; smallState = omega arith; smallTrace = omega arith }

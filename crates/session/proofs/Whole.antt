@@ -13,6 +13,7 @@ use borrow.Author.Tests.{eq-eqb, ne-eqb, le-leb}
 use Rattle.rulebook.specs.Reasons.{accepted, check, verdict, bound}
 use Rattle.rulebook.specs.State.{fits, fresh, stateLength, freshAnswer, freshState}
 use Rattle.rulebook.specs.Step.{refusedCall}
+use Rattle.laws.specs.Callable.{Callable}
 use Rattle.laws.proofs.Tests.{split}
 use Rattle.laws.proofs.Steps.{step-fits, fresh-fits}
 use Rattle.states.specs.Made.{Makes}
@@ -148,7 +149,7 @@ fits-after t s [] h f = f
 fits-after t s (e ∷ es) h f = fits-after t (taken t s e .state) es h (step-fits t s _ e h f)
 
 -- what events leave of a ready state
-pub ready-after : {t s trace s₁ w₁ : List ℕ} (es : List ℕ) → Ready t s trace → length w₁ ≡ length trace → s₁ ≡ stateAfter t s es → Ready t s₁ w₁
+pub ready-after : {t s s₁ : List ℕ} {room room₁ : ℕ} (es : List ℕ) → Callable t s room → room₁ ≡ room → s₁ ≡ stateAfter t s es → Callable t s₁ room₁
 ready-after es ready same is =
     record {
       table = ready .table;
@@ -178,5 +179,5 @@ state-so-far t s₀ s trace bytes from {r = r} is p =
     ∙ ap (stateAfter t s₀) (sym (next-words t s trace bytes from (r .events) (p .within)))
 
 -- The fresh state is ready.
-pub fresh-ready : {t s trace : List ℕ} → accepted t ≡ true → s ≡ fresh t → bound t ≤ length trace → Ready t s trace
-fresh-ready {t} ok is room = record { table = ok; state = rw is (fresh-fits t ok); enough = room }
+pub fresh-ready : {t s : List ℕ} {room : ℕ} → accepted t ≡ true → s ≡ fresh t → bound t ≤ room → Callable t s room
+fresh-ready {t} ok is enough = record { table = ok; state = rw is (fresh-fits t ok); enough = enough }

@@ -18,7 +18,7 @@ use Rattle.tables.specs.declared.Checked.{Checked}
 use Rattle.tables.specs.declared.Checked.the-variants.{Accepted, TooShort, WrongEdition, WrongCounts, WrongLength as LengthDiffers, Misfit, Misnamed}
 use Rattle.tables.specs.declared.Checked.the-variants.{TooDeep, OwnersClash, TooDear}
 use Rattle.tables.proofs.Checked.{the-type}
-use Rattle.tables.specs.Finding.{Finding as Told, finding as told, promised}
+use Rattle.tables.specs.Finding.{Finding, finding, promised}
 use Rattle.states.specs.declared.Made.{Made}
 use Rattle.states.specs.declared.Made.the-variants.{Done, BadTable, WrongLength}
 use Rattle.states.specs.Made.{numberOf, Fresh}
@@ -36,12 +36,12 @@ all-fresh t s n long asked words =
 
 -- The exits.
 
-pub is-accepted : (t : List ℕ) (b : ℕ) (r : Checked) → r ≡ Accepted b → told r ≡ promised t → accepted t ≡ true
+pub is-accepted : (t : List ℕ) (b : ℕ) (r : Checked) → r ≡ Accepted b → finding r ≡ promised t → accepted t ≡ true
 unfolding promised
-is-accepted t b r e h = eq-eqb (check t .reason) 0 (ap (λ (x : Told). x .reason) (sym h) ∙ ap (λ (x : Checked). told x .reason) e)
+is-accepted t b r e h = eq-eqb (check t .reason) 0 (ap (λ (x : Finding). x .reason) (sym h) ∙ ap (λ (x : Checked). finding x .reason) e)
 
 -- an answer that is not `Accepted` tells a reason
-reason-of : (r : Checked) → ((b : ℕ) → r ≡ Accepted b → ⊥) → eqb (told r .reason) 0 ≡ false
+reason-of : (r : Checked) → ((b : ℕ) → r ≡ Accepted b → ⊥) → eqb (finding r .reason) 0 ≡ false
 reason-of (Accepted b) f = absurd (f b refl)
 reason-of TooShort f = refl
 reason-of WrongEdition f = refl
@@ -57,10 +57,10 @@ reason-of TooDear f = refl
 abbrev others : List ℕ
 others = 1 ∷ 2 ∷ 3 ∷ 4 ∷ 5 ∷ 6 ∷ 7 ∷ 8 ∷ 9 ∷ []
 
-pub is-refused : (t : List ℕ) (r : Checked) → OneOf others (tagOf the-type r) → told r ≡ promised t → accepted t ≡ false
+pub is-refused : (t : List ℕ) (r : Checked) → OneOf others (tagOf the-type r) → finding r ≡ promised t → accepted t ≡ false
 unfolding promised
 is-refused t r other h =
-    rw (ap (λ (x : Told). x .reason) (sym h))
+    rw (ap (λ (x : Finding). x .reason) (sym h))
     (reason-of r (λ b e. miss others 0 tt (subst (λ (x : Checked). OneOf others (tagOf the-type x)) e other)))
 
 module _ (t s : List ℕ) where

@@ -11,7 +11,7 @@ use Rattle.session.specs.Promises.{PutLines}
 use Rattle.session.proofs.Checks.{place-small, place-is}
 use Rattle.session.proofs.Lines.{put-more, put-length, one-put, decimal-long}
 use Rattle.tables.specs.declared.Checked.{Checked}
-use Rattle.tables.specs.Finding.{Finding as Told, finding as told, promised, Says}
+use Rattle.tables.specs.Finding.{Finding, finding, promised, Says}
 use Rattle.verdict.specs.Verdict.{verdictLines, linesOf}
 
 pub unlaid : (xs out : List ℕ) → length out < 33 → PutLines 33 xs out 0 out
@@ -38,11 +38,11 @@ laid-lines {out} k i b hk hi hb h p q r =
     record { count = rw enough (all .place ∙ omega arith); bytes = rw enough (all .bytes); inside = omega (arith, all .place) }
 
 -- in the numbers that a check tells
-pub laid : {out o₁ o₂ o₃ : List ℕ} {n₁ n₂ n₃ : ℕ} (x : Told) (k i b : ℕ) → Says x k i b → k < 2 ^ 32 → i < 2 ^ 32 → b < 2 ^ 32
+pub laid : {out o₁ o₂ o₃ : List ℕ} {n₁ n₂ n₃ : ℕ} (x : Finding) (k i b : ℕ) → Says x k i b → k < 2 ^ 32 → i < 2 ^ 32 → b < 2 ^ 32
     → 33 ≤ length out → Put (decimalLine k) out 0 n₁ o₁ → Put (decimalLine i) o₁ n₁ n₂ o₂ → Put (decimalLine b) o₂ n₂ n₃ o₃
     → PutLines 33 (linesOf x) out n₃ o₃
 laid x k i b says hk hi hb h p q r = rw (← says .0, ← says .1, ← says .2) (laid-lines k i b hk hi hb h p q r)
 
 -- a reason's place is at most 3,185
-pub place-fits : (t : List ℕ) (r : Checked) → told r ≡ promised t → (k i : ℕ) → k ≡ told r .reason → i ≡ told r .place → i < 2 ^ 32
+pub place-fits : (t : List ℕ) (r : Checked) → finding r ≡ promised t → (k i : ℕ) → k ≡ finding r .reason → i ≡ finding r .place → i < 2 ^ 32
 place-fits t r tells k i kr ir = let p = place-small t in let q = place-is t r tells k i kr ir in omega arith

@@ -2,13 +2,13 @@
 use Prim.Native.Nat.{ℕ}
 use mathlib.Core.List.{List, _++_}
 use Rattle.text.specs.Lines.{decimalLine}
-use Rattle.tables.specs.Finding.{Finding as Told, promised}
+use Rattle.tables.specs.Finding.{Finding, promised}
 use Rattle.session.specs.Promises.{PutLines}
 
 unfoldable pub verdictLines : ℕ → ℕ → ℕ → List ℕ
 verdictLines reason place bound = decimalLine reason ++ decimalLine place ++ decimalLine bound
 
-abbrev pub linesOf : Told → List ℕ
+abbrev pub linesOf : Finding → List ℕ
 linesOf x = verdictLines (x .reason) (x .place) (x .bound)
 
 -- `lay_verdict` of table t: three numbers of 32 bits have at most 33 bytes with their newlines
