@@ -13,6 +13,7 @@ use Rattle.rulebook.specs.Reasons.{bound, accepted}
 use Rattle.rulebook.specs.State.{fits}
 use Rattle.rulebook.specs.Events.{happen}
 use Rattle.rulebook.specs.Step.{Result, refusedState, refusedCall, firstFault, refusedEvent, conclude, step, handle}
+use Rattle.laws.specs.Callable.{Callable}
 use Rattle.laws.proofs.Tests.{split}
 use Rattle.laws.proofs.Facts.{facts}
 use Rattle.laws.proofs.Fit.{fits-length}
@@ -28,8 +29,8 @@ use Rattle.session.proofs.Checks.{state-small}
 
 -- Answers 1 to 3 refuse nothing exactly if table, state and room are in order.
 
-pub ready-from : (t s trace : List ℕ) → eqb (refusedCall t s (length trace)) 0 ≡ true → Ready t s trace
-ready-from t s trace h = callable t s (length trace) (eqb-true _ _ h)
+pub ready-from : (t s : List ℕ) (room : ℕ) → eqb (refusedCall t s room) 0 ≡ true → Callable t s room
+ready-from t s room h = callable t s room (eqb-true _ _ h)
 
 pub ready-is : (t s trace : List ℕ) → Ready t s trace → eqb (refusedCall t s (length trace)) 0 ≡ true
 unfolding refusedCall refusedState
