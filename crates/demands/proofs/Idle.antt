@@ -22,7 +22,7 @@ use Rattle.laws.proofs.Chosen.{behind}
 use Rattle.laws.proofs.Steps.{step-cases, happen-paid}
 use Rattle.events.specs.declared.Answer.{Answer}
 use Rattle.events.specs.declared.Answer.the-variants.{Done, BadTable, UnfitState, ShortTrace, Malformed, NoSuchThing, NotItsOwner}
-use Rattle.events.specs.Answers.{numberOf, countOf, Told}
+use Rattle.events.specs.Answers.{numberOf, countOf, Reports}
 use Rattle.demands.specs.Idle.{Outcome, Program, Words, Input, Meets, LeavesWords}
 use Rattle.demands.specs.Idle.{RefusesAll, AnswersAlike, DoesNothing, OnlyFirstTick, OnlyFirstList, InventsCount, CountsAlike}
 use Rattle.demands.proofs.Demand2.{steps, done-step}
@@ -260,11 +260,11 @@ no-count (suc (suc (suc (suc (suc (suc k)))))) = refl
 outcome : List ℕ → Result → Outcome
 outcome trace x = record { answer = answerWith (x .answer) (length (x .words)); state = x .state; trace = x .words ++ drop (length (x .words)) trace }
 
-told : (t s trace : List ℕ) (room e : ℕ)
-    → Told (step t s room e) trace (outcome trace (step t s room e) .answer) (outcome trace (step t s room e) .state) (outcome trace (step t s room e) .trace)
+reported : (t s trace : List ℕ) (room e : ℕ)
+    → Reports (step t s room e) trace (outcome trace (step t s room e) .answer) (outcome trace (step t s room e) .state) (outcome trace (step t s room e) .trace)
 unfolding outcome answerWith
-told t s trace room e =
-    step-cases (λ x. Told x trace (outcome trace x .answer) (outcome trace x .state) (outcome trace x .trace)) t s room e
+reported t s trace room e =
+    step-cases (λ x. Reports x trace (outcome trace x .answer) (outcome trace x .state) (outcome trace x .trace)) t s room e
     (λ k a b. record { answer = answer-number k 0 b; count = no-count k; state = refl; words = refl })
     (λ c w. record { answer = refl; count = refl; state = refl; words = refl })
 
@@ -272,7 +272,7 @@ pub meets-exists : (p : Program) × Meets p × LeavesWords p
 unfolding outcome
 meets-exists = (
   λ t s trace e. outcome trace (step t s (length trace) e),
-  λ t s trace e i. told t s trace (length trace) e,
+  λ t s trace e i. reported t s trace (length trace) e,
   λ t s trace e i.
       let ws = step t s (length trace) e .words in
       let w = step-words t s (length trace) e (i .state) in

@@ -24,7 +24,7 @@ use Rattle.refusals.specs.declared.EventCheck.the-variants.{Taken, Malformed, N
 use Rattle.refusals.proofs.EventCheck.{the-type}
 use Rattle.events.specs.declared.Answer.{Answer}
 use Rattle.events.specs.declared.Answer.the-variants.{Done}
-use Rattle.events.specs.Answers.{numberOf, countOf, Told}
+use Rattle.events.specs.Answers.{numberOf, countOf, Reports}
 
 -- Requests.
 
@@ -57,13 +57,13 @@ module _ (t : List ℕ) (e k : ℕ) (s : List ℕ) (is : k ≡ eventKind e) wher
 -- The answers.
 
 module _ (t s trace : List ℕ) (e : ℕ) (h : EventCheck) (is : h ≡ eventChecked t e) where
-  pub told-refused : (r : Answer) → eqb (answerOf h) 0 ≡ false → numberOf r ≡ answerOf h → countOf r ≡ 0 → Told (handle t s e) trace r s trace
-  told-refused r z a c = rw (handle-refused t e s h is z) (record { answer = a; count = c; state = refl; words = refl })
+  pub reports-refused : (r : Answer) → eqb (answerOf h) 0 ≡ false → numberOf r ≡ answerOf h → countOf r ≡ 0 → Reports (handle t s e) trace r s trace
+  reports-refused r z a c = rw (handle-refused t e s h is z) (record { answer = a; count = c; state = refl; words = refl })
 
-  pub told-done : (w : Written) (s′ trace′ : List ℕ) → eqb (answerOf h) 0 ≡ true → happen t e s .deep ≡ false → Ran (happen t e s) s′ trace trace′ w
-      → Told (handle t s e) trace (Done w) s′ trace′
+  pub reports-done : (w : Written) (s′ trace′ : List ℕ) → eqb (answerOf h) 0 ≡ true → happen t e s .deep ≡ false → Ran (happen t e s) s′ trace trace′ w
+      → Reports (handle t s e) trace (Done w) s′ trace′
   unfolding finish
-  told-done w s′ trace′ z d r = rw (handle-taken t e s h is z, d) (record { answer = refl; count = r .count; state = r .state; words = r .words })
+  reports-done w s′ trace′ z d r = rw (handle-taken t e s h is z, d) (record { answer = refl; count = r .count; state = r .state; words = r .words })
 
 -- what `let .. else` knows of an answer that is not `Taken`: its variant is one of the others
 abbrev others : List ℕ

@@ -7,7 +7,7 @@ use lib.Dec.{eqb}
 use Rattle.rulebook.specs.Step.{Result}
 use Rattle.events.specs.declared.Answer.{Answer}
 use Rattle.events.specs.declared.Answer.the-variants.{Done, BadTable, UnfitState, ShortTrace, Malformed, NoSuchThing, NotItsOwner}
-use Rattle.events.specs.Answers.{numberOf, countOf, Told}
+use Rattle.events.specs.Answers.{numberOf, countOf, Reports}
 
 -- the answer that a number and a count stand for
 abbrev answering : ℕ → ℕ → Answer
@@ -29,7 +29,7 @@ back Malformed = refl
 back NoSuchThing = refl
 back NotItsOwner = refl
 
-pub one-answer : (x : Result) (trace : List ℕ) (r₁ r₂ : Answer) (s₁ s₂ w₁ w₂ : List ℕ) → Told x trace r₁ s₁ w₁ → Told x trace r₂ s₂ w₂
+pub one-answer : (x : Result) (trace : List ℕ) (r₁ r₂ : Answer) (s₁ s₂ w₁ w₂ : List ℕ) → Reports x trace r₁ s₁ w₁ → Reports x trace r₂ s₂ w₂
     → (r₁ ≡ r₂) × (s₁ ≡ s₂) × (w₁ ≡ w₂)
 one-answer x trace r₁ r₂ s₁ s₂ w₁ w₂ a b = (
   sym (back r₁) ∙ ap₂ answering (a .answer ∙ sym (b .answer)) (a .count ∙ sym (b .count)) ∙ back r₂,

@@ -34,5 +34,5 @@ pub record Tells (x : Result) (trace : List ℕ) (k n : ℕ) (s′ trace′ : Li
   pub state : s′ ≡ x .state
   pub words : trace′ ≡ x .words ++ drop (length (x .words)) trace
 
-abbrev pub Told : Result → List ℕ → Answer → List ℕ → List ℕ → Type 0
-Told x trace r s′ trace′ = Tells x trace (numberOf r) (countOf r) s′ trace′
+abbrev pub Reports : Result → List ℕ → Answer → List ℕ → List ℕ → Type 0
+Reports x trace r s′ trace′ = Tells x trace (numberOf r) (countOf r) s′ trace′

@@ -6,7 +6,7 @@ ghost use Rattle.rulebook.specs.Step.{handle as handleOf};
 ghost use Rattle.lists.specs.Runs.{Ran};
 ghost use Rattle.arbitration.specs.Asked.{MayArbitrate, MayArbitratePort};
 ghost use Rattle.refusals.specs.Answers.{answerOf};
-ghost use Rattle.events.specs.Answers.{numberOf, countOf, Told};
+ghost use Rattle.events.specs.Answers.{numberOf, countOf, Reports};
 use arbitration::arbitrate_marked;
 use arbitration::arbitrate_one;
 pub use lists::Written;
@@ -120,7 +120,7 @@ fn refused(check: EventCheck) -> Answer
 // What comes after the checks of table, state and room.
 pub fn handle(t: &[u32], h: Layout, e: u32, s: &mut [u32], trace: &mut [u32]) -> Answer
     requires { ⌜ MayArbitrate (now t) h (happenOf (now t) e (now s)) (now trace) ⌝ }
-    ensures { λ r. ⌜ Told (handleOf (now (t .entry)) (now (s .entry)) e) (now (trace .entry)) r (now (s .exit)) (now (trace .exit)) ⌝ }
+    ensures { λ r. ⌜ Reports (handleOf (now (t .entry)) (now (s .entry)) e) (now (trace .entry)) r (now (s .exit)) (now (trace .exit)) ⌝ }
 {
     let check = check_event(t, h, e);
     let EventCheck::Taken = check else {

@@ -19,24 +19,24 @@ use Rattle.tables.specs.declared.Checked.the-variants.{Accepted}
 use Rattle.tables.specs.Finding as tables
 use Rattle.lists.specs.Runs.{Safe}
 use Rattle.events.specs.declared.Answer.the-variants.{BadTable, UnfitState, ShortTrace}
-use Rattle.events.specs.Answers.{Told}
+use Rattle.events.specs.Answers.{Reports}
 
 -- B, as the check's answer tells it
-pub told-bound : (t : List ℕ) (b : ℕ) (r : Checked) → r ≡ Accepted b → tables.finding r ≡ tables.promised t → accepted t ≡ true → b ≡ bound t
+pub finding-bound : (t : List ℕ) (b : ℕ) (r : Checked) → r ≡ Accepted b → tables.finding r ≡ tables.promised t → accepted t ≡ true → b ≡ bound t
 unfolding tables.promised
-told-bound t b r e h a = ap (λ (x : Checked). tables.finding x .bound) (sym e) ∙ ap (λ (x : tables.Finding). x .bound) h ∙ rw a
+finding-bound t b r e h a = ap (λ (x : Checked). tables.finding x .bound) (sym e) ∙ ap (λ (x : tables.Finding). x .bound) h ∙ rw a
 
 module _ (t s trace : List ℕ) (e : ℕ) where
-  pub bad-table : accepted t ≡ false → Told (step t s (length trace) e) trace BadTable s trace
+  pub bad-table : accepted t ≡ false → Reports (step t s (length trace) e) trace BadTable s trace
   unfolding step conclude firstFault
   bad-table h = rw h (record { answer = refl; count = refl; state = refl; words = refl })
 
-  pub unfit-state : accepted t ≡ true → fits t s ≡ false → Told (step t s (length trace) e) trace UnfitState s trace
+  pub unfit-state : accepted t ≡ true → fits t s ≡ false → Reports (step t s (length trace) e) trace UnfitState s trace
   unfolding step conclude firstFault
   unfit-state h k = rw (h, k) (record { answer = refl; count = refl; state = refl; words = refl })
 
   module _ (b : ℕ) (is : b ≡ bound t) where
-    pub short-trace : accepted t ≡ true → fits t s ≡ true → leb b (length trace) ≡ false → Told (step t s (length trace) e) trace ShortTrace s trace
+    pub short-trace : accepted t ≡ true → fits t s ≡ true → leb b (length trace) ≡ false → Reports (step t s (length trace) e) trace ShortTrace s trace
     unfolding step conclude firstFault
     short-trace h k r =
         let less = leb-false b (length trace) r in

@@ -55,11 +55,11 @@ pub fn take_event(t: &[u32], s: &mut [u32], trace: &mut [u32], e: u32) -> Answer
     let Checked::Accepted(b) = checked else {
         return Answer::BadTable;
     };
-    let state = refusals::told(states::fits(t, s));
+    let state = refusals::passed_if(states::fits(t, s));
     let Check::Passed = state else {
         return Answer::UnfitState;
     };
-    let room = refusals::told(b as usize <= trace.len());
+    let room = refusals::passed_if(b as usize <= trace.len());
     let Check::Passed = room else {
         return Answer::ShortTrace;
     };

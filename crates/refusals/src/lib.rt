@@ -88,7 +88,7 @@ pub enum Check {
     Failed,
 }
 
-pub fn told(ok: bool) -> Check
+pub fn passed_if(ok: bool) -> Check
     ensures { λ r. ⌜ passes r ≡ ok ⌝ }
 {
     if ok { Check::Passed } else { Check::Failed }
@@ -102,7 +102,7 @@ fn well_formed(e: u32) -> Check
     let index = event::index(e);
     let value = event::value(e);
     let zero = event::zero(e);
-    told(
+    passed_if(
         (kind <= EVENT_CLEAR)
             & (zero == 0)
             & (!(kind == EVENT_TICK) | (owner == 0) & (index == 0))
@@ -117,7 +117,7 @@ fn known(t: &[u32], h: Layout, e: u32) -> Check
     let kind = event::kind(e);
     let there = present(t, h, named(e));
     let fit = suited(t, h, e);
-    told((kind == EVENT_TICK) | there & fit)
+    passed_if((kind == EVENT_TICK) | there & fit)
 }
 
 fn sent_by_owner(t: &[u32], h: Layout, e: u32) -> Check
@@ -127,7 +127,7 @@ fn sent_by_owner(t: &[u32], h: Layout, e: u32) -> Check
     let kind = event::kind(e);
     let sender = event::owner(e);
     let owner = owner(t, h, named(e));
-    told((kind == EVENT_TICK) | (sender == owner))
+    passed_if((kind == EVENT_TICK) | (sender == owner))
 }
 
 // What the checks of an event come to: it is taken, or refused, with a case for each answer.

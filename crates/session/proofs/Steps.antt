@@ -20,7 +20,7 @@ use Rattle.laws.proofs.Fit.{fits-length}
 use Rattle.laws.proofs.Steps.{step-cases, words-within, step-fits, callable}
 use Rattle.lists.specs.Runs.{Safe}
 use Rattle.events.specs.declared.Answer.{Answer}
-use Rattle.events.specs.Answers.{numberOf, countOf, Told}
+use Rattle.events.specs.Answers.{numberOf, countOf, Reports}
 use Rattle.manager.proofs.Steps.{safe}
 use Rattle.session.specs.Printed.{lines, taken, eventLines, most}
 use Rattle.session.specs.Promises.{PutAt, Ready, tracedBy, TookOne}
@@ -91,19 +91,19 @@ module _ (t s trace : List ℕ) (e : ℕ) (ready : Ready t s trace) where
       let b = facts t (ready .table) .cost in
       omega arith
 
-  -- what the call told: its number n and its count m
-  module _ (r : Answer) (s′ trace′ : List ℕ) (told : Told (handle t s e) trace r s′ trace′) (n m : ℕ) (hn : n ≡ numberOf r) (hm : m ≡ countOf r) where
+  -- what the call reports: its number n and its count m
+  module _ (r : Answer) (s′ trace′ : List ℕ) (reports : Reports (handle t s e) trace r s′ trace′) (n m : ℕ) (hn : n ≡ numberOf r) (hm : m ≡ countOf r) where
     number-is : n ≡ taken t s e .answer
-    number-is = rw taken-is (hn ∙ told .answer)
+    number-is = rw taken-is (hn ∙ reports .answer)
 
     count-is : m ≡ length (taken t s e .words)
-    count-is = rw taken-is (hm ∙ told .count)
+    count-is = rw taken-is (hm ∙ reports .count)
 
     state-is : s′ ≡ taken t s e .state
-    state-is = rw taken-is (told .state)
+    state-is = rw taken-is (reports .state)
 
     words-are : trace′ ≡ tracedBy t s e trace
-    words-are = rw taken-is (told .words)
+    words-are = rw taken-is (reports .words)
 
     pub number-small : n < 10
     number-small = rw number-is answer-small

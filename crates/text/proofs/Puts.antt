@@ -36,8 +36,8 @@ module _ (line out : List ℕ) (at next : ℕ) (after : List ℕ) (put : Put lin
       let q = lt-leb (at + length line) (length out) h in
       (rw q at (put .place), rw q at (put .bytes))
 
-  pub told : next ≡ at → 0 < length line → length out < at + length line
-  told e some = below (length out) (at + length line) (λ h. h) (λ h. absurd (omega (arith, laid h .0)))
+  pub unwritten : next ≡ at → 0 < length line → length out < at + length line
+  unwritten e some = below (length out) (at + length line) (λ h. h) (λ h. absurd (omega (arith, laid h .0)))
 
 -- a loop that stores the digits of n from the last to the first
 

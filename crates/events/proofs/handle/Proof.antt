@@ -1,5 +1,5 @@
 -- `events::handle` meets its promise: refused with the answer of its check, or done as the run. Assumes nothing.
-use Rattle.events.proofs.Exits.{told-refused, told-done, not-taken, is-taken}
+use Rattle.events.proofs.Exits.{reports-refused, reports-done, not-taken, is-taken}
 use borrow.Author.Needs.{needs}
 use Rattle.events.proofs.handle.Statement.{statement}
 use Rattle.events.proofs.handle.Tie as tie
@@ -9,13 +9,13 @@ after-enum-told c = c .before .before .before .before .before .before .before
 
 returns : tie.Need-returns
 returns c =
-    told-refused _ (c .before .before .before .before .before .before .args .s .now)
+    reports-refused _ (c .before .before .before .before .before .before .args .s .now)
     (c .before .before .before .before .before .before .args .trace .now) _ _ (c .before .before .check-event .ensures) (c .refused .result)
     (not-taken (c .before .before .check-event .result) (c .before .match .keys2)) (c .refused .ensures .0) (c .refused .ensures .1)
 
 returns-2 : tie.Need-returns-2
 returns-2 c =
-    told-done _ _ _ _ _ (after-enum-told c .before .before .check-event .ensures) _ _ _ (is-taken _ (after-enum-told c .enum-told .given .1))
+    reports-done _ _ _ _ _ (after-enum-told c .before .before .check-event .ensures) _ _ _ (is-taken _ (after-enum-told c .enum-told .given .1))
     (after-enum-told c .before .before .before .before .before .before .pre .safe .shallow) (c .before .before .before .before .happen .ensures)
 
 pub handle-spec : {M : Type 1} → statement M

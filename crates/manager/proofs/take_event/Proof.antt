@@ -2,29 +2,29 @@
 use mathlib.Core.Path.{sym, ap, _∙_}
 use Rattle.refusals.specs.Answers.{passes}
 use Rattle.states.proofs.Making.{is-accepted, is-refused}
-use Rattle.manager.proofs.Steps.{told-bound, bad-table, unfit-state, short-trace, goes-on, safe, few-rules}
+use Rattle.manager.proofs.Steps.{finding-bound, bad-table, unfit-state, short-trace, goes-on, safe, few-rules}
 use borrow.Author.Needs.{needs}
 use Rattle.manager.proofs.take_event.Statement.{statement}
 use Rattle.manager.proofs.take_event.Tie as tie
 
 -- The places that the answers cite, each seen from a later one.
-abbrev after-checked : tie.After-told → tie.After-checked
+abbrev after-checked : tie.After-passed-if → tie.After-checked
 after-checked c = c .before .before .before .before
 
-abbrev after-check : tie.After-told → tie.After-check
+abbrev after-check : tie.After-passed-if → tie.After-check
 after-check c = after-checked c .before .before
 
-abbrev after-told-from-enum-told2 : tie.After-enum-told2 → tie.After-told
-after-told-from-enum-told2 c = c .before .before
+abbrev after-passed-if-from-enum-told2 : tie.After-enum-told2 → tie.After-passed-if
+after-passed-if-from-enum-told2 c = c .before .before
 
-abbrev after-told-from-told2 : tie.After-told2 → tie.After-told
-after-told-from-told2 c = c .before .before .before
+abbrev after-passed-if-from-passed-if2 : tie.After-passed-if2 → tie.After-passed-if
+after-passed-if-from-passed-if2 c = c .before .before .before
 
-abbrev after-told2-from-enum-told4 : tie.After-enum-told4 → tie.After-told2
-after-told2-from-enum-told4 c = c .before .before
+abbrev after-passed-if2-from-enum-told4 : tie.After-enum-told4 → tie.After-passed-if2
+after-passed-if2-from-enum-told4 c = c .before .before
 
-abbrev after-told : tie.After-enum-told4 → tie.After-told
-after-told c = after-told-from-told2 (after-told2-from-enum-told4 c)
+abbrev after-passed-if : tie.After-enum-told4 → tie.After-passed-if
+after-passed-if c = after-passed-if-from-passed-if2 (after-passed-if2-from-enum-told4 c)
 
 abbrev after-read-layout : tie.After-handle-arg2 → tie.After-read-layout
 after-read-layout c = c .before .before
@@ -32,11 +32,11 @@ after-read-layout c = c .before .before
 abbrev after-enum-told3 : tie.After-handle-arg2 → tie.After-enum-told3
 after-enum-told3 c = after-read-layout c .before
 
-abbrev after-told2 : tie.After-handle-arg2 → tie.After-told2
-after-told2 c = after-enum-told3 c .before .before
+abbrev after-passed-if2 : tie.After-handle-arg2 → tie.After-passed-if2
+after-passed-if2 c = after-enum-told3 c .before .before
 
-abbrev after-told-from-handle-arg2 : tie.After-handle-arg2 → tie.After-told
-after-told-from-handle-arg2 c = after-told-from-told2 (after-told2 c)
+abbrev after-passed-if-from-handle-arg2 : tie.After-handle-arg2 → tie.After-passed-if
+after-passed-if-from-handle-arg2 c = after-passed-if-from-passed-if2 (after-passed-if2 c)
 
 abbrev after-handle : tie.After-trace → tie.After-handle
 after-handle c = c .before .before .before
@@ -44,8 +44,8 @@ after-handle c = c .before .before .before
 abbrev after-handle-arg2 : tie.After-slice-known4 → tie.After-handle-arg2
 after-handle-arg2 c = after-handle (c .before) .before
 
-abbrev after-told-from-slice-known4 : tie.After-slice-known4 → tie.After-told
-after-told-from-slice-known4 c = after-told-from-handle-arg2 (after-handle-arg2 c)
+abbrev after-passed-if-from-slice-known4 : tie.After-slice-known4 → tie.After-passed-if
+after-passed-if-from-slice-known4 c = after-passed-if-from-handle-arg2 (after-handle-arg2 c)
 
 returns : tie.Need-returns
 returns c = bad-table _ _ _ _ (is-refused _ (c .before .check .result) (c .match .keys2) (c .before .check .ensures))
@@ -53,51 +53,51 @@ returns c = bad-table _ _ _ _ (is-refused _ (c .before .check .result) (c .match
 returns-2 : tie.Need-returns-2
 returns-2 c =
     unfit-state _ _ _ _
-    (is-accepted _ _ _ (after-checked (after-told-from-enum-told2 c) .checked .given .1) (after-check (after-told-from-enum-told2 c) .check .ensures))
-    (sym (after-told-from-enum-told2 c .before .fits2 .ensures)
-    ∙ sym (after-told-from-enum-told2 c .told .ensures)
+    (is-accepted _ _ _ (after-checked (after-passed-if-from-enum-told2 c) .checked .given .1) (after-check (after-passed-if-from-enum-told2 c) .check .ensures))
+    (sym (after-passed-if-from-enum-told2 c .before .fits2 .ensures)
+    ∙ sym (after-passed-if-from-enum-told2 c .passed-if .ensures)
     ∙ ap passes (c .enum-told2 .given .1))
 
 returns-3 : tie.Need-returns-3
 returns-3 c =
     short-trace _ _ _ _ _
-    (told-bound _ _ _ (after-checked (after-told c) .checked .given .1) (after-check (after-told c) .check .ensures)
-    (is-accepted _ _ _ (after-checked (after-told c) .checked .given .1) (after-check (after-told c) .check .ensures)))
-    (is-accepted _ _ _ (after-checked (after-told c) .checked .given .1) (after-check (after-told c) .check .ensures))
-    (sym (after-told c .before .fits2 .ensures)
-    ∙ sym (after-told c .told .ensures)
-    ∙ ap passes (after-told2-from-enum-told4 c .before .enum-told .given .1))
-    (sym (after-told2-from-enum-told4 c .told2 .ensures) ∙ ap passes (c .enum-told4 .given .1))
+    (finding-bound _ _ _ (after-checked (after-passed-if c) .checked .given .1) (after-check (after-passed-if c) .check .ensures)
+    (is-accepted _ _ _ (after-checked (after-passed-if c) .checked .given .1) (after-check (after-passed-if c) .check .ensures)))
+    (is-accepted _ _ _ (after-checked (after-passed-if c) .checked .given .1) (after-check (after-passed-if c) .check .ensures))
+    (sym (after-passed-if c .before .fits2 .ensures)
+    ∙ sym (after-passed-if c .passed-if .ensures)
+    ∙ ap passes (after-passed-if2-from-enum-told4 c .before .enum-told .given .1))
+    (sym (after-passed-if2-from-enum-told4 c .passed-if2 .ensures) ∙ ap passes (c .enum-told4 .given .1))
 
 handle-requires : tie.Need-handle-requires
 handle-requires c κs = record {
   laid = after-read-layout c .read-layout .ensures;
   few = few-rules _ _
-      (is-accepted _ _ _ (after-checked (after-told-from-handle-arg2 c) .checked .given .1)
-      (after-check (after-told-from-handle-arg2 c) .check .ensures))
+      (is-accepted _ _ _ (after-checked (after-passed-if-from-handle-arg2 c) .checked .given .1)
+      (after-check (after-passed-if-from-handle-arg2 c) .check .ensures))
       (after-read-layout c .read-layout .ensures .rules .value);
   safe = safe _ _ _ _ _
-      (told-bound _ _ _ (after-checked (after-told-from-handle-arg2 c) .checked .given .1) (after-check (after-told-from-handle-arg2 c) .check .ensures)
-      (is-accepted _ _ _ (after-checked (after-told-from-handle-arg2 c) .checked .given .1)
-      (after-check (after-told-from-handle-arg2 c) .check .ensures)))
-      (is-accepted _ _ _ (after-checked (after-told-from-handle-arg2 c) .checked .given .1)
-      (after-check (after-told-from-handle-arg2 c) .check .ensures))
-      (sym (after-told2 c .told2 .ensures) ∙ ap passes (after-enum-told3 c .enum-told3 .given .1));
+      (finding-bound _ _ _ (after-checked (after-passed-if-from-handle-arg2 c) .checked .given .1) (after-check (after-passed-if-from-handle-arg2 c) .check .ensures)
+      (is-accepted _ _ _ (after-checked (after-passed-if-from-handle-arg2 c) .checked .given .1)
+      (after-check (after-passed-if-from-handle-arg2 c) .check .ensures)))
+      (is-accepted _ _ _ (after-checked (after-passed-if-from-handle-arg2 c) .checked .given .1)
+      (after-check (after-passed-if-from-handle-arg2 c) .check .ensures))
+      (sym (after-passed-if2 c .passed-if2 .ensures) ∙ ap passes (after-enum-told3 c .enum-told3 .given .1));
 }
 
 returns-4 : tie.Need-returns-4
 returns-4 c =
     rw (goes-on _ _ _ _ _
-    (told-bound _ _ _ (after-checked (after-told-from-slice-known4 c) .checked .given .1)
-    (after-check (after-told-from-slice-known4 c) .check .ensures)
-    (is-accepted _ _ _ (after-checked (after-told-from-slice-known4 c) .checked .given .1)
-    (after-check (after-told-from-slice-known4 c) .check .ensures)))
-    (is-accepted _ _ _ (after-checked (after-told-from-slice-known4 c) .checked .given .1)
-    (after-check (after-told-from-slice-known4 c) .check .ensures))
-    (sym (after-told-from-slice-known4 c .before .fits2 .ensures)
-    ∙ sym (after-told-from-slice-known4 c .told .ensures)
-    ∙ ap passes (after-told2 (after-handle-arg2 c) .before .enum-told .given .1))
-    (sym (after-told2 (after-handle-arg2 c) .told2 .ensures) ∙ ap passes (after-enum-told3 (after-handle-arg2 c) .enum-told3 .given .1)))
+    (finding-bound _ _ _ (after-checked (after-passed-if-from-slice-known4 c) .checked .given .1)
+    (after-check (after-passed-if-from-slice-known4 c) .check .ensures)
+    (is-accepted _ _ _ (after-checked (after-passed-if-from-slice-known4 c) .checked .given .1)
+    (after-check (after-passed-if-from-slice-known4 c) .check .ensures)))
+    (is-accepted _ _ _ (after-checked (after-passed-if-from-slice-known4 c) .checked .given .1)
+    (after-check (after-passed-if-from-slice-known4 c) .check .ensures))
+    (sym (after-passed-if-from-slice-known4 c .before .fits2 .ensures)
+    ∙ sym (after-passed-if-from-slice-known4 c .passed-if .ensures)
+    ∙ ap passes (after-passed-if2 (after-handle-arg2 c) .before .enum-told .given .1))
+    (sym (after-passed-if2 (after-handle-arg2 c) .passed-if2 .ensures) ∙ ap passes (after-enum-told3 (after-handle-arg2 c) .enum-told3 .given .1)))
     (after-handle (c .before) .handle .ensures)
 
 pub take-event-spec : {M : Type 1} → statement M

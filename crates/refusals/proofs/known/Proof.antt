@@ -13,7 +13,7 @@ returns c =
       ← c .before .before .before .named .ensures,
       ← c .before .before .present .ensures,
     )
-    (c .told .ensures)
+    (c .passed-if .ensures)
 
 pub known-spec : {M : Type 1} → statement M
 known-spec =

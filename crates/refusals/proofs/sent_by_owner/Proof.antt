@@ -13,7 +13,7 @@ returns c =
       ← c .before .before .named .ensures,
       ← c .before .owner2 .ensures,
     )
-    (c .told .ensures)
+    (c .passed-if .ensures)
 
 pub sent-by-owner-spec : {M : Type 1} → statement M
 sent-by-owner-spec =

@@ -15,7 +15,7 @@ returns c =
       ← c .before .before .value .ensures .value,
       ← c .before .zero .ensures .value,
     )
-    (c .told .ensures)
+    (c .passed-if .ensures)
 
 pub well-formed-spec : {M : Type 1} → statement M
 well-formed-spec =

@@ -1,7 +1,7 @@
 -- `session::open` meets its promise: a reason's place is below 3,185, so it fits. Assumes nothing.
 use native.Mathlib.Omega.{arith}
 use Rattle.states.proofs.Making.{is-accepted, is-refused}
-use Rattle.manager.proofs.Steps.{told-bound}
+use Rattle.manager.proofs.Steps.{finding-bound}
 use Rattle.session.proofs.Checks.{place-small, place-is, opens-none, opens}
 use borrow.Author.Needs.{needs}
 use Rattle.session.proofs.open.Statement.{statement}
@@ -40,7 +40,7 @@ returns-2 c =
     let ok = is-accepted _ _ _ (after-checked c .checked .given .1) (after-check-from-state-words c .check .ensures) in
     opens _ (after-check-from-state-words c .check .result) (after-check-from-state-words c .check .ensures) _ _ (after-numbers c .numbers .ensures .0)
     (after-numbers c .numbers .ensures .1) _ _ ok (c .state-words .ensures)
-    (told-bound _ _ _ (after-checked c .checked .given .1) (after-check-from-state-words c .check .ensures) ok)
+    (finding-bound _ _ _ (after-checked c .checked .given .1) (after-check-from-state-words c .check .ensures) ok)
 
 pub open-spec : {M : Type 1} → statement M
 open-spec =

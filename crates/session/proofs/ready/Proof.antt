@@ -1,7 +1,7 @@
 -- `session::ready` meets its contract: each exit by its law. Assumes nothing.
 use mathlib.Core.Path.{sym, _∙_}
 use Rattle.states.proofs.Making.{is-accepted, is-refused}
-use Rattle.manager.proofs.Steps.{told-bound}
+use Rattle.manager.proofs.Steps.{finding-bound}
 use Rattle.session.proofs.Steps.{no-table, no-fit, room-decides}
 use borrow.Author.Needs.{needs}
 use Rattle.session.proofs.ready.Statement.{statement}
@@ -20,7 +20,7 @@ returns c = no-table _ _ _ (is-refused _ (c .before .check .result) (c .match .k
 returns-2 : tie.Need-returns-2
 returns-2 c =
     let ok = is-accepted _ _ _ (after-checked (c .before) .checked .given .1) (after-check (c .before) .check .ensures) in
-    rw (told-bound _ _ _ (after-checked (c .before) .checked .given .1) (after-check (c .before) .check .ensures) ok)
+    rw (finding-bound _ _ _ (after-checked (c .before) .checked .given .1) (after-check (c .before) .check .ensures) ok)
     (room-decides _ _ _ ok (sym (c .before .fits2 .ensures) ∙ c .if1 .taken))
 
 returns-3 : tie.Need-returns-3
