@@ -2,7 +2,7 @@
 // 4,098.
 ghost use mathlib.Core.Bool.{cond};
 ghost use mathlib.Core.Path.{_≡_};
-ghost use Prim.Native.Nat.{_+_, max};
+ghost use Prim.Native.Nat.{_+_};
 ghost use lib.Dec.{eqb};
 ghost use Rattle.rulebook.specs.Table.{noList};
 ghost use Rattle.rulebook.specs.Expressions.{deepest};
@@ -11,6 +11,7 @@ ghost use Rattle.words.specs.Field.{Field};
 ghost use Rattle.words.specs.Sections.{Laid};
 ghost use Rattle.nesting.specs.Depths.{Round};
 ghost use Rattle.cost.specs.Costs.{capped, costIn, nextCost, Costs, Costed, NextCosts, Kept};
+use words::larger;
 use words::numbers::ITEM_LIST;
 use words::numbers::ITEM_RULE;
 use words::numbers::NO_LIST;
@@ -24,12 +25,6 @@ fn cap(n: u32) -> u32
     ensures { λ r. ⌜ r ≡ capped n ⌝ }
 {
     if 4097 < n { 4097 } else { n }
-}
-
-fn larger(a: u32, b: u32) -> u32
-    ensures { λ r. ⌜ r ≡ max a b ⌝ }
-{
-    if a < b { b } else { a }
 }
 
 fn cost_in(costs: &[u32], l: u32) -> u32

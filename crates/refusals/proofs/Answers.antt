@@ -7,7 +7,7 @@ use mathlib.Core.List.{List}
 use lib.Dec.{eqb}
 use Rattle.rulebook.specs.Events.{happen}
 use Rattle.rulebook.specs.Step.{wellFormed, known, sentByOwner, refusedEvent, refusal, finish, conclude, handle}
-use Rattle.walks.proofs.Walks.{split}
+use Rattle.laws.proofs.Tests.{split}
 use Rattle.refusals.specs.Answers.{answerOf, eventChecked}
 use Rattle.refusals.specs.declared.EventCheck.{EventCheck}
 

@@ -13,7 +13,7 @@ use denote.Enum.Declared.{tagOf}
 use borrow.Author.Tests.{eq-eqb, ne-eqb}
 use Rattle.rulebook.specs.Reasons.{check, accepted}
 use Rattle.rulebook.specs.State.{Thing, thing, freshThing, freshAt, fresh, freshAnswer, freshState, stateLength}
-use Rattle.walks.proofs.Walks.{length-listed, getD-listed}
+use Rattle.laws.proofs.Walks.{listed-length, listed-at}
 use Rattle.tables.specs.declared.Checked.{Checked}
 use Rattle.tables.specs.declared.Checked.the-variants.{Accepted, TooShort, WrongEdition, WrongCounts, WrongLength as LengthDiffers, Misfit, Misnamed}
 use Rattle.tables.specs.declared.Checked.the-variants.{TooDeep, OwnersClash, TooDear}
@@ -31,8 +31,8 @@ fresh-here t i w x hw hx = rw (← hx) hw
 pub all-fresh : (t s : List ℕ) (n : ℕ) → length s ≡ n → n ≡ stateLength t → ((k : ℕ) → k < n → getD s k 0 ≡ freshAt t k) → s ≡ fresh t
 unfolding fresh
 all-fresh t s n long asked words =
-    ext-getD 0 s _ (long ∙ asked ∙ sym (length-listed 0 (stateLength t) (freshAt t)))
-    (λ k h. words k (omega arith) ∙ sym (getD-listed 0 (stateLength t) (freshAt t) k (omega arith) ∙ ap (freshAt t) (zero-add k)))
+    ext-getD 0 s _ (long ∙ asked ∙ sym (listed-length (freshAt t) 0 (stateLength t)))
+    (λ k h. words k (omega arith) ∙ sym (listed-at (freshAt t) 0 (stateLength t) k (omega arith) ∙ ap (freshAt t) (zero-add k)))
 
 -- The exits.
 

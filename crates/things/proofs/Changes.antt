@@ -6,7 +6,7 @@ use mathlib.Core.List.{List}
 use lib.Dec.{eqb}
 use Rattle.rulebook.specs.Lists.{start}
 use Rattle.rulebook.specs.Events.{eventKind, eventIndex, eventTick, eventMode, eventRequest, eventWakeup, eventValid, eventBusOff, happen}
-use Rattle.walks.proofs.Walks.{split}
+use Rattle.laws.proofs.Tests.{split}
 use Rattle.things.specs.Changes.{changed}
 
 pub change-goes : (t : List ℕ) (e : ℕ) (s : List ℕ) → eqb (eventKind e) eventTick ≡ false → eqb (eventKind e) eventMode ≡ false

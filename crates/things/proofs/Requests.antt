@@ -8,7 +8,7 @@ use Rattle.rulebook.specs.Table.{deferred}
 use Rattle.rulebook.specs.Lists.{start}
 use Rattle.rulebook.specs.Arbitration.{arbitrate}
 use Rattle.rulebook.specs.Events.{only, request}
-use Rattle.walks.proofs.Walks.{split}
+use Rattle.laws.proofs.Tests.{split}
 use Rattle.things.specs.Requests.{Requested}
 
 pub request-goes : (t : List ℕ) (p value : ℕ) (s after : List ℕ) (immediate : Bool) → Requested t p value s after immediate

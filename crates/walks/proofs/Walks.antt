@@ -5,13 +5,8 @@ use native.Mathlib.Nat.{zero-add, add-zero, suc-add}
 use mathlib.Core.Bool.{Bool, true, false, cond, _&&_, _||_, not}
 use native.Mathlib.Numerals.{add-one}
 use native.Mathlib.Omega.{arith}
-use lib.ListN.{length, getD}
-use Rattle.rulebook.specs.Words.{first, all, any, sum, listed, each}
-
--- a test holds or it fails
-pub split : {A : Type 0} (b : Bool) → (b ≡ true → A) → (b ≡ false → A) → A
-split true f g = f refl
-split false f g = g refl
+use Rattle.rulebook.specs.Words.{first, all, any, sum, each}
+use Rattle.laws.proofs.Tests.{split}
 
 -- what is left before a turn and after it, and at the end
 left-more : (i e : ℕ) → i < e → e - i ≡ suc (e - (i + 1))
@@ -119,21 +114,6 @@ unfolding first
 first-none i zero p h = omega arith
 first-none i (suc n) p h =
     first-step i n p false (h i (omega arith)) ∙ first-none (suc i) n p (λ k g. h k (omega arith)) ∙ omega arith
-
--- A list of the n values from i on, by its elements.
-
-pub length-listed : (i n : ℕ) (f : ℕ → ℕ) → length (listed i n f) ≡ n
-unfolding listed
-length-listed i zero f = refl
-length-listed i (suc n) f = ap suc (length-listed (suc i) n f)
-
-pub getD-listed : (i n : ℕ) (f : ℕ → ℕ) (k : ℕ) → k < n → getD (listed i n f) k 0 ≡ f (i + k)
-unfolding listed
-getD-listed i zero f k h = absurd (omega arith)
-getD-listed i (suc n) f zero h = ap f (omega arith)
-getD-listed i (suc n) f (suc k) h =
-    let q : suc i + k ≡ i + suc k = omega arith in
-    rw (getD-listed (suc i) n f k (omega arith)) (ap f q)
 
 -- One of two tests by a third, as code says it that branches nowhere.
 pub either : (a b c : Bool) → cond a b c ≡ (a && b || not a && c)

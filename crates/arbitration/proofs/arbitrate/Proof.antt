@@ -5,32 +5,55 @@ use borrow.Author.Needs.{needs}
 use Rattle.arbitration.proofs.arbitrate.Statement.{statement}
 use Rattle.arbitration.proofs.arbitrate.Tie as tie
 
+-- The places that the answers cite, each seen from a later one.
+abbrev start : tie.After-slice-known2 → tie.Start
+start c = c .before .before .before .before
+
+abbrev at-after-unmark : tie.After-results → tie.After-unmark
+at-after-unmark c = c .before .before .before .before
+
+abbrev after-results2 : tie.After-choose → tie.After-results2
+after-results2 c = c .before .before .before .before
+
+abbrev at-after-choose : tie.After-store → tie.After-choose
+at-after-choose c = c .before .before .before .before
+
+abbrev at-after-store : tie.After-run-chosen-arg → tie.After-store
+at-after-store c = c .before .before .before .before
+
+abbrev at-after-find-outcomes : tie.After-run-chosen-arg2 → tie.After-find-outcomes
+at-after-find-outcomes c = after-results2 (at-after-choose (at-after-store (c .before))) .before
+
+abbrev after-run-chosen : tie.After-trace → tie.After-run-chosen
+after-run-chosen c = c .before .before .before .before
+
+-- Places that the proof names itself.
 abbrev after-unmark : tie.After-run-chosen-arg2 → tie.After-unmark
-after-unmark c = c .before .before .before .before .before .before .before .before .before .before .before .before .before .before .before .before .before .before .before
+after-unmark c = at-after-unmark (at-after-find-outcomes c .before)
 
 abbrev after-find-outcomes : tie.After-slice-known6 → tie.After-find-outcomes
-after-find-outcomes c = c .before .before .before .before .before .before .before .before .before .before .before .before .before .before .before .before .before .before .before .before
+after-find-outcomes c = at-after-find-outcomes (after-run-chosen (c .before) .before)
 
 abbrev after-choose : tie.After-run-chosen-arg2 → tie.After-choose
-after-choose c = c .before .before .before .before .before .before .before .before .before
+after-choose c = at-after-choose (at-after-store (c .before))
 
 abbrev after-store : tie.After-slice-known6 → tie.After-store
-after-store c = c .before .before .before .before .before .before .before .before .before .before .before
+after-store c = at-after-store (after-run-chosen (c .before) .before .before)
 
 run-chosen-requires : tie.Need-run-chosen-requires
 run-chosen-requires c κs =
     record {
-      laid = after-unmark c .before .before .before .before .before .before .pre .laid;
-      safe = safe-as _ _ _ (arbitrated _ _ _ _ (after-choose c .before .before .before .before .before .find-outcomes .ensures) _ _ _
-          (after-unmark c .unmark .ensures) (after-choose c .choose .ensures) (c .before .before .before .before .before .store .ensures))
-          (after-unmark c .before .before .before .before .before .before .pre .safe);
+      laid = start (after-unmark c .before .before) .pre .laid;
+      safe = safe-as _ _ _ (arbitrated _ _ _ _ (after-results2 (after-choose c) .before .find-outcomes .ensures) _ _ _
+          (after-unmark c .unmark .ensures) (after-choose c .choose .ensures) (at-after-store (c .before) .store .ensures))
+          (start (after-unmark c .before .before) .pre .safe);
     }
 
 returns : tie.Need-returns
 returns c =
     ran-as _ _ _ _ _ _ (arbitrated _ _ _ _ (after-find-outcomes c .find-outcomes .ensures) _ _ _
-    (after-find-outcomes c .before .before .before .before .before .unmark .ensures) (after-store c .before .before .before .before .choose .ensures)
-    (after-store c .store .ensures)) (c .before .before .before .before .before .run-chosen .ensures)
+    (at-after-unmark (after-find-outcomes c .before) .unmark .ensures) (at-after-choose (after-store c) .choose .ensures)
+    (after-store c .store .ensures)) (after-run-chosen (c .before) .run-chosen .ensures)
 
 pub arbitrate-spec : {M : Type 1} → statement M
 arbitrate-spec =

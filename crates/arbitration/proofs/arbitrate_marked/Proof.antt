@@ -11,14 +11,25 @@ use borrow.Author.Needs.{needs}
 use Rattle.arbitration.proofs.arbitrate_marked.Statement.{statement}
 use Rattle.arbitration.proofs.arbitrate_marked.Tie as tie
 
+-- The places that the answers cite, each seen from a later one.
+abbrev after-any-marked-arg : tie.After-flags → tie.After-any-marked-arg
+after-any-marked-arg c = c .before .before .before .before
+
+abbrev at-after-flag-marked : tie.After-arbitrate-arg2 → tie.After-flag-marked
+at-after-flag-marked c = c .before .before .before .before
+
+abbrev after-arbitrate : tie.After-slice-known4 → tie.After-arbitrate
+after-arbitrate c = c .before .before .before .before
+
+-- Places that the proof names itself.
 abbrev entry : tie.After-arbitrate-arg2 → tie.Start
-entry c = c .before .before .before .before .before .before .before .before .before .before .before .before .before
+entry c = after-any-marked-arg (at-after-flag-marked c .before) .before .before .before .before
 
 abbrev entry-2 : tie.After-slice-known4 → tie.Start
-entry-2 c = entry (c .before .before .before .before .before)
+entry-2 c = entry (after-arbitrate c .before)
 
 abbrev after-flag-marked : tie.After-slice-known4 → tie.After-flag-marked
-after-flag-marked c = c .before .before .before .before .before .before .before .before .before
+after-flag-marked c = at-after-flag-marked (after-arbitrate c .before)
 
 returns : tie.Need-returns
 unfolding arbitrateMarked
@@ -31,14 +42,14 @@ arbitrate-requires c κs =
       laid = entry c .pre .laid;
       few = entry c .pre .few;
       safe = safe-as _ _ _ (ap (λ (q : ℕ → Bool). arbitrate (entry c .args .t .now) q (entry c .args .s .now))
-          (sym (marked-are _ _ _ (c .before .before .before .before .flag-marked .ensures)))) (entry c .pre .safe);
+          (sym (marked-are _ _ _ (at-after-flag-marked c .flag-marked .ensures)))) (entry c .pre .safe);
     }
 
 returns-2 : tie.Need-returns-2
 unfolding arbitrateMarked
 returns-2 c =
     ran-as _ _ _ _ _ _ (ap (λ (q : ℕ → Bool). arbitrate (entry-2 c .args .t .now) q (entry-2 c .args .s .now))
-    (sym (marked-are _ _ _ (after-flag-marked c .flag-marked .ensures)))) (c .before .before .before .before .arbitrate .ensures)
+    (sym (marked-are _ _ _ (after-flag-marked c .flag-marked .ensures)))) (after-arbitrate c .arbitrate .ensures)
 
 pub arbitrate-marked-spec : {M : Type 1} → statement M
 arbitrate-marked-spec =

@@ -9,23 +9,34 @@ use borrow.Author.Needs.{needs}
 use Rattle.arbitration.proofs.arbitrate_one.Statement.{statement}
 use Rattle.arbitration.proofs.arbitrate_one.Tie as tie
 
+-- The places that the answers cite, each seen from a later one.
+abbrev after-flags : tie.After-arbitrate-arg2 → tie.After-flags
+after-flags c = c .before .before
+
+abbrev start : tie.After-arbitrate-arg2 → tie.Start
+start c = after-flags c .before .before .before .before
+
+abbrev after-arbitrate : tie.After-trace → tie.After-arbitrate
+after-arbitrate c = c .before .before .before
+
+-- Places that the proof names itself.
 abbrev entry : tie.After-slice-known4 → tie.Start
-entry c = c .before .before .before .before .before .before .before .before .before .before .before
+entry c = start (after-arbitrate (c .before) .before)
 
 arbitrate-requires : tie.Need-arbitrate-requires
 arbitrate-requires c κs =
     record {
-      laid = c .before .before .before .before .before .before .pre .laid;
-      few = c .before .before .before .before .before .before .pre .few;
-      safe = safe-as _ _ _ (ap (λ (q : ℕ → Bool). arbitrate (c .before .before .before .before .before .before .args .t .now) q
-          (c .before .before .before .before .before .before .args .s .now)) (only-one _ (c .before .before .before .before .before .before .pre .port)))
-          (c .before .before .before .before .before .before .pre .safe);
+      laid = start c .pre .laid;
+      few = start c .pre .few;
+      safe = safe-as _ _ _ (ap (λ (q : ℕ → Bool). arbitrate (start c .args .t .now) q
+          (start c .args .s .now)) (only-one _ (start c .pre .port)))
+          (start c .pre .safe);
     }
 
 returns : tie.Need-returns
 returns c =
     ran-as _ _ _ _ _ _ (ap (λ (q : ℕ → Bool). arbitrate (entry c .args .t .now) q (entry c .args .s .now)) (only-one _ (entry c .pre .port)))
-    (c .before .before .before .before .arbitrate .ensures)
+    (after-arbitrate (c .before) .arbitrate .ensures)
 
 pub arbitrate-one-spec : {M : Type 1} → statement M
 arbitrate-one-spec =

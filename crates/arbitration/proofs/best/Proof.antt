@@ -15,11 +15,18 @@ Inv-loop t h flags lists l₀ k₀ l k = (k ≤ lists) × Best t flags k l
 abbrev μ-loop : tie.MeasureT-loop
 μ-loop t h flags lists l₀ k₀ l k = lists - k
 
+-- The places that the answers cite, each seen from a later one.
+abbrev start : tie.At-loop Inv-loop μ-loop → tie.Start Inv-loop μ-loop
+start c = c .before .before .before
+
+abbrev at-loop : tie.After-better Inv-loop μ-loop → tie.At-loop Inv-loop μ-loop
+at-loop c = c .before .before
+
 loop-holds : tie.Need-loop-holds Inv-loop μ-loop
 loop-holds c = (omega arith, best-none _ _ _ (omega (arith, c .before .before .pre .lists .value)))
 
 add-k : tie.Need-add-k Inv-loop μ-loop
-add-k c = omega (arith, c .before .loop-test .taken, c .before .before .before .before .before .pre .lists .small)
+add-k c = omega (arith, c .before .loop-test .taken, start (at-loop c) .pre .lists .small)
 
 loop-less : tie.Need-loop-less Inv-loop μ-loop
 loop-less c = omega (arith, c .before .loop-test .taken)
@@ -28,14 +35,14 @@ loop-again : tie.Need-loop-again Inv-loop μ-loop
 loop-again c = (
   omega (arith, c .before .loop-test .taken),
   rw (c .better .ensures)
-      (best-more _ _ _ _ (c .before .before .loop .inv .1)
-      (omega (arith, c .before .loop-test .taken, c .before .before .before .before .before .pre .lists .value))),
+      (best-more _ _ _ _ (at-loop c .loop .inv .1)
+      (omega (arith, c .before .loop-test .taken, start (at-loop c) .pre .lists .value))),
 )
 
 returns : tie.Need-returns Inv-loop μ-loop
 returns c =
-    let all : c .before .loop .k ≡ Table.lists (c .before .before .before .before .args .t .now) = omega
-    (arith, c .loop-test .left, c .before .loop .inv .0, c .before .before .before .before .pre .lists .value) in
+    let all : c .before .loop .k ≡ Table.lists (start (c .before) .args .t .now) = omega
+    (arith, c .loop-test .left, c .before .loop .inv .0, start (c .before) .pre .lists .value) in
     rw all at (c .before .loop .inv .1)
 
 pub best-spec : {M : Type 1} → statement M

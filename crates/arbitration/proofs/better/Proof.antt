@@ -6,8 +6,13 @@ use borrow.Author.Needs.{needs}
 use Rattle.arbitration.proofs.better.Statement.{statement}
 use Rattle.arbitration.proofs.better.Tie as tie
 
+-- The places that the answers cite, each seen from a later one.
+abbrev start : tie.Else1 → tie.Start
+start c = c .before .before .before .before
+
+-- Places that the proof names itself.
 abbrev entry : tie.After-struct-known2 → tie.Start
-entry c = c .before .before .before .before .before .before .before .before
+entry c = start (c .before .before .before .before)
 
 returns : tie.Need-returns
 unfolding better
@@ -16,22 +21,26 @@ returns c = rw (sym (c .before .flag .ensures) ∙ not-true _ (c .if1 .taken))
 returns-2 : tie.Need-returns-2
 unfolding better
 returns-2 c =
+    let at-list-at2 = c .before .before .before in
+    let at-else1 = at-list-at2 .before .before in
     rw (
-      sym (c .before .before .before .before .before .before .flag .ensures) ∙ not-false _ (c .before .before .before .before .before .if1 .left),
+      sym (at-else1 .before .flag .ensures) ∙ not-false _ (at-else1 .if1 .left),
       ← entry (c .before) .pre .lists .value,
-      ← c .before .before .before .before .list-at .ensures .priority .value,
-      ← c .before .before .before .list-at2 .ensures .priority .value,
+      ← at-list-at2 .before .list-at .ensures .priority .value,
+      ← at-list-at2 .list-at2 .ensures .priority .value,
       c .if2 .taken,
     )
 
 returns-3 : tie.Need-returns-3
 unfolding better
 returns-3 c =
+    let at-list-at2 = c .before .before .before in
+    let at-else1 = at-list-at2 .before .before in
     rw (
-      sym (c .before .before .before .before .before .before .flag .ensures) ∙ not-false _ (c .before .before .before .before .before .if1 .left),
+      sym (at-else1 .before .flag .ensures) ∙ not-false _ (at-else1 .if1 .left),
       ← entry (c .before) .pre .lists .value,
-      ← c .before .before .before .before .list-at .ensures .priority .value,
-      ← c .before .before .before .list-at2 .ensures .priority .value,
+      ← at-list-at2 .before .list-at .ensures .priority .value,
+      ← at-list-at2 .list-at2 .ensures .priority .value,
       c .if2 .left,
     )
 

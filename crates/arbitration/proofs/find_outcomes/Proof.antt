@@ -18,44 +18,58 @@ Inv-loop t h flags s results₀ rules r₀ results r =
 abbrev μ-loop : tie.MeasureT-loop
 μ-loop t h flags s results₀ rules r₀ results r = rules - r
 
+-- The places that the answers cite, each seen from a later one.
+abbrev start : tie.After-slice-known Inv-loop μ-loop → tie.Start Inv-loop μ-loop
+start c = c .before .before .before .before
+
+abbrev after-outcome : tie.After-slice-known2 Inv-loop μ-loop → tie.After-outcome Inv-loop μ-loop
+after-outcome c = c .before .before .before .before
+
+abbrev in-loop : tie.After-slice-known2 Inv-loop μ-loop → tie.In-loop Inv-loop μ-loop
+in-loop c = after-outcome c .before
+
+abbrev at-loop : tie.After-slice-known2 Inv-loop μ-loop → tie.At-loop Inv-loop μ-loop
+at-loop c = in-loop c .before
+
+-- Places that the proof names itself.
 abbrev entry : tie.After-slice-known2 Inv-loop μ-loop → tie.Start Inv-loop μ-loop
-entry c = c .before .before .before .before .before .before .before .before .before .before .before
+entry c = start (at-loop c .before)
 
 loop-holds : tie.Need-loop-holds Inv-loop μ-loop
-loop-holds c = (omega arith, c .before .before .before .before .pre .long, λ k h. absurd (omega arith))
+loop-holds c = (omega arith, start c .pre .long, λ k h. absurd (omega arith))
 
 add-r : tie.Need-add-r Inv-loop μ-loop
-add-r c = omega (arith, c .before .before .before .before .before .loop-test .taken, entry c .pre .few)
+add-r c = omega (arith, in-loop c .loop-test .taken, entry c .pre .few)
 
 loop-less : tie.Need-loop-less Inv-loop μ-loop
-loop-less c = omega (arith, c .before .before .before .before .before .loop-test .taken)
+loop-less c = omega (arith, in-loop c .loop-test .taken)
 
 loop-again : tie.Need-loop-again Inv-loop μ-loop
 loop-again c = (
-  omega (arith, c .before .before .before .before .before .loop-test .taken),
-  rw (c .before .before .put .ensures) (simp length-set (c .before .before .before .before .before .before .loop .inv .1)),
+  omega (arith, in-loop c .loop-test .taken),
+  rw (c .before .before .put .ensures) (simp length-set (at-loop c .loop .inv .1)),
   rw (c .before .before .put .ensures)
       (set-more (λ k w. w ≡ outcome (entry c .args .t .now) (flagged (entry c .args .flags .now)) (entry c .args .s .now) k)
-      (c .before .before .before .before .before .before .loop .results) (c .before .before .before .before .before .before .loop .r)
-      (c .before .before .before .before .outcome .result)
+      (at-loop c .loop .results) (at-loop c .loop .r)
+      (after-outcome c .outcome .result)
       (omega (
         arith,
-        c .before .before .before .before .before .loop-test .taken,
+        in-loop c .loop-test .taken,
         entry c .pre .few,
-        c .before .before .before .before .before .before .loop .inv .1,
-      )) (c .before .before .before .before .outcome .ensures)
-      (c .before .before .before .before .before .before .loop .inv .2)),
+        at-loop c .loop .inv .1,
+      )) (after-outcome c .outcome .ensures)
+      (at-loop c .loop .inv .2)),
 )
 
 same-length : tie.Need-same-length Inv-loop μ-loop
-same-length c = c .before .loop .inv .1 ∙ sym (c .before .before .before .before .before .before .pre .long)
+same-length c = c .before .loop .inv .1 ∙ sym (start (c .before .before) .pre .long)
 
 returns : tie.Need-returns Inv-loop μ-loop
 returns c =
     record {
       long = c .before .loop .inv .1;
       says = λ r h. c .before .loop .inv .2 r
-          (omega (arith, c .loop-test .left, c .before .before .before .before .before .before .pre .laid .rules .value));
+          (omega (arith, c .loop-test .left, start (c .before .before) .pre .laid .rules .value));
     }
 
 pub find-outcomes-spec : {M : Type 1} → statement M

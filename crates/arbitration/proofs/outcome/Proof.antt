@@ -7,8 +7,13 @@ use borrow.Author.Needs.{needs}
 use Rattle.arbitration.proofs.outcome.Statement.{statement}
 use Rattle.arbitration.proofs.outcome.Tie as tie
 
+-- The places that the answers cite, each seen from a later one.
+abbrev at-after-rule-at : tie.After-mentions → tie.After-rule-at
+at-after-rule-at c = c .before .before .before
+
+-- Places that the proof names itself.
 abbrev after-rule-at : tie.After-result → tie.After-rule-at
-after-rule-at c = c .before .before .before .before .before .before .before
+after-rule-at c = at-after-rule-at (c .before .before .before .before)
 
 returns : tie.Need-returns
 unfolding outcome evaluated
@@ -17,33 +22,40 @@ returns c = rw (← c .before .before .rule-at .ensures .nested-only .value, ne-
 returns-2 : tie.Need-returns-2
 unfolding outcome evaluated
 returns-2 c =
+    let at-else1 = c .before .before in
+    let at-rule-at = at-else1 .before .before in
     rw (
-      ← c .before .before .before .before .rule-at .ensures .nested-only .value,
-      eq-eqb _ _ (c .before .before .if1 .left),
-      ← c .before .before .before .before .rule-at .ensures .expression .value,
+      ← at-rule-at .rule-at .ensures .nested-only .value,
+      eq-eqb _ _ (at-else1 .if1 .left),
+      ← at-rule-at .rule-at .ensures .expression .value,
       sym (c .before .mentions .ensures) ∙ not-true _ (c .if2 .taken),
     )
 
 returns-3 : tie.Need-returns-3
 unfolding outcome evaluated
 returns-3 c =
+    let at-else2 = c .before .before in
+    let at-else1 = at-else2 .before .before in
+    let at-rule-at = at-else1 .before .before in
     rw (
-      ← c .before .before .before .before .before .before .rule-at .ensures .nested-only .value,
-      eq-eqb _ _ (c .before .before .before .before .if1 .left),
-      ← c .before .before .before .before .before .before .rule-at .ensures .expression .value,
-      sym (c .before .before .before .mentions .ensures) ∙ not-false _ (c .before .before .if2 .left),
+      ← at-rule-at .rule-at .ensures .nested-only .value,
+      eq-eqb _ _ (at-else1 .if1 .left),
+      ← at-rule-at .rule-at .ensures .expression .value,
+      sym (at-else2 .before .mentions .ensures) ∙ not-false _ (at-else2 .if2 .left),
       sym (c .before .unready .ensures) ∙ c .if3 .taken,
     )
 
 returns-4 : tie.Need-returns-4
 unfolding outcome evaluated
 returns-4 c =
+    let at-unready = c .before .before in
+    let at-mentions = at-unready .before .before in
     rw (
       ← after-rule-at c .rule-at .ensures .nested-only .value,
-      eq-eqb _ _ (c .before .before .before .before .before .if1 .left),
+      eq-eqb _ _ (at-mentions .before .if1 .left),
       ← after-rule-at c .rule-at .ensures .expression .value,
-      sym (c .before .before .before .before .mentions .ensures) ∙ not-false _ (c .before .before .before .if2 .left),
-      sym (c .before .before .unready .ensures) ∙ c .before .if3 .left,
+      sym (at-mentions .mentions .ensures) ∙ not-false _ (at-unready .before .if2 .left),
+      sym (at-unready .unready .ensures) ∙ c .before .if3 .left,
     )
     (c .result .ensures)
 

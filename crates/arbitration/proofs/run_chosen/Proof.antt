@@ -26,45 +26,71 @@ Inv-loop t h flags₀ s₀ trace₀ lists written₀ l₀ flags s trace written 
 abbrev μ-loop : tie.MeasureT-loop
 μ-loop t h flags₀ s₀ trace₀ lists written₀ l₀ flags s trace written l = sum 0 lists (upIn flags)
 
+-- The places that the answers cite, each seen from a later one.
+abbrev after-slice-known2 : tie.After-best Inv-loop μ-loop → tie.After-slice-known2 Inv-loop μ-loop
+after-slice-known2 c = c .before .before .before .before
+
+abbrev at-start : tie.At-loop Inv-loop μ-loop → tie.Start Inv-loop μ-loop
+at-start c = after-slice-known2 (c .before) .before .before .before
+
+abbrev in-loop : tie.After-put Inv-loop μ-loop → tie.In-loop Inv-loop μ-loop
+in-loop c = c .before .before
+
+abbrev at-at-loop : tie.After-put Inv-loop μ-loop → tie.At-loop Inv-loop μ-loop
+at-at-loop c = in-loop c .before
+
+abbrev at-after-put : tie.After-run-list-arg Inv-loop μ-loop → tie.After-put Inv-loop μ-loop
+at-after-put c = c .before .before .before
+
+abbrev after-put-from-run-list-arg2 : tie.After-run-list-arg2 Inv-loop μ-loop → tie.After-put Inv-loop μ-loop
+after-put-from-run-list-arg2 c = at-after-put (c .before)
+
+abbrev at-after-run-list : tie.After-slice-known6 Inv-loop μ-loop → tie.After-run-list Inv-loop μ-loop
+at-after-run-list c = c .before .before .before .before
+
+abbrev after-slice-known6 : tie.After-best2 Inv-loop μ-loop → tie.After-slice-known6 Inv-loop μ-loop
+after-slice-known6 c = c .before .before .before
+
+-- Places that the proof names itself.
 abbrev entry : tie.After-loop Inv-loop μ-loop → tie.Start Inv-loop μ-loop
-entry c = c .before .before .before .before .before .before .before .before .before
+entry c = at-start (c .before)
 
 abbrev entry-2 : tie.After-run-list-arg Inv-loop μ-loop → tie.Start Inv-loop μ-loop
-entry-2 c = c .before .before .before .before .before .before .before .before .before .before .before .before .before .before
+entry-2 c = at-start (at-at-loop (at-after-put c))
 
 abbrev entry-3 : tie.After-slice-known6 Inv-loop μ-loop → tie.Start Inv-loop μ-loop
-entry-3 c = entry-2 (c .before .before .before .before .before .before)
+entry-3 c = entry-2 (at-after-run-list c .before .before)
 
 abbrev entry-4 : tie.After-best2 Inv-loop μ-loop → tie.Start Inv-loop μ-loop
-entry-4 c = entry-3 (c .before .before .before)
+entry-4 c = entry-3 (after-slice-known6 c)
 
 abbrev at-loop : tie.After-run-list-arg2 Inv-loop μ-loop → tie.At-loop Inv-loop μ-loop
-at-loop c = c .before .before .before .before .before .before .before
+at-loop c = at-at-loop (after-put-from-run-list-arg2 c)
 
 abbrev at-loop-2 : tie.After-best2 Inv-loop μ-loop → tie.At-loop Inv-loop μ-loop
-at-loop-2 c = at-loop (c .before .before .before .before .before .before .before .before)
+at-loop-2 c = at-loop (at-after-run-list (after-slice-known6 c) .before)
 
 abbrev after-put : tie.After-slice-known6 Inv-loop μ-loop → tie.After-put Inv-loop μ-loop
-after-put c = c .before .before .before .before .before .before .before .before .before
+after-put c = after-put-from-run-list-arg2 (at-after-run-list c .before)
 
 abbrev after-put-2 : tie.After-best2 Inv-loop μ-loop → tie.After-put Inv-loop μ-loop
-after-put-2 c = after-put (c .before .before .before)
+after-put-2 c = after-put (after-slice-known6 c)
 
 abbrev after-run-list : tie.After-best2 Inv-loop μ-loop → tie.After-run-list Inv-loop μ-loop
-after-run-list c = c .before .before .before .before .before .before .before
+after-run-list c = at-after-run-list (after-slice-known6 c)
 
 -- when the list is back, its flag is down and the loop stands at the next one
 run-next : (c : tie.After-slice-known6 Inv-loop μ-loop)
-    → let a = entry-3 c .args in let x = after-put c .before .before .before .loop in
+    → let a = entry-3 c .args in let x = at-at-loop (after-put c) .loop in
     Along (runChosen (a .t .now) (flagged (a .flags .now)) (order (a .t .now)) (start (a .s .now)))
     (runChosen (a .t .now) (flagged (after-put c .put .last .0)) (order (a .t .now))) (a .trace .now)
-    (c .before .before .before .before .run-list .last .1 .1 .1 .1 .0)
-    (anew (x .written) (x .trace) (c .before .before .before .before .run-list .last .1 .1 .1 .1 .1 .0))
-    (plus (x .written) (c .before .before .before .before .run-list .result))
+    (at-after-run-list c .run-list .last .1 .1 .1 .1 .0)
+    (anew (x .written) (x .trace) (at-after-run-list c .run-list .last .1 .1 .1 .1 .1 .0))
+    (plus (x .written) (at-after-run-list c .run-list .result))
 run-next c =
-    list-next _ _ _ (after-put c .before .before .before .loop .inv .2) _ _ _ _ _ (after-put c .before .before .before .loop .inv .3) _
-    (after-put c .put .ensures) (omega (arith, after-put c .before .before .loop-test .taken, entry-3 c .pre .laid .lists .value))
-    (entry-3 c .pre .safe) _ _ _ (c .before .before .before .before .run-list .ensures)
+    list-next _ _ _ (at-at-loop (after-put c) .loop .inv .2) _ _ _ _ _ (at-at-loop (after-put c) .loop .inv .3) _
+    (after-put c .put .ensures) (omega (arith, in-loop (after-put c) .loop-test .taken, entry-3 c .pre .laid .lists .value))
+    (entry-3 c .pre .safe) _ _ _ (at-after-run-list c .run-list .ensures)
 
 loop-holds : tie.Need-loop-holds Inv-loop μ-loop
 loop-holds c = (refl, refl, c .best .ensures, rw (c .before .before .nothing .ensures) (along-none _ _ _ _ refl))
@@ -73,23 +99,23 @@ mul-run-list : tie.Need-mul-run-list Inv-loop μ-loop
 mul-run-list c =
     omega (
       arith,
-      c .before .before .before .before .before .before .loop .inv .3 .inside,
-      c .before .before .before .before .before .before .loop .inv .3 .long,
+      at-at-loop (at-after-put c) .loop .inv .3 .inside,
+      at-at-loop (at-after-put c) .loop .inv .3 .long,
       entry-2 c .good .1 .1 .1 .1 .0,
     )
 
 sub-run-list : tie.Need-sub-run-list Inv-loop μ-loop
-sub-run-list c = c .before .before .before .before .before .before .loop .inv .3 .inside
+sub-run-list c = at-at-loop (at-after-put c) .loop .inv .3 .inside
 
 part-run-list-start : tie.Need-part-run-list-start Inv-loop μ-loop
-part-run-list-start c = c .before .before .before .before .before .before .loop .inv .3 .inside
+part-run-list-start c = at-at-loop (at-after-put c) .loop .inv .3 .inside
 
 run-list-requires : tie.Need-run-list-requires Inv-loop μ-loop
 run-list-requires c κs =
     record {
       laid = entry-2 (c .before) .pre .laid;
-      safe = list-safe _ _ _ (at-loop c .loop .inv .2) _ _ _ _ _ (at-loop c .loop .inv .3) _ (c .before .before .before .before .put .ensures)
-          (omega (arith, c .before .before .before .before .before .before .loop-test .taken, entry-2 (c .before) .pre .laid .lists .value))
+      safe = list-safe _ _ _ (at-loop c .loop .inv .2) _ _ _ _ _ (at-loop c .loop .inv .3) _ (after-put-from-run-list-arg2 c .put .ensures)
+          (omega (arith, in-loop (after-put-from-run-list-arg2 c) .loop-test .taken, entry-2 (c .before) .pre .laid .lists .value))
           (entry-2 (c .before) .pre .safe);
     }
 
@@ -98,16 +124,16 @@ plus-requires c κs = along-addable _ _ _ _ _ _ _ (run-next c) (omega (arith, en
 
 loop-less : tie.Need-loop-less Inv-loop μ-loop
 loop-less c =
-    rw (after-put-2 c .put .ensures) (fewer _ _ _ (after-put-2 c .before .before .loop-test .taken)
-    (after-put-2 c .before .before .before .loop .inv .2 .up
-    (omega (arith, after-put-2 c .before .before .loop-test .taken, entry-4 c .pre .laid .lists .value))))
+    rw (after-put-2 c .put .ensures) (fewer _ _ _ (in-loop (after-put-2 c) .loop-test .taken)
+    (at-at-loop (after-put-2 c) .loop .inv .2 .up
+    (omega (arith, in-loop (after-put-2 c) .loop-test .taken, entry-4 c .pre .laid .lists .value))))
 
 loop-again : tie.Need-loop-again Inv-loop μ-loop
 loop-again c = (
-  after-run-list c .before .before .before .before .before .put .kept .0 ∙ at-loop-2 c .loop .inv .0,
+  after-put-from-run-list-arg2 (after-run-list c .before) .put .kept .0 ∙ at-loop-2 c .loop .inv .0,
   after-run-list c .run-list .kept .1 .1 .1 .1 .0 ∙ at-loop-2 c .loop .inv .1,
   c .best2 .ensures,
-  rw (c .before .before .plus .ensures) (run-next (c .before .before .before)),
+  rw (c .before .before .plus .ensures) (run-next (after-slice-known6 c)),
 )
 
 same-length : tie.Need-same-length Inv-loop μ-loop

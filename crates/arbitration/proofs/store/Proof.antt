@@ -18,28 +18,39 @@ Inv-loop t h results s₀ rules r₀ s r =
 abbrev μ-loop : tie.MeasureT-loop
 μ-loop t h results s₀ rules r₀ s r = rules - r
 
+-- The places that the answers cite, each seen from a later one.
+abbrev start : tie.At-loop Inv-loop μ-loop → tie.Start Inv-loop μ-loop
+start c = c .before .before .before .before
+
+abbrev in-loop : tie.After-slice-known2 Inv-loop μ-loop → tie.In-loop Inv-loop μ-loop
+in-loop c = c .before .before .before .before
+
+abbrev at-loop : tie.After-slice-known2 Inv-loop μ-loop → tie.At-loop Inv-loop μ-loop
+at-loop c = in-loop c .before
+
+-- Places that the proof names itself.
 abbrev entry : tie.After-slice-known2 Inv-loop μ-loop → tie.Start Inv-loop μ-loop
-entry c = c .before .before .before .before .before .before .before .before .before
+entry c = start (at-loop c)
 
 loop-holds : tie.Need-loop-holds Inv-loop μ-loop
 loop-holds c = (refl, rw sub-zero)
 
 store-result-requires : tie.Need-store-result-requires Inv-loop μ-loop
-store-result-requires c κs = c .before .before .before .before .before .before .pre
+store-result-requires c κs = start (c .before .before) .pre
 
 add-r : tie.Need-add-r Inv-loop μ-loop
-add-r c = omega (arith, c .before .before .before .before .loop-test .taken, entry c .pre .rules .small)
+add-r c = omega (arith, in-loop c .loop-test .taken, entry c .pre .rules .small)
 
 loop-less : tie.Need-loop-less Inv-loop μ-loop
-loop-less c = omega (arith, c .before .before .before .before .loop-test .taken)
+loop-less c = omega (arith, in-loop c .loop-test .taken)
 
 loop-again : tie.Need-loop-again Inv-loop μ-loop
 loop-again c = (
-  c .before .before .store-result .kept .1 .1 .1 .0 ∙ c .before .before .before .before .before .loop .inv .0,
-  c .before .before .before .before .before .loop .inv .1 ∙ each-turn _ _ _ _
-      (omega (arith, c .before .before .before .before .loop-test .taken, entry c .pre .rules .value)) ∙ ap
-      (each (c .before .before .before .before .before .loop .r + 1)
-      (Table.rules (entry c .args .t .now) - (c .before .before .before .before .before .loop .r + 1))
+  c .before .before .store-result .kept .1 .1 .1 .0 ∙ at-loop c .loop .inv .0,
+  at-loop c .loop .inv .1 ∙ each-turn _ _ _ _
+      (omega (arith, in-loop c .loop-test .taken, entry c .pre .rules .value)) ∙ ap
+      (each (at-loop c .loop .r + 1)
+      (Table.rules (entry c .args .t .now) - (at-loop c .loop .r + 1))
       (storeBy (entry c .args .t .now) (entry c .args .results .now))) (sym (c .before .before .store-result .ensures)),
 )
 
@@ -48,7 +59,7 @@ same-length c = c .before .loop .inv .0
 
 returns : tie.Need-returns Inv-loop μ-loop
 returns c =
-    sym (c .before .loop .inv .1 ∙ each-end _ _ _ _ (omega (arith, c .loop-test .left, c .before .before .before .before .before .pre .rules .value)))
+    sym (c .before .loop .inv .1 ∙ each-end _ _ _ _ (omega (arith, c .loop-test .left, start (c .before) .pre .rules .value)))
 
 pub store-spec : {M : Type 1} → statement M
 store-spec =

@@ -12,9 +12,10 @@ returns c = rw (← c .before .word .ensures, eq-eqb _ _ (c .if1 .taken))
 returns-2 : tie.Need-returns-2
 unfolding storeBy
 returns-2 c =
+    let at-else1 = c .before .before .before .before in
     rw (
-      ← c .before .before .before .before .before .word .ensures,
-      ne-eqb _ _ (c .before .before .before .before .if1 .left),
+      ← at-else1 .before .word .ensures,
+      ne-eqb _ _ (at-else1 .if1 .left),
     )
     (c .before .before .set-result .ensures)
 

@@ -5,17 +5,23 @@ use borrow.Author.Needs.{needs}
 use Rattle.arbitration.proofs.unmark_port.Statement.{statement}
 use Rattle.arbitration.proofs.unmark_port.Tie as tie
 
+-- The places that the answers cite, each seen from a later one.
+abbrev at-after-flag : tie.After-port-in → tie.After-flag
+at-after-flag c = c .before .before .before
+
+-- Places that the proof names itself.
 abbrev after-flag : tie.After-slice-known2 → tie.After-flag
-after-flag c = c .before .before .before .before .before .before .before
+after-flag c = at-after-flag (c .before .before .before .before)
 
 returns : tie.Need-returns
 unfolding unmarkPort
 returns c =
+    let at-port-in = c .before .before .before .before in
     rw (
-      sym (after-flag c .flag .ensures) ∙ c .before .before .before .before .before .before .if1 .taken,
-      ← c .before .before .before .before .port-in .ensures .defined .value,
-      ← c .before .before .before .before .port-in .ensures .value .value,
-      ← c .before .before .before .before .port-in .ensures .remaining .value,
+      sym (after-flag c .flag .ensures) ∙ at-port-in .before .before .if1 .taken,
+      ← at-port-in .port-in .ensures .defined .value,
+      ← at-port-in .port-in .ensures .value .value,
+      ← at-port-in .port-in .ensures .remaining .value,
     )
     (c .before .before .put-port .ensures)
 

@@ -17,15 +17,20 @@ Inv-loop t depths lists costs total₀ l₀ total l =
 abbrev μ-loop : tie.MeasureT-loop
 μ-loop t depths lists costs total₀ l₀ total l = lists - l
 
+-- The places that the answers cite, each seen from a later one.
+abbrev at-start : tie.After-costs Inv-loop μ-loop → tie.Start Inv-loop μ-loop
+at-start c = c .before .before .before
+
+-- Places that the proof names itself.
 abbrev costs : tie.At-loop Inv-loop μ-loop → tie.After-find-costs Inv-loop μ-loop
 costs c = c .before .before
 
 abbrev start : tie.After-find-costs Inv-loop μ-loop → tie.Start Inv-loop μ-loop
-start c = c .before .before .before .before
+start c = at-start (c .before)
 
 find-costs-requires : tie.Need-find-costs-requires Inv-loop μ-loop
 find-costs-requires c κs =
-    let s = c .before .before .before in
+    let s = at-start c in
     record { searched = s .pre .searched; found = no-round (s .args .t .now) }
 
 loop-holds : tie.Need-loop-holds Inv-loop μ-loop

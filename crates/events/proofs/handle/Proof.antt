@@ -4,19 +4,30 @@ use borrow.Author.Needs.{needs}
 use Rattle.events.proofs.handle.Statement.{statement}
 use Rattle.events.proofs.handle.Tie as tie
 
+-- The places that the answers cite, each seen from a later one.
+abbrev start : tie.After-check-event → tie.Start
+start c = c .before .before .before .before
+
+abbrev after-check-event : tie.After-refused → tie.After-check-event
+after-check-event c = c .before .before
+
+abbrev after-happen : tie.After-trace → tie.After-happen
+after-happen c = c .before .before .before
+
+-- Places that the proof names itself.
 abbrev after-enum-told : tie.After-slice-known4 → tie.After-enum-told
-after-enum-told c = c .before .before .before .before .before .before .before
+after-enum-told c = after-happen (c .before) .before .before .before
 
 returns : tie.Need-returns
 returns c =
-    reports-refused _ (c .before .before .before .before .before .before .args .s .now)
-    (c .before .before .before .before .before .before .args .trace .now) _ _ (c .before .before .check-event .ensures) (c .refused .result)
-    (not-taken (c .before .before .check-event .result) (c .before .match .keys2)) (c .refused .ensures .0) (c .refused .ensures .1)
+    reports-refused _ (start (after-check-event c) .args .s .now)
+    (start (after-check-event c) .args .trace .now) _ _ (after-check-event c .check-event .ensures) (c .refused .result)
+    (not-taken (after-check-event c .check-event .result) (c .before .match .keys2)) (c .refused .ensures .0) (c .refused .ensures .1)
 
 returns-2 : tie.Need-returns-2
 returns-2 c =
     reports-done _ _ _ _ _ (after-enum-told c .before .before .check-event .ensures) _ _ _ (is-taken _ (after-enum-told c .enum-told .given .1))
-    (after-enum-told c .before .before .before .before .before .before .pre .safe .shallow) (c .before .before .before .before .happen .ensures)
+    (start (after-enum-told c .before .before) .pre .safe .shallow) (after-happen (c .before) .happen .ensures)
 
 pub handle-spec : {M : Type 1} → statement M
 handle-spec =

@@ -5,26 +5,67 @@ use borrow.Author.Needs.{needs}
 use Rattle.events.proofs.happen.Statement.{statement}
 use Rattle.events.proofs.happen.Tie as tie
 
+-- The places that the answers cite, each seen from a later one.
+abbrev start : tie.After-kind → tie.Start
+start c = c .before .before .before .before
+
+abbrev after-kind-from-then1 : tie.Then1 → tie.After-kind
+after-kind-from-then1 c = c .before .before .before
+
+abbrev after-index-from-else1 : tie.Else1 → tie.After-index
+after-index-from-else1 c = c .before .before
+
+abbrev at-after-kind : tie.Else1 → tie.After-kind
+at-after-kind c = after-index-from-else1 c .before
+
+abbrev after-index : tie.Then3 → tie.After-index
+after-index c = after-index-from-else1 (c .before .before)
+
+abbrev at-then1 : tie.After-tick-arg2 → tie.Then1
+at-then1 c = c .before .before
+
+abbrev at-then2 : tie.After-request-arg2 → tie.Then2
+at-then2 c = c .before .before
+
+abbrev at-else1 : tie.After-request-arg2 → tie.Else1
+at-else1 c = at-then2 c .before
+
+abbrev else2 : tie.After-change → tie.Else2
+else2 c = c .before .before .before
+
+abbrev at-then3 : tie.After-request-arg4 → tie.Then3
+at-then3 c = c .before .before
+
+abbrev after-tick : tie.After-trace → tie.After-tick
+after-tick c = c .before .before .before
+
+abbrev after-request : tie.After-trace2 → tie.After-request
+after-request c = c .before .before .before
+
+abbrev after-request2 : tie.After-trace3 → tie.After-request2
+after-request2 c = c .before .before .before
+
+-- Places that the proof names itself.
 abbrev entry : tie.After-tick-arg2 → tie.Start
-entry c = c .before .before .before .before .before .before .before .before .before
+entry c = start (after-kind-from-then1 (at-then1 c))
 
 abbrev entry-2 : tie.After-request-arg2 → tie.Start
-entry-2 c = c .before .before .before .before .before .before .before .before .before .before
+entry-2 c = start (at-after-kind (at-else1 c))
 
 abbrev after-kind : tie.After-request-arg4 → tie.After-kind
-after-kind c = c .before .before .before .before .before .before .before
+after-kind c = after-index (at-then3 c) .before
 
 abbrev then1 : tie.After-slice-known4 → tie.Then1
-then1 c = c .before .before .before .before .before .before .before
+then1 c = at-then1 (after-tick (c .before) .before)
 
 abbrev else1 : tie.After-nothing → tie.Else1
-else1 c = c .before .before .before .before .before .before .before
+else1 c = else2 (c .before .before .before) .before
 
 abbrev then2 : tie.After-slice-known6 → tie.Then2
-then2 c = c .before .before .before .before .before .before .before
+then2 c = at-then2 (after-request (c .before) .before)
 
 abbrev then3 : tie.After-slice-known8 → tie.Then3
-then3 c = c .before .before .before .before .before .before .before
+then3 c = at-then3 (after-request2 (c .before) .before)
 
 tick-requires : tie.Need-tick-requires
 tick-requires c κs =
@@ -32,46 +73,46 @@ tick-requires c κs =
       laid = entry c .pre .laid;
       few = entry c .pre .few;
       safe = rw
-          (happens-tick _ _ _ _ (c .before .before .before .before .before .kind .ensures .value) (c .before .before .if1 .taken)) at (entry c .pre .safe);
+          (happens-tick _ _ _ _ (after-kind-from-then1 (at-then1 c) .kind .ensures .value) (at-then1 c .if1 .taken)) at (entry c .pre .safe);
     }
 
 returns : tie.Need-returns
 returns c =
-    rw (happens-tick _ _ _ _ (then1 c .before .before .before .kind .ensures .value) (then1 c .if1 .taken))
-    (c .before .before .before .before .tick .ensures)
+    rw (happens-tick _ _ _ _ (after-kind-from-then1 (then1 c) .kind .ensures .value) (then1 c .if1 .taken))
+    (after-tick (c .before) .tick .ensures)
 
 request-requires : tie.Need-request-requires
 request-requires c κs =
     record {
       laid = entry-2 c .pre .laid;
       few = entry-2 c .pre .few;
-      port = c .before .before .before .before .before .index .ensures .small;
-      safe = rw (happens-mode _ _ _ _ (c .before .before .before .before .before .before .kind .ensures .value) _ _
-          (c .before .before .before .before .before .index .ensures .value) (c .before .before .before .before .value .ensures .value)
-          (c .before .before .if2 .taken)) at (entry-2 c .pre .safe);
+      port = after-index-from-else1 (at-else1 c) .index .ensures .small;
+      safe = rw (happens-mode _ _ _ _ (at-after-kind (at-else1 c) .kind .ensures .value) _ _
+          (after-index-from-else1 (at-else1 c) .index .ensures .value) (at-else1 c .before .value .ensures .value)
+          (at-then2 c .if2 .taken)) at (entry-2 c .pre .safe);
     }
 
 returns-2 : tie.Need-returns-2
 returns-2 c =
-    rw (happens-mode _ _ _ _ (then2 c .before .before .before .before .kind .ensures .value) _ _
-    (then2 c .before .before .before .index .ensures .value) (then2 c .before .before .value .ensures .value) (then2 c .if2 .taken))
-    (c .before .before .before .before .request .ensures)
+    rw (happens-mode _ _ _ _ (at-after-kind (then2 c .before) .kind .ensures .value) _ _
+    (after-index-from-else1 (then2 c .before) .index .ensures .value) (then2 c .before .before .value .ensures .value) (then2 c .if2 .taken))
+    (after-request (c .before) .request .ensures)
 
 request-requires-2 : tie.Need-request-requires-2
 request-requires-2 c κs =
     record {
-      laid = after-kind c .before .before .before .before .pre .laid;
-      few = after-kind c .before .before .before .before .pre .few;
-      port = c .before .before .before .before .before .before .index .ensures .small;
+      laid = start (after-kind c) .pre .laid;
+      few = start (after-kind c) .pre .few;
+      port = after-index (at-then3 c) .index .ensures .small;
       safe = rw
-          (happens-request _ _ _ _ (after-kind c .kind .ensures .value) _ (c .before .before .before .before .before .before .index .ensures .value)
-          (c .before .before .if3 .taken)) at (after-kind c .before .before .before .before .pre .safe);
+          (happens-request _ _ _ _ (after-kind c .kind .ensures .value) _ (after-index (at-then3 c) .index .ensures .value)
+          (at-then3 c .if3 .taken)) at (after-kind c .before .before .before .before .pre .safe);
     }
 
 returns-3 : tie.Need-returns-3
 returns-3 c =
-    rw (happens-request _ _ _ _ (then3 c .before .before .before .before .before .kind .ensures .value) _
-    (then3 c .before .before .before .before .index .ensures .value) (then3 c .if3 .taken)) (c .before .before .before .before .request2 .ensures)
+    rw (happens-request _ _ _ _ (after-index (then3 c) .before .kind .ensures .value) _
+    (after-index (then3 c) .index .ensures .value) (then3 c .if3 .taken)) (after-request2 (c .before) .request2 .ensures)
 
 returns-4 : tie.Need-returns-4
 returns-4 c =

@@ -5,11 +5,25 @@ use borrow.Author.Needs.{needs}
 use Rattle.events.proofs.request.Statement.{statement}
 use Rattle.events.proofs.request.Tie as tie
 
+-- The places that the answers cite, each seen from a later one.
+abbrev start : tie.After-request-port-arg → tie.Start
+start c = c .before .before .before .before
+
+abbrev after-request-port : tie.Then1 → tie.After-request-port
+after-request-port c = c .before .before .before
+
+abbrev at-then1 : tie.After-arbitrate-one-arg2 → tie.Then1
+at-then1 c = c .before .before
+
+abbrev after-arbitrate-one : tie.After-trace → tie.After-arbitrate-one
+after-arbitrate-one c = c .before .before .before
+
+-- Places that the proof names itself.
 abbrev entry : tie.After-arbitrate-one-arg2 → tie.Start
-entry c = c .before .before .before .before .before .before .before .before .before .before
+entry c = start (after-request-port (at-then1 c) .before)
 
 abbrev then1 : tie.After-slice-known5 → tie.Then1
-then1 c = c .before .before .before .before .before .before .before
+then1 c = at-then1 (after-arbitrate-one (c .before) .before)
 
 arbitrate-one-requires : tie.Need-arbitrate-one-requires
 arbitrate-one-requires c κs =
@@ -18,14 +32,14 @@ arbitrate-one-requires c κs =
       few = entry c .pre .few;
       port = entry c .pre .port;
       safe = rw
-          (request-now _ _ _ _ _ _ (c .before .before .before .before .before .request-port .ensures) (c .before .before .if1 .taken)) at
+          (request-now _ _ _ _ _ _ (after-request-port (at-then1 c) .request-port .ensures) (at-then1 c .if1 .taken)) at
           (entry c .pre .safe);
     }
 
 returns : tie.Need-returns
 returns c =
-    rw (request-now _ _ _ _ _ _ (then1 c .before .before .before .request-port .ensures) (then1 c .if1 .taken))
-    (c .before .before .before .before .arbitrate-one .ensures)
+    rw (request-now _ _ _ _ _ _ (after-request-port (then1 c) .request-port .ensures) (then1 c .if1 .taken))
+    (after-arbitrate-one (c .before) .arbitrate-one .ensures)
 
 returns-2 : tie.Need-returns-2
 returns-2 c =

@@ -4,11 +4,22 @@ use borrow.Author.Needs.{needs}
 use Rattle.events.proofs.tick.Statement.{statement}
 use Rattle.events.proofs.tick.Tie as tie
 
+-- The places that the answers cite, each seen from a later one.
+abbrev start : tie.After-tick-things-arg → tie.Start
+start c = c .before .before .before .before
+
+abbrev at-after-tick-things : tie.After-arbitrate-marked-arg2 → tie.After-tick-things
+at-after-tick-things c = c .before .before .before .before
+
+abbrev after-arbitrate-marked : tie.After-trace → tie.After-arbitrate-marked
+after-arbitrate-marked c = c .before .before .before
+
+-- Places that the proof names itself.
 abbrev entry : tie.After-arbitrate-marked-arg2 → tie.Start
-entry c = c .before .before .before .before .before .before .before .before .before
+entry c = start (at-after-tick-things c .before)
 
 abbrev after-tick-things : tie.After-slice-known5 → tie.After-tick-things
-after-tick-things c = c .before .before .before .before .before .before .before .before .before
+after-tick-things c = at-after-tick-things (after-arbitrate-marked (c .before) .before)
 
 arbitrate-marked-requires : tie.Need-arbitrate-marked-requires
 unfolding tick
@@ -16,13 +27,13 @@ arbitrate-marked-requires c κs =
     record {
       laid = entry c .pre .laid;
       few = entry c .pre .few;
-      safe = rw (c .before .before .before .before .tick-things .ensures)
+      safe = rw (at-after-tick-things c .tick-things .ensures)
           (entry c .pre .safe);
     }
 
 returns : tie.Need-returns
 unfolding tick
-returns c = rw (← (after-tick-things c .tick-things .ensures)) (c .before .before .before .before .arbitrate-marked .ensures)
+returns c = rw (← (after-tick-things c .tick-things .ensures)) (after-arbitrate-marked (c .before) .arbitrate-marked .ensures)
 
 pub tick-spec : {M : Type 1} → statement M
 tick-spec =

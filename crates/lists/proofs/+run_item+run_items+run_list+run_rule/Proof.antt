@@ -134,25 +134,72 @@ module _ (t : ℕ) where
     plus-reads.Learnt,
   )
 
+  -- The places that the answers cite, each seen from a later one.
+  abbrev run-item-start : run-item-lts.After-item-at run-item-calls run-item-at run-item.Post → run-item-lts.Start run-item-calls run-item-at run-item.Post
+  run-item-start c = c .before .before .before .before
+
+  abbrev run-item-after-item-at :
+      run-item-lts.Else1 run-item-calls run-item-at run-item.Post →
+      run-item-lts.After-item-at run-item-calls run-item-at run-item.Post
+  run-item-after-item-at c = c .before .before
+
+  abbrev run-item-after-item-at-from-then1 :
+      run-item-lts.Then1 run-item-calls run-item-at run-item.Post →
+      run-item-lts.After-item-at run-item-calls run-item-at run-item.Post
+  run-item-after-item-at-from-then1 c = c .before .before
+
+  abbrev at-run-item-then1 :
+      run-item-lts.After-run-list-arg2 run-item-calls run-item-at run-item.Post →
+      run-item-lts.Then1 run-item-calls run-item-at run-item.Post
+  at-run-item-then1 c = c .before .before
+
+  abbrev run-item-else1 : run-item-lts.Else2 run-item-calls run-item-at run-item.Post → run-item-lts.Else1 run-item-calls run-item-at run-item.Post
+  run-item-else1 c = c .before .before
+
+  abbrev run-item-else1-from-then2 : run-item-lts.Then2 run-item-calls run-item-at run-item.Post → run-item-lts.Else1 run-item-calls run-item-at run-item.Post
+  run-item-else1-from-then2 c = c .before .before
+
+  abbrev at-run-item-else2 : run-item-lts.After-act-arg2 run-item-calls run-item-at run-item.Post → run-item-lts.Else2 run-item-calls run-item-at run-item.Post
+  at-run-item-else2 c = c .before .before
+
+  abbrev at-run-item-then2 :
+      run-item-lts.After-run-rule-arg2 run-item-calls run-item-at run-item.Post →
+      run-item-lts.Then2 run-item-calls run-item-at run-item.Post
+  at-run-item-then2 c = c .before .before
+
+  abbrev run-item-after-run-list :
+      run-item-lts.After-trace run-item-calls run-item-at run-item.Post →
+      run-item-lts.After-run-list run-item-calls run-item-at run-item.Post
+  run-item-after-run-list c = c .before .before .before
+
+  abbrev run-item-after-run-rule :
+      run-item-lts.After-trace2 run-item-calls run-item-at run-item.Post →
+      run-item-lts.After-run-rule run-item-calls run-item-at run-item.Post
+  run-item-after-run-rule c = c .before .before .before
+
+  abbrev run-item-after-act : run-item-lts.After-trace3 run-item-calls run-item-at run-item.Post → run-item-lts.After-act run-item-calls run-item-at run-item.Post
+  run-item-after-act c = c .before .before .before
+
+  -- Places that the proof names itself.
   abbrev run-item-entry : run-item-lts.After-run-list-arg2 run-item-calls run-item-at run-item.Post
       → run-item-lts.Start run-item-calls run-item-at run-item.Post
-  run-item-entry c = c .before .before .before .before .before .before .before .before
+  run-item-entry c = run-item-start (run-item-after-item-at-from-then1 (at-run-item-then1 c))
 
   abbrev run-item-entry-2 : run-item-lts.After-run-rule-arg2 run-item-calls run-item-at run-item.Post
       → run-item-lts.Start run-item-calls run-item-at run-item.Post
-  run-item-entry-2 c = c .before .before .before .before .before .before .before .before .before .before
+  run-item-entry-2 c = run-item-start (run-item-after-item-at (run-item-else1-from-then2 (at-run-item-then2 c)))
 
   abbrev run-item-entry-3 : run-item-lts.After-act-arg2 run-item-calls run-item-at run-item.Post → run-item-lts.Start run-item-calls run-item-at run-item.Post
-  run-item-entry-3 c = c .before .before .before .before .before .before .before .before .before .before
+  run-item-entry-3 c = run-item-start (run-item-after-item-at (run-item-else1 (at-run-item-else2 c)))
 
   abbrev run-item-then1 : run-item-lts.After-slice-known4 run-item-calls run-item-at run-item.Post → run-item-lts.Then1 run-item-calls run-item-at run-item.Post
-  run-item-then1 c = c .before .before .before .before .before .before .before
+  run-item-then1 c = at-run-item-then1 (run-item-after-run-list (c .before) .before)
 
   abbrev run-item-then2 : run-item-lts.After-slice-known6 run-item-calls run-item-at run-item.Post → run-item-lts.Then2 run-item-calls run-item-at run-item.Post
-  run-item-then2 c = c .before .before .before .before .before .before .before
+  run-item-then2 c = at-run-item-then2 (run-item-after-run-rule (c .before) .before)
 
   abbrev run-item-else2 : run-item-lts.After-slice-known8 run-item-calls run-item-at run-item.Post → run-item-lts.Else2 run-item-calls run-item-at run-item.Post
-  run-item-else2 c = c .before .before .before .before .before .before .before
+  run-item-else2 c = at-run-item-else2 (run-item-after-act (c .before) .before)
 
   run-item-item-at-requires : run-item-lts.Need-item-at-requires run-item-calls run-item-at run-item.Post
   run-item-item-at-requires c κs = c .before .before .before .pre .1 .laid
@@ -163,14 +210,15 @@ module _ (t : ℕ) where
     record {
       laid = run-item-entry c .pre .1 .laid;
       safe = safe-as _ _ _
-          (runs-list _ _ _ (c .before .before .before .before .item-at .ensures) _ _ _ (c .before .before .if1 .taken)) (run-item-entry c .pre .1 .safe);
+          (runs-list _ _ _ (run-item-after-item-at-from-then1 (at-run-item-then1 c) .item-at .ensures) _ _ _ (at-run-item-then1 c .if1 .taken))
+          (run-item-entry c .pre .1 .safe);
     },
   )
 
   run-item-returns : run-item-lts.Need-returns run-item-calls run-item-at run-item.Post
   run-item-returns c =
-      ran-as _ _ _ _ _ _ (runs-list _ _ _ (run-item-then1 c .before .before .item-at .ensures) _ _ _ (run-item-then1 c .if1 .taken))
-      (c .before .before .before .before .run-list .ensures)
+      ran-as _ _ _ _ _ _ (runs-list _ _ _ (run-item-after-item-at-from-then1 (run-item-then1 c) .item-at .ensures) _ _ _ (run-item-then1 c .if1 .taken))
+      (run-item-after-run-list (c .before) .run-list .ensures)
 
   run-item-run-rule-requires : run-item-lts.Need-run-rule-requires run-item-calls run-item-at run-item.Post
   run-item-run-rule-requires c κs = (
@@ -178,77 +226,106 @@ module _ (t : ℕ) where
     record {
       laid = run-item-entry-2 c .pre .1 .laid;
       safe = safe-as _ _ _
-          (runs-rule _ _ _ (c .before .before .before .before .before .before .item-at .ensures) _ _ _ (c .before .before .before .before .if1 .left)
-          (c .before .before .if2 .taken)) (run-item-entry-2 c .pre .1 .safe);
+          (runs-rule _ _ _ (run-item-after-item-at (run-item-else1-from-then2 (at-run-item-then2 c)) .item-at .ensures) _ _ _
+          (run-item-else1-from-then2 (at-run-item-then2 c) .if1 .left) (at-run-item-then2 c .if2 .taken))
+          (run-item-entry-2 c .pre .1 .safe);
     },
   )
 
   run-item-returns-2 : run-item-lts.Need-returns-2 run-item-calls run-item-at run-item.Post
   run-item-returns-2 c =
-      ran-as _ _ _ _ _ _ (runs-rule _ _ _ (run-item-then2 c .before .before .before .before .item-at .ensures) _ _ _
-      (run-item-then2 c .before .before .if1 .left) (run-item-then2 c .if2 .taken)) (c .before .before .before .before .run-rule .ensures)
+      ran-as _ _ _ _ _ _ (runs-rule _ _ _ (run-item-after-item-at (run-item-else1-from-then2 (run-item-then2 c)) .item-at .ensures) _ _ _
+      (run-item-else1-from-then2 (run-item-then2 c) .if1 .left) (run-item-then2 c .if2 .taken)) (run-item-after-run-rule (c .before) .run-rule .ensures)
 
   run-item-act-requires : run-item-lts.Need-act-requires run-item-calls run-item-at run-item.Post
   run-item-act-requires c κs =
       record {
         laid = run-item-entry-3 c .pre .1 .laid;
         safe = safe-as _ _ _
-            (runs-act _ _ _ (c .before .before .before .before .before .before .item-at .ensures) _ _ _ (c .before .before .before .before .if1 .left)
-            (c .before .before .if2 .left)) (run-item-entry-3 c .pre .1 .safe);
+            (runs-act _ _ _ (run-item-after-item-at (run-item-else1 (at-run-item-else2 c)) .item-at .ensures) _ _ _
+            (run-item-else1 (at-run-item-else2 c) .if1 .left) (at-run-item-else2 c .if2 .left))
+            (run-item-entry-3 c .pre .1 .safe);
       }
 
   run-item-returns-3 : run-item-lts.Need-returns-3 run-item-calls run-item-at run-item.Post
   run-item-returns-3 c =
-      ran-as _ _ _ _ _ _ (runs-act _ _ _ (run-item-else2 c .before .before .before .before .item-at .ensures) _ _ _
-      (run-item-else2 c .before .before .if1 .left) (run-item-else2 c .if2 .left)) (c .before .before .before .before .act .ensures)
+      ran-as _ _ _ _ _ _ (runs-act _ _ _ (run-item-after-item-at (run-item-else1 (run-item-else2 c)) .item-at .ensures) _ _ _
+      (run-item-else1 (run-item-else2 c) .if1 .left) (run-item-else2 c .if2 .left)) (run-item-after-act (c .before) .act .ensures)
 
+  -- The places that the answers cite, each seen from a later one.
+  abbrev run-items-start-from-nothing :
+      run-items-lts.After-nothing run-items-calls run-items-at run-items.Post run-items-Inv-loop run-items-μ-loop →
+      run-items-lts.Start run-items-calls run-items-at run-items.Post run-items-Inv-loop run-items-μ-loop
+  run-items-start-from-nothing c = c .before .before .before .before
+
+  abbrev run-items-start :
+      run-items-lts.In-loop run-items-calls run-items-at run-items.Post run-items-Inv-loop run-items-μ-loop →
+      run-items-lts.Start run-items-calls run-items-at run-items.Post run-items-Inv-loop run-items-μ-loop
+  run-items-start c = run-items-start-from-nothing (c .before .before)
+
+  abbrev at-run-items-at-loop :
+      run-items-lts.After-run-item-arg run-items-calls run-items-at run-items.Post run-items-Inv-loop run-items-μ-loop →
+      run-items-lts.At-loop run-items-calls run-items-at run-items.Post run-items-Inv-loop run-items-μ-loop
+  at-run-items-at-loop c = c .before .before
+
+  abbrev run-items-after-run-item-arg :
+      run-items-lts.After-run-item run-items-calls run-items-at run-items.Post run-items-Inv-loop run-items-μ-loop →
+      run-items-lts.After-run-item-arg run-items-calls run-items-at run-items.Post run-items-Inv-loop run-items-μ-loop
+  run-items-after-run-item-arg c = c .before .before
+
+  abbrev run-items-after-run-item :
+      run-items-lts.After-slice-known4 run-items-calls run-items-at run-items.Post run-items-Inv-loop run-items-μ-loop →
+      run-items-lts.After-run-item run-items-calls run-items-at run-items.Post run-items-Inv-loop run-items-μ-loop
+  run-items-after-run-item c = c .before .before .before .before
+
+  -- Places that the proof names itself.
   abbrev run-items-entry : run-items-lts.After-run-item-arg run-items-calls run-items-at run-items.Post run-items-Inv-loop run-items-μ-loop
       → run-items-lts.Start run-items-calls run-items-at run-items.Post run-items-Inv-loop run-items-μ-loop
-  run-items-entry c = c .before .before .before .before .before .before .before
+  run-items-entry c = run-items-start (c .before)
 
   abbrev run-items-entry-2 : run-items-lts.After-slice-known4 run-items-calls run-items-at run-items.Post run-items-Inv-loop run-items-μ-loop
       → run-items-lts.Start run-items-calls run-items-at run-items.Post run-items-Inv-loop run-items-μ-loop
-  run-items-entry-2 c = run-items-entry (c .before .before .before .before .before .before)
+  run-items-entry-2 c = run-items-entry (run-items-after-run-item-arg (run-items-after-run-item c))
 
   abbrev run-items-at-loop : run-items-lts.After-plus run-items-calls run-items-at run-items.Post run-items-Inv-loop run-items-μ-loop
       → run-items-lts.At-loop run-items-calls run-items-at run-items.Post run-items-Inv-loop run-items-μ-loop
-  run-items-at-loop c = c .before .before .before .before .before .before .before .before .before
+  run-items-at-loop c = at-run-items-at-loop (run-items-after-run-item-arg (run-items-after-run-item (c .before)))
 
   abbrev run-items-in-loop : run-items-lts.After-slice-known4 run-items-calls run-items-at run-items.Post run-items-Inv-loop run-items-μ-loop
       → run-items-lts.In-loop run-items-calls run-items-at run-items.Post run-items-Inv-loop run-items-μ-loop
-  run-items-in-loop c = c .before .before .before .before .before .before .before
+  run-items-in-loop c = run-items-after-run-item-arg (run-items-after-run-item c) .before
 
   -- when the item is back, the loop stands at the next one
   run-items-next : (c : run-items-lts.After-slice-known4 run-items-calls run-items-at run-items.Post run-items-Inv-loop run-items-μ-loop)
-      → let a = run-items-in-loop c .before .before .before .before .before .before .args in let x = run-items-in-loop c .before .loop in
+      → let a = run-items-start (run-items-in-loop c) .args in let x = run-items-in-loop c .before .loop in
       Along (itemsFrom (a .t .now) (a .below) (a .o) (a .first) (a .end) (start (a .s .now)))
       (itemsFrom (a .t .now) (a .below) (a .o) (x .i + 1) (a .end)) (a .trace .now)
-      (c .before .before .before .before .run-item .last .1 .1 .1 .1 .1 .0)
-      (anew (x .written) (x .trace) (c .before .before .before .before .run-item .last .1 .1 .1 .1 .1 .1 .0))
-      (plus (x .written) (c .before .before .before .before .run-item .result))
+      (run-items-after-run-item c .run-item .last .1 .1 .1 .1 .1 .0)
+      (anew (x .written) (x .trace) (run-items-after-run-item c .run-item .last .1 .1 .1 .1 .1 .1 .0))
+      (plus (x .written) (run-items-after-run-item c .run-item .result))
   run-items-next c =
       item-next _ _ _ _ _ _ _ _ _ _ (run-items-in-loop c .before .loop .inv .1) (run-items-in-loop c .loop-test .taken)
-      (run-items-in-loop c .before .before .before .before .before .before .pre .1 .safe) _ _ _ (c .before .before .before .before .run-item .ensures)
+      (run-items-start (run-items-in-loop c) .pre .1 .safe) _ _ _ (run-items-after-run-item c .run-item .ensures)
 
   run-items-loop-holds : run-items-lts.Need-loop-holds run-items-calls run-items-at run-items.Post run-items-Inv-loop run-items-μ-loop
   run-items-loop-holds c = (refl, rw (c .nothing .ensures) (along-none _ _ _ _ refl))
 
   run-items-mul-run-item : run-items-lts.Need-mul-run-item run-items-calls run-items-at run-items.Post run-items-Inv-loop run-items-μ-loop
   run-items-mul-run-item c =
-      omega (arith, c .before .before .loop .inv .1 .inside, c .before .before .loop .inv .1 .long, run-items-entry c .good .1 .1 .1 .1 .1 .1 .1 .0)
+      omega (arith, at-run-items-at-loop c .loop .inv .1 .inside, at-run-items-at-loop c .loop .inv .1 .long, run-items-entry c .good .1 .1 .1 .1 .1 .1 .1 .0)
 
   run-items-sub-run-item : run-items-lts.Need-sub-run-item run-items-calls run-items-at run-items.Post run-items-Inv-loop run-items-μ-loop
-  run-items-sub-run-item c = c .before .before .loop .inv .1 .inside
+  run-items-sub-run-item c = at-run-items-at-loop c .loop .inv .1 .inside
 
   run-items-part-run-item-start : run-items-lts.Need-part-run-item-start run-items-calls run-items-at run-items.Post run-items-Inv-loop run-items-μ-loop
-  run-items-part-run-item-start c = c .before .before .loop .inv .1 .inside
+  run-items-part-run-item-start c = at-run-items-at-loop c .loop .inv .1 .inside
 
   run-items-run-item-requires : run-items-lts.Need-run-item-requires run-items-calls run-items-at run-items.Post run-items-Inv-loop run-items-μ-loop
   run-items-run-item-requires c κs = (
     omega (arith, run-items-entry (c .before) .pre .0),
     record {
       laid = run-items-entry (c .before) .pre .1 .laid;
-      safe = item-safe _ _ _ _ _ _ _ _ _ _ (c .before .before .before .loop .inv .1)
+      safe = item-safe _ _ _ _ _ _ _ _ _ _ (at-run-items-at-loop (c .before) .loop .inv .1)
           (c .before .before .loop-test .taken) (run-items-entry (c .before) .pre .1 .safe);
     },
   )
@@ -261,8 +338,8 @@ module _ (t : ℕ) where
       omega (
         arith,
         run-items-in-loop (c .before) .loop-test .taken,
-        run-items-in-loop
-            (c .before) .before .before .before .before .before .before .fits .end,
+        run-items-start (run-items-in-loop
+            (c .before)) .fits .end,
       )
 
   run-items-loop-less : run-items-lts.Need-loop-less run-items-calls run-items-at run-items.Post run-items-Inv-loop run-items-μ-loop
@@ -270,7 +347,7 @@ module _ (t : ℕ) where
 
   run-items-loop-again : run-items-lts.Need-loop-again run-items-calls run-items-at run-items.Post run-items-Inv-loop run-items-μ-loop
   run-items-loop-again c = (
-    c .before .before .before .before .before .run-item .kept .1 .1 .1 .1 .1 .0 ∙ run-items-at-loop c .loop .inv .0,
+    run-items-after-run-item (c .before) .run-item .kept .1 .1 .1 .1 .1 .0 ∙ run-items-at-loop c .loop .inv .0,
     rw (c .plus .ensures)
         (run-items-next (c .before)),
   )
@@ -278,35 +355,65 @@ module _ (t : ℕ) where
   run-items-returns : run-items-lts.Need-returns run-items-calls run-items-at run-items.Post run-items-Inv-loop run-items-μ-loop
   run-items-returns c = items-end _ _ _ _ _ _ _ _ _ _ (c .before .loop .inv .1) (c .loop-test .left)
 
+  -- The places that the answers cite, each seen from a later one.
+  abbrev run-list-start : run-list-lts.After-slice-known2 run-list-calls run-list-at run-list.Post → run-list-lts.Start run-list-calls run-list-at run-list.Post
+  run-list-start c = c .before .before .before
+
+  abbrev run-list-after-put :
+      run-list-lts.After-slice-known3 run-list-calls run-list-at run-list.Post →
+      run-list-lts.After-put run-list-calls run-list-at run-list.Post
+  run-list-after-put c = c .before .before
+
+  abbrev run-list-after-list-at :
+      run-list-lts.After-slice-known3 run-list-calls run-list-at run-list.Post →
+      run-list-lts.After-list-at run-list-calls run-list-at run-list.Post
+  run-list-after-list-at c = run-list-after-put c .before .before .before
+
+  abbrev run-list-after-slice-known3 :
+      run-list-lts.After-run-items-arg2 run-list-calls run-list-at run-list.Post →
+      run-list-lts.After-slice-known3 run-list-calls run-list-at run-list.Post
+  run-list-after-slice-known3 c = c .before .before .before
+
+  abbrev run-list-after-run-items :
+      run-list-lts.After-slice-known5 run-list-calls run-list-at run-list.Post →
+      run-list-lts.After-run-items run-list-calls run-list-at run-list.Post
+  run-list-after-run-items c = c .before .before .before .before
+
+  abbrev run-list-after-run-items-arg2 :
+      run-list-lts.After-one-word run-list-calls run-list-at run-list.Post →
+      run-list-lts.After-run-items-arg2 run-list-calls run-list-at run-list.Post
+  run-list-after-run-items-arg2 c = run-list-after-run-items (c .before) .before
+
+  -- Places that the proof names itself.
   abbrev run-list-entry : run-list-lts.After-slice-known3 run-list-calls run-list-at run-list.Post → run-list-lts.Start run-list-calls run-list-at run-list.Post
-  run-list-entry c = c .before .before .before .before .before .before .before .before .before
+  run-list-entry c = run-list-start (run-list-after-list-at c .before)
 
   abbrev run-list-entry-2 : run-list-lts.After-run-items-arg2 run-list-calls run-list-at run-list.Post
       → run-list-lts.Start run-list-calls run-list-at run-list.Post
-  run-list-entry-2 c = run-list-entry (c .before .before .before)
+  run-list-entry-2 c = run-list-entry (run-list-after-slice-known3 c)
 
   abbrev run-list-entry-3 : run-list-lts.After-one-word run-list-calls run-list-at run-list.Post → run-list-lts.Start run-list-calls run-list-at run-list.Post
-  run-list-entry-3 c = run-list-entry-2 (c .before .before .before .before .before .before)
+  run-list-entry-3 c = run-list-entry-2 (run-list-after-run-items-arg2 c)
 
   -- the list's first word is written
   run-list-begun : (c : run-list-lts.After-slice-known3 run-list-calls run-list-at run-list.Post)
-      → let a = run-list-entry c .args in let x = c .before .before .before .before .before .list-at .result in
+      → let a = run-list-entry c .args in let x = run-list-after-list-at c .list-at .result in
       Along (runList (a .levels) (a .t .now) (a .l) (start (a .s .now)))
       (itemsFrom (a .t .now) (a .levels - 1) (x .owner) (x .«first_item») (x .«first_item» + x .«item_count»)) (a .trace .now) (a .s .now)
-      (c .before .before .put .last .0) oneWord
+      (run-list-after-put c .put .last .0) oneWord
   run-list-begun c =
-      list-begun _ _ _ _ _ _ _ _ (c .before .before .before .before .before .list-at .ensures) (c .before .before .before .trace-word .ensures)
-      (c .before .before .put .ensures) (run-list-entry c .pre .1 .safe)
+      list-begun _ _ _ _ _ _ _ _ (run-list-after-list-at c .list-at .ensures) (run-list-after-put c .before .trace-word .ensures)
+      (run-list-after-put c .put .ensures) (run-list-entry c .pre .1 .safe)
 
   run-list-list-at-requires : run-list-lts.Need-list-at-requires run-list-calls run-list-at run-list.Post
-  run-list-list-at-requires c κs = c .before .before .before .pre .1 .laid
+  run-list-list-at-requires c κs = run-list-start c .pre .1 .laid
 
   run-list-add-run-items : run-list-lts.Need-add-run-items run-list-calls run-list-at run-list.Post
   run-list-add-run-items c =
       omega (
         arith,
-        c .before .before .before .before .before .before .list-at .ensures .first-item .small,
-        c .before .before .before .before .before .before .list-at .ensures .item-count .small,
+        run-list-after-list-at (c .before) .list-at .ensures .first-item .small,
+        run-list-after-list-at (c .before) .list-at .ensures .item-count .small,
       )
 
   run-list-sub-run-items : run-list-lts.Need-sub-run-items run-list-calls run-list-at run-list.Post
@@ -324,77 +431,119 @@ module _ (t : ℕ) where
     record {
       laid = run-list-entry-2 c .pre .1 .laid;
       safe = last-safe _ _ (items-framed _ _ _ _ _) _ _ _ _
-          (run-list-begun (c .before .before .before)) (run-list-entry-2 c .pre .1 .safe);
+          (run-list-begun (run-list-after-slice-known3 c)) (run-list-entry-2 c .pre .1 .safe);
     },
   )
 
   run-list-plus-requires : run-list-lts.Need-plus-requires run-list-calls run-list-at run-list.Post
   run-list-plus-requires c κs =
       rw (c .one-word .ensures)
-      (last-addable _ _ (items-framed _ _ _ _ _) _ _ _ _ (run-list-begun (c .before .before .before .before .before .before .before .before .before))
-      (run-list-entry-3 c .pre .1 .safe) _ _ _ (c .before .before .before .before .before .run-items .ensures)
+      (last-addable _ _ (items-framed _ _ _ _ _) _ _ _ _ (run-list-begun (run-list-after-slice-known3 (run-list-after-run-items-arg2 c)))
+      (run-list-entry-3 c .pre .1 .safe) _ _ _ (run-list-after-run-items (c .before) .run-items .ensures)
       (omega (arith, run-list-entry-3 c .good .1 .1 .1 .1 .1 .0)))
 
   run-list-returns : run-list-lts.Need-returns run-list-calls run-list-at run-list.Post
   run-list-returns c =
       rw (c .plus .ensures, c .before .one-word .ensures)
       (last-ran _ _ (items-framed _ _ _ _ _) _ _ _ _ (run-list-begun
-      (c .before .before .before .before .before .before .before .before .before .before)) (run-list-entry-3 (c .before) .pre .1 .safe) _ _ _
-      (c .before .before .before .before .before .before .run-items .ensures))
+      (run-list-after-slice-known3 (run-list-after-run-items-arg2 (c .before)))) (run-list-entry-3 (c .before) .pre .1 .safe) _ _ _
+      (run-list-after-run-items (c .before .before) .run-items .ensures))
 
+  -- The places that the answers cite, each seen from a later one.
+  abbrev run-rule-start-from-unready-arg :
+      run-rule-lts.After-unready-arg run-rule-calls run-rule-at run-rule.Post →
+      run-rule-lts.Start run-rule-calls run-rule-at run-rule.Post
+  run-rule-start-from-unready-arg c = c .before .before .before .before
+
+  abbrev run-rule-start : run-rule-lts.Else1 run-rule-calls run-rule-at run-rule.Post → run-rule-lts.Start run-rule-calls run-rule-at run-rule.Post
+  run-rule-start c = run-rule-start-from-unready-arg (c .before .before)
+
+  abbrev at-run-rule-else1 : run-rule-lts.After-judge-arg2 run-rule-calls run-rule-at run-rule.Post → run-rule-lts.Else1 run-rule-calls run-rule-at run-rule.Post
+  at-run-rule-else1 c = c .before .before
+
+  abbrev run-rule-then1 : run-rule-lts.After-put run-rule-calls run-rule-at run-rule.Post → run-rule-lts.Then1 run-rule-calls run-rule-at run-rule.Post
+  run-rule-then1 c = c .before .before .before
+
+  abbrev run-rule-after-put :
+      run-rule-lts.After-one-word run-rule-calls run-rule-at run-rule.Post →
+      run-rule-lts.After-put run-rule-calls run-rule-at run-rule.Post
+  run-rule-after-put c = c .before .before .before
+
+  abbrev run-rule-after-judge-from-slice-known5 :
+      run-rule-lts.After-slice-known5 run-rule-calls run-rule-at run-rule.Post →
+      run-rule-lts.After-judge run-rule-calls run-rule-at run-rule.Post
+  run-rule-after-judge-from-slice-known5 c = c .before .before .before .before
+
+  abbrev run-rule-after-judge : run-rule-lts.Else2 run-rule-calls run-rule-at run-rule.Post → run-rule-lts.After-judge run-rule-calls run-rule-at run-rule.Post
+  run-rule-after-judge c = run-rule-after-judge-from-slice-known5 (c .before)
+
+  abbrev run-rule-else2 : run-rule-lts.After-run-list-arg2 run-rule-calls run-rule-at run-rule.Post → run-rule-lts.Else2 run-rule-calls run-rule-at run-rule.Post
+  run-rule-else2 c = c .before .before
+
+  abbrev run-rule-after-run-list :
+      run-rule-lts.After-slice-known7 run-rule-calls run-rule-at run-rule.Post →
+      run-rule-lts.After-run-list run-rule-calls run-rule-at run-rule.Post
+  run-rule-after-run-list c = c .before .before .before .before
+
+  abbrev run-rule-after-run-list-arg2 :
+      run-rule-lts.After-one-word3 run-rule-calls run-rule-at run-rule.Post →
+      run-rule-lts.After-run-list-arg2 run-rule-calls run-rule-at run-rule.Post
+  run-rule-after-run-list-arg2 c = run-rule-after-run-list (c .before) .before
+
+  -- Places that the proof names itself.
   abbrev run-rule-entry : run-rule-lts.After-judge-arg2 run-rule-calls run-rule-at run-rule.Post → run-rule-lts.Start run-rule-calls run-rule-at run-rule.Post
-  run-rule-entry c = c .before .before .before .before .before .before .before .before
+  run-rule-entry c = run-rule-start (at-run-rule-else1 c)
 
   abbrev run-rule-entry-2 : run-rule-lts.After-run-list-arg2 run-rule-calls run-rule-at run-rule.Post
       → run-rule-lts.Start run-rule-calls run-rule-at run-rule.Post
-  run-rule-entry-2 c = run-rule-entry (c .before .before .before .before .before .before .before .before)
+  run-rule-entry-2 c = run-rule-entry (run-rule-after-judge (run-rule-else2 c) .before)
 
   abbrev run-rule-entry-3 : run-rule-lts.After-one-word3 run-rule-calls run-rule-at run-rule.Post → run-rule-lts.Start run-rule-calls run-rule-at run-rule.Post
-  run-rule-entry-3 c = run-rule-entry-2 (c .before .before .before .before .before .before)
+  run-rule-entry-3 c = run-rule-entry-2 (run-rule-after-run-list-arg2 c)
 
   abbrev run-rule-after-unready : run-rule-lts.After-one-word run-rule-calls run-rule-at run-rule.Post
       → run-rule-lts.After-unready run-rule-calls run-rule-at run-rule.Post
-  run-rule-after-unready c = c .before .before .before .before .before .before .before
+  run-rule-after-unready c = run-rule-then1 (run-rule-after-put c) .before
 
   abbrev run-rule-else1 : run-rule-lts.After-slice-known5 run-rule-calls run-rule-at run-rule.Post → run-rule-lts.Else1 run-rule-calls run-rule-at run-rule.Post
-  run-rule-else1 c = c .before .before .before .before .before .before .before
+  run-rule-else1 c = at-run-rule-else1 (run-rule-after-judge-from-slice-known5 c .before)
 
   -- the rule's word is written, and it starts a list
   run-rule-begun : (c : run-rule-lts.Else2 run-rule-calls run-rule-at run-rule.Post)
-      → let a = run-rule-else1 (c .before) .before .before .before .before .before .before .args in
+      → let a = run-rule-start (run-rule-else1 (c .before)) .args in
       Along (runRule (runList (a .below) (a .t .now)) (a .t .now) (a .o) (a .r) (start (a .s .now)))
-      (runList (a .below) (a .t .now) (c .before .before .before .before .before .judge .result)) (a .trace .now)
-      (c .before .before .before .before .before .judge .last .1 .1 .1 .1 .0)
-      (c .before .before .before .before .before .judge .last .1 .1 .1 .1 .1 .0) oneWord
+      (runList (a .below) (a .t .now) (run-rule-after-judge c .judge .result)) (a .trace .now)
+      (run-rule-after-judge c .judge .last .1 .1 .1 .1 .0)
+      (run-rule-after-judge c .judge .last .1 .1 .1 .1 .1 .0) oneWord
   run-rule-begun c =
-      rule-begun _ _ _ _ _ _ (run-rule-else1 (c .before) .before .before .before .before .before .before .pre .1 .safe)
+      rule-begun _ _ _ _ _ _ (run-rule-start (run-rule-else1 (c .before)) .pre .1 .safe)
       (sym (run-rule-else1 (c .before) .before .unready .ensures) ∙ run-rule-else1 (c .before) .if1 .left) _
-      (c .before .before .before .before .before .judge .ensures .0) _ _ (c .before .before .before .before .before .judge .ensures .1) (c .if2 .left)
+      (run-rule-after-judge c .judge .ensures .0) _ _ (run-rule-after-judge c .judge .ensures .1) (c .if2 .left)
 
   run-rule-unready-requires : run-rule-lts.Need-unready-requires run-rule-calls run-rule-at run-rule.Post
-  run-rule-unready-requires c κs = c .before .before .before .before .pre .1 .laid
+  run-rule-unready-requires c κs = run-rule-start-from-unready-arg c .pre .1 .laid
 
   run-rule-returns : run-rule-lts.Need-returns run-rule-calls run-rule-at run-rule.Post
   run-rule-returns c =
-      rw (c .one-word .ensures) (rule-undefined _ _ _ _ _ _ (run-rule-after-unready c .before .before .before .before .before .pre .1 .safe)
-      (sym (run-rule-after-unready c .unready .ensures) ∙ c .before .before .before .before .before .before .if1 .taken) _ _
-      (c .before .before .before .before .trace-word .ensures) (c .before .before .before .put .ensures))
+      rw (c .one-word .ensures) (rule-undefined _ _ _ _ _ _ (run-rule-start-from-unready-arg (run-rule-after-unready c .before) .pre .1 .safe)
+      (sym (run-rule-after-unready c .unready .ensures) ∙ run-rule-then1 (run-rule-after-put c) .if1 .taken) _ _
+      (run-rule-after-put c .before .trace-word .ensures) (run-rule-after-put c .put .ensures))
 
   run-rule-judge-requires : run-rule-lts.Need-judge-requires run-rule-calls run-rule-at run-rule.Post
   run-rule-judge-requires c κs =
       record {
         laid = run-rule-entry c .pre .1 .laid;
         safe = judge-safe _ _ _ _ _ _ (run-rule-entry c .pre .1 .safe)
-            (sym (c .before .before .before .unready .ensures) ∙ c .before .before .if1 .left);
+            (sym (at-run-rule-else1 c .before .unready .ensures) ∙ at-run-rule-else1 c .if1 .left);
       }
 
   run-rule-returns-2 : run-rule-lts.Need-returns-2 run-rule-calls run-rule-at run-rule.Post
   run-rule-returns-2 c =
-      rw (c .one-word2 .ensures) (rule-done _ _ _ _ _ _ (run-rule-else1
-      (c .before .before) .before .before .before .before .before .before .pre .1 .safe)
+      rw (c .one-word2 .ensures) (rule-done _ _ _ _ _ _ (run-rule-start (run-rule-else1
+      (c .before .before)) .pre .1 .safe)
       (sym (run-rule-else1 (c .before .before) .before .unready .ensures) ∙ run-rule-else1 (c .before .before) .if1 .left) _
-      (c .before .before .before .before .before .before .judge .ensures .0) _ _
-      (c .before .before .before .before .before .before .judge .ensures .1) (c .before .if2 .taken))
+      (run-rule-after-judge-from-slice-known5 (c .before .before) .judge .ensures .0) _ _
+      (run-rule-after-judge-from-slice-known5 (c .before .before) .judge .ensures .1) (c .before .if2 .taken))
 
   run-rule-sub-run-list : run-rule-lts.Need-sub-run-list run-rule-calls run-rule-at run-rule.Post
   run-rule-sub-run-list c = run-rule-begun (c .before) .inside
@@ -407,7 +556,7 @@ module _ (t : ℕ) where
     omega (arith, run-rule-entry-2 c .pre .0),
     record {
       laid = run-rule-entry-2 c .pre .1 .laid;
-      safe = last-safe _ _ (list-framed _ _ _) _ _ _ _ (run-rule-begun (c .before .before))
+      safe = last-safe _ _ (list-framed _ _ _) _ _ _ _ (run-rule-begun (run-rule-else2 c))
           (run-rule-entry-2 c .pre .1 .safe);
     },
   )
@@ -415,15 +564,15 @@ module _ (t : ℕ) where
   run-rule-plus-requires : run-rule-lts.Need-plus-requires run-rule-calls run-rule-at run-rule.Post
   run-rule-plus-requires c κs =
       rw (c .one-word3 .ensures)
-      (last-addable _ _ (list-framed _ _ _) _ _ _ _ (run-rule-begun (c .before .before .before .before .before .before .before .before))
-      (run-rule-entry-3 c .pre .1 .safe) _ _ _ (c .before .before .before .before .before .run-list .ensures)
+      (last-addable _ _ (list-framed _ _ _) _ _ _ _ (run-rule-begun (run-rule-else2 (run-rule-after-run-list-arg2 c)))
+      (run-rule-entry-3 c .pre .1 .safe) _ _ _ (run-rule-after-run-list (c .before) .run-list .ensures)
       (omega (arith, run-rule-entry-3 c .good .1 .1 .1 .1 .1 .1 .0)))
 
   run-rule-returns-3 : run-rule-lts.Need-returns-3 run-rule-calls run-rule-at run-rule.Post
   run-rule-returns-3 c =
       rw (c .plus .ensures, c .before .one-word3 .ensures)
-      (last-ran _ _ (list-framed _ _ _) _ _ _ _ (run-rule-begun (c .before .before .before .before .before .before .before .before .before))
-      (run-rule-entry-3 (c .before) .pre .1 .safe) _ _ _ (c .before .before .before .before .before .before .run-list .ensures))
+      (last-ran _ _ (list-framed _ _ _) _ _ _ _ (run-rule-begun (run-rule-else2 (run-rule-after-run-list-arg2 (c .before))))
+      (run-rule-entry-3 (c .before) .pre .1 .safe) _ _ _ (run-rule-after-run-list (c .before .before) .run-list .ensures))
 
 pub +run-item+run-items+run-list+run-rule-spec : {M : Type 1} → statement M
 +run-item+run-items+run-list+run-rule-spec =

@@ -18,8 +18,13 @@ Inv-loop t h p n i₀ i = (i ≤ n) × (any 0 n (networkHas t p) ≡ any i (n - 
 abbrev μ-loop : tie.MeasureT-loop
 μ-loop t h p n i₀ i = n - i
 
+-- The places that the answers cite, each seen from a later one.
+abbrev start : tie.At-loop Inv-loop μ-loop → tie.Start Inv-loop μ-loop
+start c = c .before .before
+
+-- Places that the proof names itself.
 abbrev has : tie.At-loop Inv-loop μ-loop → ℕ → Bool
-has c = networkHas (c .before .before .args .t .now) (c .before .before .args .p)
+has c = networkHas (start c .args .t .now) (start c .args .p)
 
 returns : tie.Need-returns Inv-loop μ-loop
 returns c =

@@ -14,6 +14,11 @@ Inv-loop t h depths₀ d₀ depths d = (d ≤ 7) × Depths d t depths
 abbrev μ-loop : tie.MeasureT-loop
 μ-loop t h depths₀ d₀ depths d = 7 - d
 
+-- The places that the answers cite, each seen from a later one.
+abbrev at-loop : tie.After-find-level-arg Inv-loop μ-loop → tie.At-loop Inv-loop μ-loop
+at-loop c = c .before .before
+
+-- Places that the proof names itself.
 abbrev start : tie.At-loop Inv-loop μ-loop → tie.Start Inv-loop μ-loop
 start c = c .before .before .before
 
@@ -22,14 +27,14 @@ level c = c .before .before
 
 find-level-requires : tie.Need-find-level-requires Inv-loop μ-loop
 find-level-requires c κs =
-    let pre = start (c .before .before) .pre in
+    let pre = start (at-loop c) .pre in
     record {
-      searched = record { laid = pre .laid; few = pre .few; found = c .before .before .loop .inv .1 };
+      searched = record { laid = pre .laid; few = pre .few; found = at-loop c .loop .inv .1 };
       shallow = c .before .loop-test .taken;
     }
 
 same-length : tie.Need-same-length Inv-loop μ-loop
-same-length c = level (c .before) .find-level .ensures .next .long ∙ sym (start (level (c .before) .before .before .before) .pre .found .long)
+same-length c = level (c .before) .find-level .ensures .next .long ∙ sym (start (at-loop (level (c .before) .before)) .pre .found .long)
 
 returns : tie.Need-returns Inv-loop μ-loop
 returns c = let e = level (c .before) .find-level .ensures in settled _ _ _ (e .none (not-true _ (c .if1 .taken))) (e .next) 7 (omega arith)

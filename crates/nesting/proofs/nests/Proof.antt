@@ -6,6 +6,10 @@ use borrow.Author.Needs.{needs}
 use Rattle.nesting.proofs.nests.Statement.{statement}
 use Rattle.nesting.proofs.nests.Tie as tie
 
+-- The places that the answers cite, each seen from a later one.
+abbrev after-part2 : tie.After-found → tie.After-part2
+after-part2 c = c .before .before
+
 returns : tie.Need-returns
 unfolding nesting
 returns c = rw (c .enum-told .given .1)
@@ -37,8 +41,8 @@ returns-7 c = rw (c .enum-told6 .given .1)
 returns-8 : tie.Need-returns-8
 unfolding nesting
 returns-8 c =
-    let depths = c .before .before .before .before .before .before .pre .found in
-    rw (c .before .before .part2 .given .1) (c .found .ensures ∙ depths .says 7 _ (omega arith))
+    let depths = after-part2 c .before .before .before .before .pre .found in
+    rw (after-part2 c .part2 .given .1) (c .found .ensures ∙ depths .says 7 _ (omega arith))
 
 returns-9 : tie.Need-returns-9
 unfolding nesting

@@ -53,6 +53,13 @@ module _ (t : ℕ) where
     right-reads.Learnt,
   )
 
+  -- The places that the answers cite, each seen from a later one.
+  abbrev after-expression-kind : lts.After-left calls at own.Post → lts.After-expression-kind calls at own.Post
+  after-expression-kind c = c .before .before
+
+  abbrev after-condition-port : lts.After-port-owner calls at own.Post → lts.After-condition-port calls at own.Post
+  after-condition-port c = c .before .before
+
   -- the word was read, and its kind; the expression's strangers' ports
   abbrev word : lts.After-expression-kind calls at own.Post → lts.After-expression-word calls at own.Post
   word c = c .before
@@ -69,15 +76,15 @@ module _ (t : ℕ) where
 
   returns-2 : lts.Need-returns-2 calls at own.Post
   returns-2 c =
-      let kind = c .before .before .before .before in
+      let kind = after-condition-port c .before .before in
       strange _ _ _ _ _ (c .before .port-word .ensures) (c .port-owner .ensures .value)
-      ∙ ap (strangers kind) (c .before .before .condition-port .ensures .value)
+      ∙ ap (strangers kind) (after-condition-port c .condition-port .ensures .value)
       ∙ sym (mention-condition _ _ _ _ _ (word kind .before .if1 .left) (word kind .expression-word .ensures) (kind .expression-kind .ensures .value)
-      (strangers kind) (c .before .before .before .if2 .taken))
+      (strangers kind) (after-condition-port c .before .if2 .taken))
 
   mentions-stranger-requires : lts.Need-mentions-stranger-requires calls at own.Post
   mentions-stranger-requires c κs =
-      let kind = c .before .before in
+      let kind = after-expression-kind c in
       let pre = start kind .pre in
       (omega (arith, pre .0, word kind .before .if1 .left), pre .1)
 
@@ -97,7 +104,7 @@ module _ (t : ℕ) where
 
   mentions-stranger-requires-2 : lts.Need-mentions-stranger-requires-2 calls at own.Post
   mentions-stranger-requires-2 c κs =
-      let kind = c .before .before .before .before .before .before in
+      let kind = after-expression-kind (c .before .before .before .before) in
       let pre = start kind .pre in
       (omega (arith, pre .0, word kind .before .if1 .left), pre .1)
 
@@ -107,9 +114,9 @@ module _ (t : ℕ) where
       let named = right .before .before .before .before in
       let kind = named .before .before in
       c .mentions-stranger2 .ensures
-      ∙ mention-right _ _ _ _ _ (word kind .before .if1 .left) (word kind .expression-word .ensures) (kind .expression-kind .ensures .value)
-      (strangers kind) _ _ _ (named .before .if2 .left) (named .left .ensures .value) (right .before .before .before .mentions-stranger .ensures) (right .before .before .if3 .left)
-      (right .before .if4 .left) (right .right .ensures .value)
+      ∙ mention-right _ _ _ _ _ (word kind .before .if1 .left) (word kind .expression-word .ensures) (kind .expression-kind .ensures .value) (strangers kind)
+      _ _ _ (named .before .if2 .left) (named .left .ensures .value) (right .before .before .before .mentions-stranger .ensures)
+      (right .before .before .if3 .left) (right .before .if4 .left) (right .right .ensures .value)
 
 pub +mentions-stranger-spec : {M : Type 1} → statement M
 +mentions-stranger-spec =

@@ -3,6 +3,11 @@ use Rattle.owners.proofs.Judged.{clash-early, clash-in-lists, clash-now
 use Rattle.owners.proofs.first_clash.Statement.{statement}
 use Rattle.owners.proofs.first_clash.Tie as tie
 
+-- The places that the answers cite, each seen from a later one.
+abbrev after-clash-before-lists : tie.After-list-clash → tie.After-clash-before-lists
+after-clash-before-lists c = c .before .before
+
+-- Places that the proof names itself.
 abbrev start : tie.After-clash-before-lists → tie.Start
 start c = c .before .before
 
@@ -11,13 +16,13 @@ returns c = clash-early _ _ (start (c .before) .pre) _ (c .before .clash-before-
 
 returns-2 : tie.Need-returns-2
 returns-2 c =
-    let early = c .before .before .before in
+    let early = after-clash-before-lists (c .before) in
     clash-in-lists _ _ (start early .pre) _ (early .clash-before-lists .ensures) _ (c .before .list-clash .ensures) (c .before .before .if1 .left)
     (c .if2 .taken)
 
 returns-3 : tie.Need-returns-3
 returns-3 c =
-    let early = c .before .before .before in
+    let early = after-clash-before-lists (c .before) in
     clash-nowhere _ _ (start early .pre) _ (early .clash-before-lists .ensures) _ (c .before .list-clash .ensures) (c .before .before .if1 .left)
     (c .if2 .left)
 

@@ -7,11 +7,12 @@ use Rattle.refusals.proofs.known.Tie as tie
 returns : tie.Need-returns
 unfolding known
 returns c =
+    let at-present = c .before .before in
     rw (
-      ← c .before .before .before .before .kind .ensures .value,
+      ← at-present .before .before .kind .ensures .value,
       ← c .before .suited .ensures,
-      ← c .before .before .before .named .ensures,
-      ← c .before .before .present .ensures,
+      ← at-present .before .named .ensures,
+      ← at-present .present .ensures,
     )
     (c .passed-if .ensures)
 

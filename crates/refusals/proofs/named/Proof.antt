@@ -11,9 +11,10 @@ returns c = rw (← c .before .before .kind .ensures .value, ← c .before .inde
 returns-2 : tie.Need-returns-2
 unfolding named
 returns-2 c =
+    let at-index = c .before .before in
     rw (
-      ← c .before .before .before .kind .ensures .value,
-      ← c .before .before .index .ensures .value,
+      ← at-index .before .kind .ensures .value,
+      ← at-index .index .ensures .value,
       c .before .if1 .left,
       eq-eqb _ _ (c .if2 .taken),
     )
@@ -21,9 +22,10 @@ returns-2 c =
 returns-3 : tie.Need-returns-3
 unfolding named
 returns-3 c =
+    let at-index = c .before .before in
     rw (
-      ← c .before .before .before .kind .ensures .value,
-      ← c .before .before .index .ensures .value,
+      ← at-index .before .kind .ensures .value,
+      ← at-index .index .ensures .value,
       c .before .if1 .left,
       ne-eqb _ _ (c .if2 .left),
     )

@@ -7,10 +7,11 @@ use Rattle.refusals.proofs.sent_by_owner.Tie as tie
 returns : tie.Need-returns
 unfolding sentByOwner
 returns c =
+    let at-named = c .before .before in
     rw (
-      ← c .before .before .before .before .kind .ensures .value,
-      ← c .before .before .before .owner .ensures .value,
-      ← c .before .before .named .ensures,
+      ← at-named .before .before .kind .ensures .value,
+      ← at-named .before .owner .ensures .value,
+      ← at-named .named .ensures,
       ← c .before .owner2 .ensures,
     )
     (c .passed-if .ensures)

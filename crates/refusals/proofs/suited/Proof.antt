@@ -6,17 +6,24 @@ use borrow.Author.Needs.{needs}
 use Rattle.refusals.proofs.suited.Statement.{statement}
 use Rattle.refusals.proofs.suited.Tie as tie
 
+-- The places that the answers cite, each seen from a later one.
+abbrev start : tie.After-index → tie.Start
+start c = c .before .before .before
+
+-- Places that the proof names itself.
 abbrev entry : tie.After-struct-known → tie.Start
-entry c = c .before .before .before .before .before .before .before
+entry c = start (c .before .before .before .before)
 
 returns : tie.Need-returns
 unfolding suited
 returns c =
+    let at-then1 = c .before .before in
+    let at-index = at-then1 .before .before in
     rw (
-      ← c .before .before .before .before .index .ensures .value,
-      ← c .before .before .before .port-at .ensures .kind .value,
-      ← c .before .before .before .before .before .kind .ensures .value,
-      c .before .before .if1 .taken,
+      ← at-index .index .ensures .value,
+      ← at-then1 .before .port-at .ensures .kind .value,
+      ← at-index .before .kind .ensures .value,
+      at-then1 .if1 .taken,
       ← entry c .pre .networks .value,
       ← entry c .pre .sources .value,
       ← c .before .held .ensures,
@@ -26,10 +33,11 @@ returns c =
 returns-2 : tie.Need-returns-2
 unfolding suited
 returns-2 c =
+    let at-port-at = c .before .before .before in
     rw (
-      ← c .before .before .before .before .index .ensures .value,
-      ← c .before .before .before .port-at .ensures .kind .value,
-      ← c .before .before .before .before .before .kind .ensures .value,
+      ← at-port-at .before .index .ensures .value,
+      ← at-port-at .port-at .ensures .kind .value,
+      ← at-port-at .before .before .kind .ensures .value,
       c .before .if2 .taken,
     )
 

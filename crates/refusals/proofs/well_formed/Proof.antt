@@ -7,12 +7,14 @@ use Rattle.refusals.proofs.well_formed.Tie as tie
 returns : tie.Need-returns
 unfolding wellFormed
 returns c =
+    let at-value = c .before .before in
+    let at-owner = at-value .before .before in
     rw (
       not-not,
-      ← c .before .before .before .before .before .kind .ensures .value,
-      ← c .before .before .before .before .owner .ensures .value,
-      ← c .before .before .before .index .ensures .value,
-      ← c .before .before .value .ensures .value,
+      ← at-owner .before .kind .ensures .value,
+      ← at-owner .owner .ensures .value,
+      ← at-value .before .index .ensures .value,
+      ← at-value .value .ensures .value,
       ← c .before .zero .ensures .value,
     )
     (c .passed-if .ensures)

@@ -17,6 +17,16 @@ Inv-loop t s h end i₀ i = (i ≤ end) × (State.fits t s ≡ all i (end - i) (
 abbrev μ-loop : tie.MeasureT-loop
 μ-loop t s h end i₀ i = end - i
 
+-- The places that the answers cite, each seen from a later one.
+abbrev after-length : tie.In-loop Inv-loop μ-loop → tie.After-length Inv-loop μ-loop
+after-length c = c .before .before .before
+
+abbrev after-thing-at : tie.After-thing-fits Inv-loop μ-loop → tie.After-thing-at Inv-loop μ-loop
+after-thing-at c = c .before .before
+
+abbrev in-loop : tie.After-thing-fits Inv-loop μ-loop → tie.In-loop Inv-loop μ-loop
+in-loop c = after-thing-at c .before
+
 returns : tie.Need-returns Inv-loop μ-loop
 returns c = wrong-length _ _ _ (c .before .length .ensures) (c .if1 .taken)
 
@@ -26,22 +36,22 @@ loop-holds c = (omega arith, right-length _ _ _ (c .before .length .ensures) (c 
 thing-at-requires : tie.Need-thing-at-requires Inv-loop μ-loop
 thing-at-requires c κs =
     record {
-      laid = c .before .before .before .before .read-layout .ensures;
+      laid = after-length c .before .read-layout .ensures;
       inside = omega
-          (arith, c .before .before .before .length .ensures, c .loop-test .taken);
+          (arith, after-length c .length .ensures, c .loop-test .taken);
     }
 
 returns-2 : tie.Need-returns-2 Inv-loop μ-loop
 returns-2 c =
-    sym (c .before .before .before .before .before .loop .inv .1 ∙ all-fails _ _ _ (c .before .before .before .before .loop-test .taken)
-    (fits-here _ _ _ _ _ _ (c .before .thing-fits .ensures) (c .before .before .before .thing-at .ensures) (c .before .before .word .ensures) ∙
+    sym (in-loop (c .before) .before .loop .inv .1 ∙ all-fails _ _ _ (in-loop (c .before) .loop-test .taken)
+    (fits-here _ _ _ _ _ _ (c .before .thing-fits .ensures) (after-thing-at (c .before) .thing-at .ensures) (c .before .before .word .ensures) ∙
     not-true _ (c .if2 .taken)))
 
 loop-again : tie.Need-loop-again Inv-loop μ-loop
 loop-again c = (
   omega arith,
-  c .before .before .before .before .before .loop .inv .1 ∙ all-turn _ _ _ (c .before .before .before .before .loop-test .taken)
-      (fits-here _ _ _ _ _ _ (c .before .thing-fits .ensures) (c .before .before .before .thing-at .ensures) (c .before .before .word .ensures) ∙
+  in-loop (c .before) .before .loop .inv .1 ∙ all-turn _ _ _ (in-loop (c .before) .loop-test .taken)
+      (fits-here _ _ _ _ _ _ (c .before .thing-fits .ensures) (after-thing-at (c .before) .thing-at .ensures) (c .before .before .word .ensures) ∙
       not-false _ (c .if2 .left)),
 )
 

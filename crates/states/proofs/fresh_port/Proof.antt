@@ -8,20 +8,23 @@ use Rattle.states.proofs.fresh_port.Tie as tie
 returns : tie.Need-returns
 unfolding freshPort
 returns c =
+    let at-port-at = c .before .before .before in
     rw (
-      ← c .before .before .before .port-at .ensures .has-initial .value,
+      ← at-port-at .port-at .ensures .has-initial .value,
       eq-eqb _ _ (c .before .if1 .taken),
-      ← c .before .before .before .port-at .ensures .initial .value,
+      ← at-port-at .port-at .ensures .initial .value,
     )
     (c .pack-port .ensures)
 
 returns-2 : tie.Need-returns-2
 unfolding freshPort
 returns-2 c =
+    let at-else1 = c .before .before .before in
+    let at-port-at = at-else1 .before .before in
     rw (
-      ← c .before .before .before .before .before .port-at .ensures .has-initial .value,
-      ne-eqb _ _ (c .before .before .before .if1 .left),
-      ← c .before .before .before .before .before .port-at .ensures .kind .value,
+      ← at-port-at .port-at .ensures .has-initial .value,
+      ne-eqb _ _ (at-else1 .if1 .left),
+      ← at-port-at .port-at .ensures .kind .value,
       eq-eqb _ _ (c .before .if2 .taken),
     )
     (c .pack-port2 .ensures)
@@ -29,10 +32,12 @@ returns-2 c =
 returns-3 : tie.Need-returns-3
 unfolding freshPort
 returns-3 c =
+    let at-else1 = c .before .before .before in
+    let at-port-at = at-else1 .before .before in
     rw (
-      ← c .before .before .before .before .before .port-at .ensures .has-initial .value,
-      ne-eqb _ _ (c .before .before .before .if1 .left),
-      ← c .before .before .before .before .before .port-at .ensures .kind .value,
+      ← at-port-at .port-at .ensures .has-initial .value,
+      ne-eqb _ _ (at-else1 .if1 .left),
+      ← at-port-at .port-at .ensures .kind .value,
       ne-eqb _ _ (c .before .if2 .left),
     )
     (c .pack-port3 .ensures)

@@ -5,16 +5,28 @@ use borrow.Author.Needs.{needs}
 use Rattle.states.proofs.port_fits.Statement.{statement}
 use Rattle.states.proofs.port_fits.Tie as tie
 
+-- The places that the answers cite, each seen from a later one.
+abbrev after-struct-known3 : tie.After-struct-known7 → tie.After-struct-known3
+after-struct-known3 c = c .before .before .before .before
+
+abbrev after-port-of-from-struct-known10 : tie.After-struct-known10 → tie.After-port-of
+after-port-of-from-struct-known10 c = after-struct-known3 (c .before .before .before) .before .before .before
+
+abbrev at-after-port-of : tie.After-struct-known12 → tie.After-port-of
+at-after-port-of c = after-port-of-from-struct-known10 (c .before .before)
+
+-- Places that the proof names itself.
 abbrev after-port-of : tie.After-struct-known16 → tie.After-port-of
-after-port-of c = c .before .before .before .before .before .before .before .before .before .before .before .before .before .before .before .before
+after-port-of c = at-after-port-of (c .before .before .before .before)
 
 returns : tie.Need-returns
 unfolding portFits
 returns c =
+    let at-port-at = after-port-of c .before .before in
     rw (
-      ← after-port-of c .before .before .port-at .ensures .kind .value,
-      ← after-port-of c .before .before .port-at .ensures .deferred .value,
-      ← after-port-of c .before .before .port-at .ensures .reload .value,
+      ← at-port-at .port-at .ensures .kind .value,
+      ← at-port-at .port-at .ensures .deferred .value,
+      ← at-port-at .port-at .ensures .reload .value,
       ← after-port-of c .before .state-port-zero .ensures .value,
       ← after-port-of c .port-of .ensures .defined .value,
       ← after-port-of c .port-of .ensures .marked .value,

@@ -5,8 +5,13 @@ use borrow.Author.Needs.{needs}
 use Rattle.states.proofs.source_fits.Statement.{statement}
 use Rattle.states.proofs.source_fits.Tie as tie
 
+-- The places that the answers cite, each seen from a later one.
+abbrev at-after-state-source-zero : tie.After-struct-known2 → tie.After-state-source-zero
+at-after-state-source-zero c = c .before .before .before
+
+-- Places that the proof names itself.
 abbrev after-state-source-zero : tie.After-struct-known6 → tie.After-state-source-zero
-after-state-source-zero c = c .before .before .before .before .before .before .before
+after-state-source-zero c = at-after-state-source-zero (c .before .before .before .before)
 
 returns : tie.Need-returns
 unfolding sourceFits

@@ -20,10 +20,11 @@ returns-3 c = rw (c .before .before .before .before .match .keys3) (c .before .b
 returns-4 : tie.Need-returns-4
 unfolding changed
 returns-4 c =
+    let at-match-rest = c .before .before .before .before in
     rw (
-      ne-eqb _ _ (c .before .before .before .before .match .rest .0 .0 .1),
-      ne-eqb _ _ (c .before .before .before .before .match .rest .0 .1),
-      ne-eqb _ _ (c .before .before .before .before .match .rest .1),
+      ne-eqb _ _ (at-match-rest .match .rest .0 .0 .1),
+      ne-eqb _ _ (at-match-rest .match .rest .0 .1),
+      ne-eqb _ _ (at-match-rest .match .rest .1),
     ) (c .before .before .clear .ensures)
 
 pub change-spec : {M : Type 1} → statement M

@@ -17,8 +17,16 @@ Inv-loop t h s₀ count n₀ s n = (n ≤ count) × (length s ≡ length s₀) �
 abbrev μ-loop : tie.MeasureT-loop
 μ-loop t h s₀ count n₀ s n = count - n
 
+-- The places that the answers cite, each seen from a later one.
+abbrev start : tie.At-loop Inv-loop μ-loop → tie.Start Inv-loop μ-loop
+start c = c .before .before .before
+
+abbrev in-loop : tie.After-slice-known2 Inv-loop μ-loop → tie.In-loop Inv-loop μ-loop
+in-loop c = c .before .before .before .before
+
+-- Places that the proof names itself.
 abbrev entry : tie.After-slice-known2 Inv-loop μ-loop → tie.Start Inv-loop μ-loop
-entry c = c .before .before .before .before .before .before .before .before
+entry c = start (in-loop c .before)
 
 loop-holds : tie.Need-loop-holds Inv-loop μ-loop
 loop-holds c = (omega arith, refl, rw sub-zero)
@@ -26,9 +34,9 @@ loop-holds c = (omega arith, refl, rw sub-zero)
 loop-again : tie.Need-loop-again Inv-loop μ-loop
 loop-again c = (
   omega arith,
-  c .before .before .tick-network .kept .1 .1 .0 ∙ c .before .before .before .before .before .loop .inv .1,
-  rw (c .before .before .tick-network .ensures) (c .before .before .before .before .before .loop .inv .2 ∙ each-turn _ _
-      (tickNetwork (entry c .args .t .now)) _ (c .before .before .before .before .loop-test .taken)),
+  c .before .before .tick-network .kept .1 .1 .0 ∙ in-loop c .before .loop .inv .1,
+  rw (c .before .before .tick-network .ensures) (in-loop c .before .loop .inv .2 ∙ each-turn _ _
+      (tickNetwork (entry c .args .t .now)) _ (in-loop c .loop-test .taken)),
 )
 
 same-length : tie.Need-same-length Inv-loop μ-loop
@@ -36,8 +44,8 @@ same-length c = c .before .loop .inv .1
 
 returns : tie.Need-returns Inv-loop μ-loop
 returns c =
-    rw (← c .before .before .before .before .pre .networks .value)
-    (sym (c .before .loop .inv .2 ∙ each-end _ _ (tickNetwork (c .before .before .before .before .args .t .now)) _ (c .loop-test .left)))
+    rw (← start (c .before) .pre .networks .value)
+    (sym (c .before .loop .inv .2 ∙ each-end _ _ (tickNetwork (start (c .before) .args .t .now)) _ (c .loop-test .left)))
 
 pub tick-networks-spec : {M : Type 1} → statement M
 tick-networks-spec =

@@ -6,8 +6,13 @@ use borrow.Author.Needs.{needs}
 use Rattle.things.proofs.networks.bus_off.Statement.{statement}
 use Rattle.things.proofs.networks.bus_off.Tie as tie
 
+-- The places that the answers cite, each seen from a later one.
+abbrev at-after-takes : tie.After-off-bus → tie.After-takes
+at-after-takes c = c .before .before .before
+
+-- Places that the proof names itself.
 abbrev after-takes : tie.After-slice-known2 → tie.After-takes
-after-takes c = c .before .before .before .before .before .before .before
+after-takes c = at-after-takes (c .before .before .before .before)
 
 returns : tie.Need-returns
 unfolding busOff

@@ -8,9 +8,10 @@ use Rattle.things.proofs.networks.counted_network.Tie as tie
 returns : tie.Need-returns
 unfolding countedNetwork
 returns c =
+    let at-then2 = c .before .before in
     rw (
-      eq-eqb _ _ (c .before .before .before .if1 .taken),
-      le-leb _ _ (c .before .before .if2 .taken),
+      eq-eqb _ _ (at-then2 .before .if1 .taken),
+      le-leb _ _ (at-then2 .if2 .taken),
       ← c .before .waits-at .ensures .e-ticks .value,
     )
     (c .moved .ensures)
@@ -22,9 +23,10 @@ returns-2 c = rw (eq-eqb _ _ (c .before .before .if1 .taken), lt-leb _ _ (c .bef
 returns-3 : tie.Need-returns-3
 unfolding countedNetwork
 returns-3 c =
+    let at-then3 = c .before .before in
     rw (
-      ne-eqb _ _ (c .before .before .before .if1 .left),
-      eq-eqb _ _ (c .before .before .if3 .taken),
+      ne-eqb _ _ (at-then3 .before .if1 .left),
+      eq-eqb _ _ (at-then3 .if3 .taken),
       le-leb _ _ (c .before .if4 .taken),
     )
     (c .moved3 .ensures)
@@ -32,9 +34,10 @@ returns-3 c =
 returns-4 : tie.Need-returns-4
 unfolding countedNetwork
 returns-4 c =
+    let at-then3 = c .before .before in
     rw (
-      ne-eqb _ _ (c .before .before .before .if1 .left),
-      eq-eqb _ _ (c .before .before .if3 .taken),
+      ne-eqb _ _ (at-then3 .before .if1 .left),
+      eq-eqb _ _ (at-then3 .if3 .taken),
       lt-leb _ _ (c .before .if4 .left),
     )
     (c .moved4 .ensures)

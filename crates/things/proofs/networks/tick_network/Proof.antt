@@ -7,7 +7,8 @@ use Rattle.things.proofs.networks.tick_network.Tie as tie
 returns : tie.Need-returns
 unfolding tickNetwork
 returns c =
-    rw (← c .before .before .before .before .before .network-in .ensures, ← c .before .before .before .before .ticked-network .ensures)
+    let at-ticked-network = c .before .before .before .before in
+    rw (← at-ticked-network .before .network-in .ensures, ← at-ticked-network .ticked-network .ensures)
     (c .before .before .move-network .ensures)
 
 pub tick-network-spec : {M : Type 1} → statement M

@@ -16,17 +16,20 @@ returns-2 c = rw (ne-eqb _ _ (c .before .before .if1 .left), c .before .if2 .tak
 returns-3 : tie.Need-returns-3
 unfolding tickedNetwork
 returns-3 c =
+    let at-then3 = c .before .before in
     rw (
-      ne-eqb _ _ (c .before .before .before .before .if1 .left),
-      c .before .before .before .if2 .left,
-      c .before .before .if3 .taken,
+      ne-eqb _ _ (at-then3 .before .before .if1 .left),
+      at-then3 .before .if2 .left,
+      at-then3 .if3 .taken,
       ← c .before .waits-at .ensures .e-ticks .value,
     )
     (c .moved3 .ensures)
 
 returns-4 : tie.Need-returns-4
 unfolding tickedNetwork
-returns-4 c = rw (ne-eqb _ _ (c .before .before .before .if1 .left), c .before .before .if2 .left, c .before .if3 .left) (c .counted-network .ensures)
+returns-4 c =
+    let at-else2 = c .before .before in
+    rw (ne-eqb _ _ (at-else2 .before .if1 .left), at-else2 .if2 .left, c .before .if3 .left) (c .counted-network .ensures)
 
 pub ticked-network-spec : {M : Type 1} → statement M
 ticked-network-spec =

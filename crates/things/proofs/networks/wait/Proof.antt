@@ -8,19 +8,21 @@ use Rattle.things.proofs.networks.wait.Tie as tie
 returns : tie.Need-returns
 unfolding wait
 returns c =
+    let at-waits-at = c .before .before in
     rw (
-      ← c .before .before .before .network-at .ensures .threshold .value,
+      ← at-waits-at .before .network-at .ensures .threshold .value,
       le-leb _ _ (c .if1 .taken),
-      ← c .before .before .waits-at .ensures .l1 .value,
+      ← at-waits-at .waits-at .ensures .l1 .value,
     )
 
 returns-2 : tie.Need-returns-2
 unfolding wait
 returns-2 c =
+    let at-waits-at = c .before .before in
     rw (
-      ← c .before .before .before .network-at .ensures .threshold .value,
+      ← at-waits-at .before .network-at .ensures .threshold .value,
       lt-leb _ _ (c .if1 .left),
-      ← c .before .before .waits-at .ensures .l2 .value,
+      ← at-waits-at .waits-at .ensures .l2 .value,
     )
 
 pub wait-spec : {M : Type 1} → statement M

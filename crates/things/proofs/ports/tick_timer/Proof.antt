@@ -5,11 +5,19 @@ use borrow.Author.Needs.{needs}
 use Rattle.things.proofs.ports.tick_timer.Statement.{statement}
 use Rattle.things.proofs.ports.tick_timer.Tie as tie
 
+-- The places that the answers cite, each seen from a later one.
+abbrev at-then1 : tie.After-set-port → tie.Then1
+at-then1 c = c .before .before .before .before
+
+abbrev else2 : tie.After-s2 → tie.Else2
+else2 c = c .before .before .before .before
+
+-- Places that the proof names itself.
 abbrev after-port-in : tie.After-slice-known2 → tie.After-port-in
-after-port-in c = c .before .before .before .before .before .before .before .before .before
+after-port-in c = at-then1 (c .before .before) .before .before .before
 
 abbrev then1 : tie.After-slice-known3 → tie.Then1
-then1 c = c .before .before .before .before .before .before .before
+then1 c = else2 (c .before) .before .before
 
 returns : tie.Need-returns
 unfolding tickTimer
@@ -39,9 +47,10 @@ returns-2 c =
 returns-3 : tie.Need-returns-3
 unfolding tickTimer
 returns-3 c =
+    let at-port-in = c .before .before .before in
     rw (
-      ← c .before .before .before .before .before .port-at .ensures .kind .value,
-      ← c .before .before .before .port-in .ensures .value .value,
+      ← at-port-in .before .before .port-at .ensures .kind .value,
+      ← at-port-in .port-in .ensures .value .value,
       c .if1 .left,
     )
 

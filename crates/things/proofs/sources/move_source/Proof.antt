@@ -5,14 +5,20 @@ use borrow.Author.Needs.{needs}
 use Rattle.things.proofs.sources.move_source.Statement.{statement}
 use Rattle.things.proofs.sources.move_source.Tie as tie
 
+-- The places that the answers cite, each seen from a later one.
+abbrev after-s : tie.After-source-at → tie.After-s
+after-s c = c .before .before .before .before
+
+-- Places that the proof names itself.
 abbrev after-set-source : tie.After-slice-known3 → tie.After-set-source
-after-set-source c = c .before .before .before .before .before .before .before .before .before
+after-set-source c = after-s (c .before .before .before .before) .before
 
 returns : tie.Need-returns
 unfolding moveSource
 returns c =
+    let at-slice-known2 = c .before .before in
     rw (
-      ← c .before .before .before .before .before .before .source-in .ensures .status .value,
+      ← at-slice-known2 .before .before .before .before .source-in .ensures .status .value,
       eq-eqb _ _ (c .if1 .taken),
     )
     (c .before .before .before .before .set-source .ensures)

@@ -8,9 +8,10 @@ use Rattle.things.proofs.sources.validate.Tie as tie
 returns : tie.Need-returns
 unfolding validate
 returns c =
+    let at-then1 = c .before .before .before .before in
     rw (
-      ← c .before .before .before .before .before .before .source-in .ensures .status .value,
-      eq-eqb _ _ (c .before .before .before .before .if1 .taken),
+      ← at-then1 .before .before .source-in .ensures .status .value,
+      eq-eqb _ _ (at-then1 .if1 .taken),
     )
     (c .before .before .move-source .ensures)
 

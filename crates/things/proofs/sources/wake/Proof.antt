@@ -4,17 +4,23 @@ use borrow.Author.Needs.{needs}
 use Rattle.things.proofs.sources.wake.Statement.{statement}
 use Rattle.things.proofs.sources.wake.Tie as tie
 
+-- The places that the answers cite, each seen from a later one.
+abbrev then1 : tie.After-move-source → tie.Then1
+then1 c = c .before .before .before .before
+
+-- Places that the proof names itself.
 abbrev after-source-in : tie.After-slice-known2 → tie.After-source-in
-after-source-in c = c .before .before .before .before .before .before .before .before .before
+after-source-in c = then1 (c .before .before) .before .before .before
 
 returns : tie.Need-returns
 unfolding wake
 returns c =
+    let at-woken = c .before .before .before .before in
     rw (
       ← after-source-in c .source-in .ensures .status .value,
-      c .before .before .before .before .before .before .if1 .taken,
-      ← c .before .before .before .before .before .source-at .ensures .timeout .value,
-      ← c .before .before .before .before .woken .ensures,
+      at-woken .before .before .if1 .taken,
+      ← at-woken .before .source-at .ensures .timeout .value,
+      ← at-woken .woken .ensures,
     )
     (c .before .before .move-source .ensures)
 

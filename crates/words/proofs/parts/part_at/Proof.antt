@@ -4,8 +4,13 @@ use borrow.Author.Needs.{needs}
 use Rattle.words.proofs.parts.part_at.Statement.{statement}
 use Rattle.words.proofs.parts.part_at.Tie as tie
 
+-- The places that the answers cite, each seen from a later one.
+abbrev at-start : tie.Else3 → tie.Start
+at-start c = c .before .before .before
+
+-- Places that the proof names itself.
 abbrev start : tie.Else5 → tie.Start
-start c = c .before .before .before .before .before
+start c = at-start (c .before .before)
 
 returns : tie.Need-returns
 returns c = item-part _ _ (c .before .pre .laid) _ (c .if1 .taken)
@@ -17,10 +22,10 @@ returns-3 : tie.Need-returns-3
 returns-3 c = rule-part _ _ (c .before .before .before .pre .laid) _ (c .if3 .taken) (c .before .if2 .left)
 
 returns-4 : tie.Need-returns-4
-returns-4 c = expression-part _ _ (c .before .before .before .before .pre .laid) _ (c .if4 .taken) (c .before .if3 .left)
+returns-4 c = expression-part _ _ (at-start (c .before) .pre .laid) _ (c .if4 .taken) (c .before .if3 .left)
 
 returns-5 : tie.Need-returns-5
-returns-5 c = source-part _ _ (c .before .before .before .before .before .pre .laid) _ (c .if5 .taken) (c .before .if4 .left)
+returns-5 c = source-part _ _ (at-start (c .before .before) .pre .laid) _ (c .if5 .taken) (c .before .if4 .left)
 
 returns-6 : tie.Need-returns-6
 returns-6 c =

@@ -8,12 +8,14 @@ early c = c .before .before .before
 
 returns : tie.Need-returns
 returns c =
+    let at-condition-zero = c .before .before in
+    let at-condition-port = at-condition-zero .before .before in
     let word = (early c) .before .before .before .expression-word .ensures in
     record {
-      kind = rw word at (c .before .before .before .before .before .expression-kind .ensures);
-      port = rw word at (c .before .before .before .before .condition-port .ensures);
-      value = rw word at (c .before .before .before .condition-value .ensures);
-      zero = rw word at (c .before .before .condition-zero .ensures);
+      kind = rw word at (at-condition-port .before .expression-kind .ensures);
+      port = rw word at (at-condition-port .condition-port .ensures);
+      value = rw word at (at-condition-zero .before .condition-value .ensures);
+      zero = rw word at (at-condition-zero .condition-zero .ensures);
       left = rw word at (c .before .left .ensures);
       right = rw word at (c .right .ensures);
     }

@@ -8,11 +8,12 @@ early c = c .before .before .before
 
 returns : tie.Need-returns
 returns c =
+    let at-list-priority = c .before .before in
     let word = (early c) .before .before .list-word .ensures in
     record {
-      owner = rw word at (c .before .before .before .before .list-owner .ensures);
-      triggered = rw word at (c .before .before .before .list-triggered .ensures);
-      priority = rw word at (c .before .before .list-priority .ensures);
+      owner = rw word at (at-list-priority .before .before .list-owner .ensures);
+      triggered = rw word at (at-list-priority .before .list-triggered .ensures);
+      priority = rw word at (at-list-priority .list-priority .ensures);
       first-item = rw word at (c .before .first-item .ensures);
       item-count = rw word at (c .item-count .ensures);
     }

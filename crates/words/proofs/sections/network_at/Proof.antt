@@ -5,10 +5,11 @@ use Rattle.words.proofs.sections.network_at.Tie as tie
 
 returns : tie.Need-returns
 returns c =
+    let at-network-port = c .before .before in
     let word = c .before .before .before .before .network-word .ensures in
     record {
-      owner = rw word at (c .before .before .before .network-owner .ensures);
-      port = rw word at (c .before .before .network-port .ensures);
+      owner = rw word at (at-network-port .before .network-owner .ensures);
+      port = rw word at (at-network-port .network-port .ensures);
       threshold = rw word at (c .before .network-threshold .ensures);
       zero = rw word at (c .network-zero .ensures);
     }

@@ -8,12 +8,14 @@ early c = c .before .before .before
 
 returns : tie.Need-returns
 returns c =
+    let at-port-owner = c .before .before in
+    let at-port-deferred = at-port-owner .before .before in
     let word = (early c) .before .before .before .port-word .ensures in
     record {
-      kind = rw word at (c .before .before .before .before .before .port-kind .ensures);
-      deferred = rw word at (c .before .before .before .before .port-deferred .ensures);
-      has-initial = rw word at (c .before .before .before .port-has-initial .ensures);
-      owner = rw word at (c .before .before .port-owner .ensures);
+      kind = rw word at (at-port-deferred .before .port-kind .ensures);
+      deferred = rw word at (at-port-deferred .port-deferred .ensures);
+      has-initial = rw word at (at-port-owner .before .port-has-initial .ensures);
+      owner = rw word at (at-port-owner .port-owner .ensures);
       initial = rw word at (c .before .port-initial .ensures);
       reload = rw word at (c .port-reload .ensures);
     }

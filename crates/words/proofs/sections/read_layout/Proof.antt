@@ -45,17 +45,24 @@ laid t hp hn hk he hr hl ha =
       length = omega arith;
     }
 
+-- The places that the answers cite, each seen from a later one.
+abbrev after-word3 : tie.After-expressions → tie.After-word3
+after-word3 c = c .before .before .before .before
+
+-- Places that the proof names itself.
 abbrev header : tie.After-items → tie.After-word3
-header c = c .before .before .before .before .before .before .before
+header c = after-word3 (c .before .before .before)
 
 returns : tie.Need-returns
 returns c =
+    let at-rules = c .before .before in
+    let at-sources = at-rules .before .before in
     let first = header c .before .before .word .ensures in
     let second = header c .before .word2 .ensures in
     let third = header c .word3 .ensures in
-    laid (header c .before .before .before .before .args .t .now) (rw first at (c .before .before .before .before .before .before .ports .ensures))
-    (rw first at (c .before .before .before .before .before .networks .ensures)) (rw first at (c .before .before .before .before .sources .ensures))
-    (rw second at (c .before .before .before .expressions .ensures)) (rw second at (c .before .before .rules .ensures))
+    laid (header c .before .before .before .before .args .t .now) (rw first at (at-sources .before .before .ports .ensures))
+    (rw first at (at-sources .before .networks .ensures)) (rw first at (at-sources .sources .ensures))
+    (rw second at (at-rules .before .expressions .ensures)) (rw second at (at-rules .rules .ensures))
     (rw third at (c .before .lists .ensures)) (rw third at (c .items .ensures))
 
 pub read-layout-spec : {M : Type 1} → statement M

@@ -8,12 +8,14 @@ early c = c .before .before .before
 
 returns : tie.Need-returns
 returns c =
+    let at-rule-expression = c .before .before in
+    let at-first-result = at-rule-expression .before .before in
     let word = (early c) .before .before .before .rule-word .ensures in
     record {
-      owner = rw word at (c .before .before .before .before .before .rule-owner .ensures);
-      first-result = rw word at (c .before .before .before .before .first-result .ensures);
-      nested-only = rw word at (c .before .before .before .nested-only .ensures);
-      expression = rw word at (c .before .before .rule-expression .ensures);
+      owner = rw word at (at-first-result .before .rule-owner .ensures);
+      first-result = rw word at (at-first-result .first-result .ensures);
+      nested-only = rw word at (at-rule-expression .before .nested-only .ensures);
+      expression = rw word at (at-rule-expression .rule-expression .ensures);
       true-list = rw word at (c .before .true-list .ensures);
       false-list = rw word at (c .false-list .ensures);
     }

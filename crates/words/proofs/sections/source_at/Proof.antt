@@ -5,10 +5,11 @@ use Rattle.words.proofs.sections.source_at.Tie as tie
 
 returns : tie.Need-returns
 returns c =
+    let at-source-port = c .before .before in
     let word = c .before .before .before .before .source-word .ensures in
     record {
-      owner = rw word at (c .before .before .before .source-owner .ensures);
-      port = rw word at (c .before .before .source-port .ensures);
+      owner = rw word at (at-source-port .before .source-owner .ensures);
+      port = rw word at (at-source-port .source-port .ensures);
       timeout = rw word at (c .before .source-timeout .ensures);
       zero = rw word at (c .source-zero .ensures);
     }

@@ -5,9 +5,10 @@ use Rattle.words.proofs.state.network_of.Tie as tie
 
 returns : tie.Need-returns
 returns c =
+    let at-network-state = c .before .before in
     rw (
-      ← c .before .before .before .asked .ensures .value,
-      ← c .before .before .network-state .ensures .value,
+      ← at-network-state .before .asked .ensures .value,
+      ← at-network-state .network-state .ensures .value,
       ← c .before .counter .ensures .value,
       ← c .remaining .ensures .value,
     )

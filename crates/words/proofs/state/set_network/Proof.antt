@@ -7,9 +7,10 @@ use Rattle.words.proofs.state.set_network.Tie as tie
 returns : tie.Need-returns
 unfolding setNetwork
 returns c =
+    let at-pack-network = c .before .before .before .before in
     rw (
-      ← c .before .before .before .before .before .network-index .ensures,
-      ← c .before .before .before .before .pack-network .ensures,
+      ← at-pack-network .before .network-index .ensures,
+      ← at-pack-network .pack-network .ensures,
     )
     (c .before .before .put .ensures)
 

@@ -6,7 +6,9 @@ use Rattle.words.proofs.state.set_port.Tie as tie
 
 returns : tie.Need-returns
 unfolding setPort
-returns c = rw (c .before .before .put .ensures, c .before .before .before .before .pack-port .ensures)
+returns c =
+    let at-put = c .before .before in
+    rw (at-put .put .ensures, at-put .before .before .pack-port .ensures)
 
 pub set-port-spec : {M : Type 1} → statement M
 set-port-spec = tie.close (tie.spec (λ c κs. tt) (λ c κs. tt) (λ c. search needs) returns)

@@ -7,9 +7,10 @@ use Rattle.words.proofs.state.set_source.Tie as tie
 returns : tie.Need-returns
 unfolding setSource
 returns c =
+    let at-pack-source = c .before .before .before .before in
     rw (
-      ← c .before .before .before .before .before .source-index .ensures,
-      ← c .before .before .before .before .pack-source .ensures,
+      ← at-pack-source .before .source-index .ensures,
+      ← at-pack-source .pack-source .ensures,
     )
     (c .before .before .put .ensures)
 
