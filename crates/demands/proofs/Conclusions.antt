@@ -19,13 +19,15 @@ pub of-fresh : (t s : List ℕ) (k : ℕ) (s′ : List ℕ) → MakesFreshIn t s
 of-fresh t s k s′ p = record { answered = fresh-answered t s k s′ p; waits = λ z. demand-3 t s k s′ p z .0; after = λ z. demand-3 t s k s′ p z .1 }
 
 -- one call more
-goes-on : (t s trace : List ℕ) (e k n : ℕ) (s′ trace′ : List ℕ) → TakesEventIn t s trace e k n s′ trace′ → k ≡ 0 → (s₀ : List ℕ) (xs : List Entry) → Played t s₀ xs → stateAfter s₀ xs ≡ s
+goes-on : (t s trace : List ℕ) (e k n : ℕ) (s′ trace′ : List ℕ) → TakesEventIn t s trace e k n s′ trace′ → k ≡ 0 → (s₀ : List ℕ) (xs : List Entry)
+    → Played t s₀ xs → stateAfter s₀ xs ≡ s
     → Played t s₀ (xs ++ record { event = e; state = s′; words = take n trace′ } ∷ [])
 unfolding stateAfter
 goes-on t s trace e k n s′ trace′ p z s₀ xs calls.none is = rw is (calls.taken e p z calls.none)
 goes-on t s trace e k n s′ trace′ p z s₀ xs (calls.refused {s′ = u} d q r rest) is =
     calls.refused d q r (goes-on t s trace e k n s′ trace′ p z u xs rest (rw (event-answered t s₀ _ d _ _ u _ q .stateKept r) is))
-goes-on t s trace e k n s′ trace′ p z s₀ xs (calls.taken {s′ = u} d {xs = ys} q r rest) is = calls.taken d q r (goes-on t s trace e k n s′ trace′ p z u ys rest is)
+goes-on t s trace e k n s′ trace′ p z s₀ xs (calls.taken {s′ = u} d {xs = ys} q r rest) is =
+    calls.taken d q r (goes-on t s trace e k n s′ trace′ p z u ys rest is)
 
 pub of-event : (t s trace : List ℕ) (e k n : ℕ) (s′ trace′ : List ℕ) → TakesEventIn t s trace e k n s′ trace′ → OfEvent t s trace e k n s′ trace′
 of-event t s trace e k n s′ trace′ p =

@@ -38,7 +38,8 @@ not-refused : (t : List ℕ) (e : ℕ) → Taken t e → refusedEvent t e ≡ 0
 unfolding refusedEvent
 not-refused t e w = rw (w .wellFormed, w .known, w .owner)
 
-follows : (t s trace : List ℕ) (e k n : ℕ) (s′ trace′ : List ℕ) → TakesEventIn t s trace e k n s′ trace′ → k ≡ 0 → Follows t s (record { event = e; state = s′; words = take n trace′ })
+follows : (t s trace : List ℕ) (e k n : ℕ) (s′ trace′ : List ℕ) → TakesEventIn t s trace e k n s′ trace′ → k ≡ 0
+    → Follows t s (record { event = e; state = s′; words = take n trace′ })
 follows t s trace e k n s′ trace′ p z =
     let x = steps t s trace e k n s′ trace′ p z in
     record { taken = not-refused t e (call t s trace e k n s′ trace′ p z .taken); state = x .state; words = x .new }
@@ -62,25 +63,30 @@ module _ (t : List ℕ) (h : accepted t ≡ true) (xs : List Entry) (played : Pl
   answer-alike e k n s′ trace′ p = event-answered t s trace e k n s′ trace′ p .number ∙ rw (h, fit, le-ltb (length trace) (bound t) room)
 
   wakes : (i : ℕ) → i < sources t → 1 ≤ timeout t i → (eqb (statusIn t i s) statusNone || eqb (statusIn t i s) statusExpired) ≡ true
-      → (k n : ℕ) (s′ trace′ : List ℕ) → TakesEventIn t s trace (ownersEvent eventWakeup (sourceOwner t i) i) k n s′ trace′ → (k ≡ 0) × (statusIn t i s′ ≡ statusPending)
+      → (k n : ℕ) (s′ trace′ : List ℕ) → TakesEventIn t s trace (ownersEvent eventWakeup (sourceOwner t i) i) k n s′ trace′ → (k ≡ 0) ×
+      (statusIn t i s′ ≡ statusPending)
   unfolding becomesPending
   wakes i b one idle k n s′ trace′ p =
       let o = sourceOwner t i in let few = facts t h .counts .sources in
       let z : k ≡ 0 = answer-alike _ k n s′ trace′ p ∙ wakeup-known t h i b in
       let x : Entry = record { event = ownersEvent eventWakeup o i; state = s′; words = take n trace′ } in
-      let woken : becomesPending t i s x ≡ true = rw (kind-is eventWakeup o i (omega arith), index-is eventWakeup o i (omega arith), eq-eqb i i refl, idle, le-leb 1 (timeout t i) one) in
-      let now : newly statusPending (statusIn t i s) (statusIn t i s′) ≡ true = sym (wakeup-exactly t h i b s x (follows t s trace _ k n s′ trace′ p z) fit) ∙ woken in
+      let woken : becomesPending t i s x ≡ true = rw
+      (kind-is eventWakeup o i (omega arith), index-is eventWakeup o i (omega arith), eq-eqb i i refl, idle, le-leb 1 (timeout t i) one) in
+      let now : newly statusPending (statusIn t i s) (statusIn t i s′) ≡ true = sym
+      (wakeup-exactly t h i b s x (follows t s trace _ k n s′ trace′ p z) fit) ∙ woken in
       (z, eqb-true _ _ (and-right (not (eqb (statusIn t i s) statusPending)) _ now))
 
   falls : (i : ℕ) → i < networks t → takes (networkIn t i s) ≡ true
-      → (k n : ℕ) (s′ trace′ : List ℕ) → TakesEventIn t s trace (ownersEvent eventBusOff (networkOwner t i) i) k n s′ trace′ → (k ≡ 0) × (networkIn t i s′ .state ≡ stateRecover)
+      → (k n : ℕ) (s′ trace′ : List ℕ) → TakesEventIn t s trace (ownersEvent eventBusOff (networkOwner t i) i) k n s′ trace′ → (k ≡ 0) ×
+      (networkIn t i s′ .state ≡ stateRecover)
   unfolding busOffTaken
   falls i b took k n s′ trace′ p =
       let o = networkOwner t i in let few = facts t h .counts .networks in
       let z : k ≡ 0 = answer-alike _ k n s′ trace′ p ∙ bus-off-known t h i b in
       let x : Entry = record { event = ownersEvent eventBusOff o i; state = s′; words = take n trace′ } in
       let off : busOffTaken t i s x ≡ true = rw (kind-is eventBusOff o i (omega arith), index-is eventBusOff o i (omega arith), eq-eqb i i refl, took) in
-      let now : newly stateRecover (networkIn t i s .state) (networkIn t i s′ .state) ≡ true = sym (bus-off-exactly t h i b s x (follows t s trace _ k n s′ trace′ p z) fit) ∙ off in
+      let now : newly stateRecover (networkIn t i s .state) (networkIn t i s′ .state) ≡ true = sym
+      (bus-off-exactly t h i b s x (follows t s trace _ k n s′ trace′ p z) fit) ∙ off in
       (z, eqb-true _ _ (and-right (not (eqb (networkIn t i s .state) stateRecover)) _ now))
 
 answered-after : (t : List ℕ) → accepted t ≡ true → AnsweredAfter t (fresh t)

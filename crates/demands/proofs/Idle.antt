@@ -261,7 +261,8 @@ outcome : List ℕ → Result → Outcome
 outcome trace x = record { answer = answerWith (x .answer) (length (x .words)); state = x .state; trace = x .words ++ drop (length (x .words)) trace }
 
 reported : (t s trace : List ℕ) (room e : ℕ)
-    → Reports (step t s room e) trace (outcome trace (step t s room e) .answer) (outcome trace (step t s room e) .state) (outcome trace (step t s room e) .trace)
+    → Reports (step t s room e) trace (outcome trace (step t s room e) .answer) (outcome trace (step t s room e) .state)
+    (outcome trace (step t s room e) .trace)
 unfolding outcome answerWith
 reported t s trace room e =
     step-cases (λ x. Reports x trace (outcome trace x .answer) (outcome trace x .state) (outcome trace x .trace)) t s room e

@@ -9,7 +9,8 @@ use Rattle.rulebook.specs.Words.{word}
 use Rattle.rulebook.specs.Table.{reload, noList, itemKind, itemA, itemB, itemClear, itemStart, itemStop, itemAsk, itemList, itemRule, byItem}
 use Rattle.rulebook.specs.Expressions.{deepest}
 use Rattle.rulebook.specs.State.{markedOf, timerStopped, timerStarted, undefinedResult}
-use Rattle.rulebook.specs.Lists.{Run, emit, traceWord, setPort, networkIn, asking, setNetwork, effect, act, unready, choiceIn, judge, runChoice, runRule, runItem, runList}
+use Rattle.rulebook.specs.Lists.{Run, emit, traceWord, setPort, networkIn, asking, setNetwork, effect, act, unready, choiceIn, judge, runChoice, runRule}
+use Rattle.rulebook.specs.Lists.{runItem, runList}
 use Rattle.rulebook.specs.Arbitration.{runIf}
 use Rattle.laws.proofs.Tests.{split}
 
@@ -32,7 +33,8 @@ module _ (below : ℕ → Run → Run) (t : List ℕ) (o : ℕ) where
   unfolding runItem
   item-list i x h = rw (by-list t i below (runRule below t o) (act t o i) h)
 
-  pub item-rule : (i : ℕ) (x : Run) → eqb (itemKind t i) itemList ≡ false → eqb (itemKind t i) itemRule ≡ true → runItem below t o i x ≡ runRule below t o (itemA t i) x
+  pub item-rule : (i : ℕ) (x : Run) → eqb (itemKind t i) itemList ≡ false → eqb (itemKind t i) itemRule ≡ true
+      → runItem below t o i x ≡ runRule below t o (itemA t i) x
   unfolding runItem
   item-rule i x h k = rw (by-rule t i below (runRule below t o) (act t o i) h k)
 

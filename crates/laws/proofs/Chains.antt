@@ -9,7 +9,8 @@ use lib.ListN.{length}
 use lib.Dec.{ltb, eqb}
 use borrow.Author.Tests.{eqb-true, eq-eqb, lt-ltb, leb-true}
 use Rattle.rulebook.specs.Words.{all}
-use Rattle.rulebook.specs.Table.{tableLength, atExpression, atList, left, right, expressions, rules, ruleExpression, lists, items, trueList, falseList, noList, firstItem, itemCount, itemKind, itemA, itemList, itemRule}
+use Rattle.rulebook.specs.Table.{tableLength, atExpression, atList, left, right, expressions, rules, ruleExpression, lists, items, trueList, falseList}
+use Rattle.rulebook.specs.Table.{noList, firstItem, itemCount, itemKind, itemA, itemList, itemRule}
 use Rattle.rulebook.specs.Expressions.{operator, isNot, expressionNests, expressionWithin}
 use Rattle.rulebook.specs.Reasons.{names, nesting, itemNames, listOrNone, ruleNests, itemNests, listNests, listWithin}
 use Rattle.laws.specs.Acceptance.{Everywhere}
@@ -21,7 +22,8 @@ use Rattle.laws.proofs.Nesting.{nests-list, nests-rule, nests-act, with
 
 -- Expressions.
 
-nests-operator : (t : List ℕ) (below : ℕ → Bool) (e : ℕ) → operator t e ≡ true → expressionNests t below e ≡ (below (left t e) && (isNot t e || below (right t e)))
+nests-operator : (t : List ℕ) (below : ℕ → Bool) (e : ℕ) → operator t e ≡ true
+    → expressionNests t below e ≡ (below (left t e) && (isNot t e || below (right t e)))
 unfolding expressionNests
 nests-operator t below e h = rw (h, expressionNests)
 
@@ -34,9 +36,11 @@ unfolding expressionWithin
 expression-chain→ t zero e h = tt
 expression-chain→ t (suc d) e h =
     split (operator t e)
-    (λ o. let n : (expressionWithin d t (left t e) && (isNot t e || expressionWithin d t (right t e))) ≡ false = sym (nests-operator t (expressionWithin d t) e o) ∙ h in
+    (λ o. let n : (expressionWithin d t (left t e) && (isNot t e || expressionWithin d t (right t e))) ≡ false = sym
+    (nests-operator t (expressionWithin d t) e o) ∙ h in
     split (expressionWithin d t (left t e))
-    (λ a. let m = or-none (isNot t e) (expressionWithin d t (right t e)) (rw a at n) in (right t e, (o, inr (m .0, refl)), expression-chain→ t d (right t e) (m .1)))
+    (λ a. let m = or-none (isNot t e) (expressionWithin d t (right t e)) (rw a at n) in
+    (right t e, (o, inr (m .0, refl)), expression-chain→ t d (right t e) (m .1)))
     (λ a. (left t e, (o, inl refl), expression-chain→ t d (left t e) a)))
     (λ o. clash (nests-condition t (expressionWithin d t) e o) h)
 
@@ -87,7 +91,8 @@ module _ (t : List ℕ) (below : ℕ → Bool) where
       split (eqb (itemKind t i) itemList)
       (λ e. (itemA t i, record { item = i; from = a; below = b; how = inl (eqb-true _ _ e, refl) }, sym (nests-list t below i e) ∙ h))
       (λ e. split (eqb (itemKind t i) itemRule)
-      (λ g. let w = rule-fails (itemA t i) (sym (nests-rule t below i e g) ∙ h) in (w .0, record { item = i; from = a; below = b; how = inr (eqb-true _ _ g, w .1) }, w .2))
+      (λ g. let w = rule-fails (itemA t i) (sym (nests-rule t below i e g) ∙ h) in
+      (w .0, record { item = i; from = a; below = b; how = inr (eqb-true _ _ g, w .1) }, w .2))
       (λ g. clash (nests-act t below i e g) h))
 
   item-fails← : (l x : ℕ) (n : NamesList t l x) → below x ≡ false → itemNests t below (n .item) ≡ false

@@ -8,7 +8,8 @@ use lib.ListN.{length}
 use lib.Dec.{leb, ltb}
 use borrow.Author.Tests.{ltb-true, leb-true, eqb-true, not-true}
 use Rattle.rulebook.specs.Words.{between}
-use Rattle.rulebook.specs.Table.{ports, networks, sources, expressions, rules, lists, items, tableLength, portsFrom, networksFrom, sourcesFrom, expressionsFrom, rulesFrom, listsFrom, itemsFrom}
+use Rattle.rulebook.specs.Table.{ports, networks, sources, expressions, rules, lists, items, tableLength, portsFrom, networksFrom, sourcesFrom}
+use Rattle.rulebook.specs.Table.{expressionsFrom, rulesFrom, listsFrom, itemsFrom}
 use Rattle.rulebook.specs.Table.{Part, atPort, atNetwork, atWaits, atSource, atExpression, atRule, atList, atItem}
 use Rattle.rulebook.specs.Table.{networkOwner, networkPort, sourceOwner, sourcePort}
 use Rattle.rulebook.specs.Table.{ruleExpression, trueList, listOwner, firstItem, itemCount}
@@ -99,7 +100,8 @@ rule-of t r f n o =
       owned = o;
     }
 
-list-of : (t : List ℕ) (l : ℕ) → ownFields t (atList l) ≡ true → names t (atList l) ≡ true → nesting t (atList l) ≡ true → owners t (atList l) ≡ true → ListFacts t l
+list-of : (t : List ℕ) (l : ℕ) → ownFields t (atList l) ≡ true → names t (atList l) ≡ true → nesting t (atList l) ≡ true → owners t (atList l) ≡ true
+    → ListFacts t l
 unfolding ownFields names nesting owners
 list-of t l f n d o =
     record {
@@ -122,7 +124,8 @@ facts-of t r =
       source = λ k h. shows-source t k (at-source t exact names (r .named) k h) (at-source t exact owners (r .owned) k h);
       expression = λ e h. (at-expression t exact names (r .named) e h, at-expression t exact nesting (r .nested) e h);
       rule = λ q h. rule-of t q (at-rule t exact ownFields (r .fields) q h) (at-rule t exact names (r .named) q h) (at-rule t exact owners (r .owned) q h);
-      list = λ l h. list-of t l (at-list t exact ownFields (r .fields) l h) (at-list t exact names (r .named) l h) (at-list t exact nesting (r .nested) l h) (at-list t exact owners (r .owned) l h);
+      list = λ l h. list-of t l (at-list t exact ownFields (r .fields) l h) (at-list t exact names (r .named) l h) (at-list t exact nesting (r .nested) l h)
+          (at-list t exact owners (r .owned) l h);
       item = λ i h. (at-item t exact ownFields (r .fields) i h, at-item t exact names (r .named) i h);
       cost = leb-true _ _ (r .cost);
     }

@@ -11,10 +11,14 @@ use lib.Dec.{leb, eqb}
 use borrow.Author.Tests.{leb-true, le-leb, eqb-true, eqb-false, eq-eqb, ne-eqb}
 use Rattle.rulebook.specs.Words.{word, implies, between, all}
 use Rattle.rulebook.specs.Table.{portKind, portMode, portEvent, portTimer, deferred, reload, l1, l2, eTicks, timeout}
-use Rattle.rulebook.specs.State.{stateLength, thing, definedOf, markedOf, valueOf, remainingOf, portZeroOf, networkZeroOf, sourceZeroOf, timerStarted, timerExpired, resultOf, Network, networkOf, askedFull, stateCheck, stateRecover, statusOf, statusPending, packPort, packRule, packNetwork, packSource, portFits, ruleFits, networkFits, sourceFits, thingFits, fitsAt, fits}
-use Rattle.laws.proofs.Tests.{split, clash, part-of, and-left, and-right, and-both, implies-elim, implies-intro, cond-yes, cond-no, cond-intro, or-intro, or-elim, and-one-false}
+use Rattle.rulebook.specs.State.{stateLength, thing, definedOf, markedOf, valueOf, remainingOf, portZeroOf, networkZeroOf, sourceZeroOf, timerStarted}
+use Rattle.rulebook.specs.State.{timerExpired, resultOf, Network, networkOf, askedFull, stateCheck, stateRecover, statusOf, statusPending, packPort, packRule}
+use Rattle.rulebook.specs.State.{packNetwork, packSource, portFits, ruleFits, networkFits, sourceFits, thingFits, fitsAt, fits}
+use Rattle.laws.proofs.Tests.{split, clash, part-of, and-left, and-right, and-both, implies-elim, implies-intro, cond-yes, cond-no, cond-intro}
+use Rattle.laws.proofs.Tests.{or-intro, or-elim, and-one-false}
 use Rattle.laws.proofs.Walks.{all-at, all-from}
-use Rattle.laws.proofs.Fields.{digit-small, port-defined, port-marked, port-value, port-zero, port-remaining, rule-result, rule-zero, network-asked, network-state, network-counter, network-zero, network-remaining, source-status, source-zero, source-remaining}
+use Rattle.laws.proofs.Fields.{digit-small, port-defined, port-marked, port-value, port-zero, port-remaining, rule-result, rule-zero, network-asked}
+use Rattle.laws.proofs.Fields.{network-state, network-counter, network-zero, network-remaining, source-status, source-zero, source-remaining}
 
 between-parts : (low high n : ℕ) → between low high n ≡ true → (low ≤ n) × (n ≤ high)
 between-parts low high n h = (leb-true _ _ (and-left _ (leb n high) h), leb-true _ _ (and-right (leb low n) _ h))
@@ -42,18 +46,27 @@ running t p w = eqb (portKind t p) portTimer && eqb (valueOf w) timerStarted
 pub port-ok : (t : List ℕ) (p w : ℕ) → portFits t p w ≡ true → PortOk t p (definedOf w) (markedOf w) (valueOf w) (remainingOf w)
 unfolding portFits
 port-ok t p w h =
-    let und : implies (eqb (definedOf w) 0) (eqb (portKind t p) portMode && eqb (valueOf w) 0 && eqb (markedOf w) 0) ≡ true = part-of _ (λ e. rw (portFits, e, and-false) at h) in
-    let left : cond (running t p w) (between 1 (reload t p) (remainingOf w)) (eqb (remainingOf w) 0) ≡ true = part-of _ (λ e. rw (portFits, e, and-false) at h) in
+    let und : implies (eqb (definedOf w) 0) (eqb (portKind t p) portMode && eqb (valueOf w) 0 && eqb (markedOf w) 0) ≡ true = part-of _
+    (λ e. rw (portFits, e, and-false) at h) in
+    let left : cond (running t p w) (between 1 (reload t p) (remainingOf w)) (eqb (remainingOf w) 0) ≡ true = part-of _
+    (λ e. rw (portFits, e, and-false) at h) in
     record {
       defined₂ = digit-small _ 2 w (omega arith);
       marked₂ = digit-small _ 2 w (omega arith);
       value₈ = digit-small _ 256 w (omega arith);
       remaining₁₆ = digit-small _ 65536 w (omega arith);
-      immediate = λ a. eqb-true _ _ (implies-elim (eqb (deferred t p) 0) (eqb (markedOf w) 0) (part-of _ (λ e. rw (portFits, e, and-false) at h)) (eq-eqb _ _ a));
-      undefined = λ a. let z = implies-elim _ (eqb (portKind t p) portMode && eqb (valueOf w) 0 && eqb (markedOf w) 0) und (eq-eqb _ _ a) in
-          (eqb-true _ _ (part-of _ (λ e. rw e at z)), eqb-true _ _ (part-of _ (λ e. rw (e, and-false) at z)), eqb-true _ _ (and-right (eqb (portKind t p) portMode && eqb (valueOf w) 0) _ z));
-      event = λ a. leb-true _ _ (implies-elim (eqb (portKind t p) portEvent) (leb (valueOf w) 1) (part-of _ (λ e. rw (portFits, e, and-false) at h)) (eq-eqb _ _ a));
-      timer = λ a. leb-true _ _ (implies-elim (eqb (portKind t p) portTimer) (leb (valueOf w) timerExpired) (part-of _ (λ e. rw (portFits, e, and-false) at h)) (eq-eqb _ _ a));
+      immediate = λ a. eqb-true _ _
+          (implies-elim (eqb (deferred t p) 0) (eqb (markedOf w) 0) (part-of _ (λ e. rw (portFits, e, and-false) at h)) (eq-eqb _ _ a));
+      undefined = λ a. let z = implies-elim _ (eqb (portKind t p) portMode && eqb (valueOf w) 0 && eqb (markedOf w) 0) und (eq-eqb _ _ a) in (
+        eqb-true _ _ (part-of _ (λ e. rw e at z)),
+        eqb-true _ _ (part-of _ (λ e. rw (e, and-false) at z)),
+        eqb-true _ _
+            (and-right (eqb (portKind t p) portMode && eqb (valueOf w) 0) _ z),
+      );
+      event = λ a. leb-true _ _
+          (implies-elim (eqb (portKind t p) portEvent) (leb (valueOf w) 1) (part-of _ (λ e. rw (portFits, e, and-false) at h)) (eq-eqb _ _ a));
+      timer = λ a. leb-true _ _
+          (implies-elim (eqb (portKind t p) portTimer) (leb (valueOf w) timerExpired) (part-of _ (λ e. rw (portFits, e, and-false) at h)) (eq-eqb _ _ a));
       started = λ a b. between-parts _ _ _ (cond-yes (running t p w) _ _ left (and-both _ _ (eq-eqb _ _ a) (eq-eqb _ _ b)));
       rest = λ f. eqb-true _ _ (cond-no (running t p w) _ _ left (and-one-false _ _ (λ a b. f (eqb-true _ _ a) (eqb-true _ _ b))));
     }
@@ -68,13 +81,23 @@ port-fits t p w z f =
     (implies-intro _ _ (λ h. le-leb _ _ (f .event (eqb-true _ _ h)))))
     (implies-intro _ _ (λ h. le-leb _ _ (f .timer (eqb-true _ _ h)))))
     (cond-intro (running t p w) _ _
-    (λ h. between-both _ _ _ (f .started (eqb-true _ _ (and-left _ (eqb (valueOf w) timerStarted) h)) (eqb-true _ _ (and-right (eqb (portKind t p) portTimer) _ h))))
+    (λ h. between-both _ _ _
+    (f .started (eqb-true _ _ (and-left _ (eqb (valueOf w) timerStarted) h)) (eqb-true _ _ (and-right (eqb (portKind t p) portTimer) _ h))))
     (λ h. eq-eqb _ _ (f .rest (λ x y. clash (and-both _ _ (eq-eqb _ _ x) (eq-eqb _ _ y)) h))))
 
 pub port-packed : (t : List ℕ) (p d m v r : ℕ) → PortOk t p d m v r → portFits t p (packPort d m v r) ≡ true
 port-packed t p d m v r f =
     port-fits t p (packPort d m v r) (port-zero d m v r)
-    (rw (port-defined d m v r, port-marked d m v r, port-value d m v r, port-remaining d m v r, mod-eq-of-lt (f .defined₂), mod-eq-of-lt (f .marked₂), mod-eq-of-lt (f .value₈), mod-eq-of-lt (f .remaining₁₆)) f)
+    (rw (
+      port-defined d m v r,
+      port-marked d m v r,
+      port-value d m v r,
+      port-remaining d m v r,
+      mod-eq-of-lt (f .defined₂),
+      mod-eq-of-lt (f .marked₂),
+      mod-eq-of-lt (f .value₈),
+      mod-eq-of-lt (f .remaining₁₆),
+    ) f)
 
 -- A rule's word.
 
@@ -119,7 +142,8 @@ network-ok t n w h =
       modes = leb-true _ _ (part-of _ (λ e. rw (networkFits, e, and-false) at h));
       states = leb-true _ _ (part-of _ (λ e. rw (networkFits, e, and-false) at h));
       check = λ a. between-parts _ _ _ (cond-yes (inCheck w) _ _ left (eq-eqb _ _ a));
-      recover = λ a. between-parts _ _ _ (cond-yes (inRecover w) _ _ (cond-no (inCheck w) _ _ left (ne-eqb (networkOf w .state) stateCheck (λ z. omega arith))) (eq-eqb _ _ a));
+      recover = λ a. between-parts _ _ _
+          (cond-yes (inRecover w) _ _ (cond-no (inCheck w) _ _ left (ne-eqb (networkOf w .state) stateCheck (λ z. omega arith))) (eq-eqb _ _ a));
       rest = λ a b. (
         eqb-true _ _ (cond-no (inRecover w) _ _ (cond-no (inCheck w) _ _ left (ne-eqb _ _ a)) (ne-eqb _ _ b)),
         eqb-true _ _ (or-elim (inCheck w) _ (cond-no (inRecover w) _ _ calm (ne-eqb _ _ b)) (ne-eqb _ _ a)),
@@ -136,7 +160,8 @@ network-fits t n w z f =
     (le-leb _ _ (f .states)))
     (cond-intro (inCheck w) _ _
     (λ h. between-both _ _ _ (f .check (eqb-true _ _ h)))
-    (λ h. cond-intro (inRecover w) _ _ (λ g. between-both _ _ _ (f .recover (eqb-true _ _ g))) (λ g. eq-eqb _ _ (f .rest (eqb-false _ _ h) (eqb-false _ _ g) .0)))))
+    (λ h. cond-intro (inRecover w) _ _ (λ g. between-both _ _ _ (f .recover (eqb-true _ _ g)))
+    (λ g. eq-eqb _ _ (f .rest (eqb-false _ _ h) (eqb-false _ _ g) .0)))))
     (cond-intro (inRecover w) _ _
     (λ h. le-leb _ _ (f .counted (eqb-true _ _ h)))
     (λ h. or-intro (inCheck w) _ (λ g. eq-eqb _ _ (f .rest (eqb-false _ _ g) (eqb-false _ _ h) .1))))
@@ -180,7 +205,8 @@ pub record SourceOk (t : List ℕ) (k status r : ℕ) : Type 0 where
 pub source-ok : (t : List ℕ) (k w : ℕ) → sourceFits t k w ≡ true → SourceOk t k (statusOf w) (remainingOf w)
 unfolding sourceFits
 source-ok t k w h =
-    let left : cond (eqb (statusOf w) statusPending) (between 1 (timeout t k) (remainingOf w)) (eqb (remainingOf w) 0) ≡ true = part-of _ (λ e. rw (sourceFits, e, and-false) at h) in
+    let left : cond (eqb (statusOf w) statusPending) (between 1 (timeout t k) (remainingOf w)) (eqb (remainingOf w) 0) ≡ true = part-of _
+    (λ e. rw (sourceFits, e, and-false) at h) in
     record {
       status₂ = digit-small _ 4 w (omega arith);
       remaining₁₆ = digit-small _ 65536 w (omega arith);

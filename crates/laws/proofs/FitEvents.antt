@@ -7,18 +7,23 @@ use native.Mathlib.Omega.{arith}
 use lib.Dec.{leb, eqb}
 use borrow.Author.Tests.{ltb-true, leb-false, eqb-true, eqb-false}
 use Rattle.rulebook.specs.Words.{word}
-use Rattle.rulebook.specs.Table.{ports, networks, sources, portKind, portMode, portEvent, portTimer, deferred, hasInitial, networkPort, sourcePort, threshold, l1, l2, eTicks, timeout}
+use Rattle.rulebook.specs.Table.{ports, networks, sources, portKind, portMode, portEvent, portTimer, deferred, hasInitial, networkPort, sourcePort, threshold}
+use Rattle.rulebook.specs.Table.{l1, l2, eTicks, timeout}
 use Rattle.rulebook.specs.Reasons.{mayShow}
-use Rattle.rulebook.specs.State.{sourceIndex, valueOf, timerStarted, timerExpired, Network, askedNone, askedSilent, askedFull, stateNone, stateSilent, stateCheck, stateFull, stateRecover, statusNone, statusPending, statusValidated, statusExpired}
+use Rattle.rulebook.specs.State.{sourceIndex, valueOf, timerStarted, timerExpired, Network, askedNone, askedSilent, askedFull, stateNone, stateSilent}
+use Rattle.rulebook.specs.State.{stateCheck, stateFull, stateRecover, statusNone, statusPending, statusValidated, statusExpired}
 use Rattle.rulebook.specs.Lists.{Run, start, setPort, networkIn}
 use Rattle.rulebook.specs.Arbitration.{arbitrate}
-use Rattle.rulebook.specs.Events.{eventIndex, eventValue, only, request, statusIn, setSource, moveSource, wake, validate, clear, shown, moved, moveNetwork, takes, wait, offBus, busOff, countedNetwork, tickedNetwork, tickNetwork, remainingIn, tickSource, tickTimer, tickThings, arbitrateMarked, tick, happen}
+use Rattle.rulebook.specs.Events.{eventIndex, eventValue, only, request, statusIn, setSource, moveSource, wake, validate, clear, shown, moved, moveNetwork}
+use Rattle.rulebook.specs.Events.{takes, wait, offBus, busOff, countedNetwork, tickedNetwork, tickNetwork, remainingIn, tickSource, tickTimer, tickThings}
+use Rattle.rulebook.specs.Events.{arbitrateMarked, tick, happen}
 use Rattle.laws.specs.Facts.{Facts}
 use Rattle.laws.proofs.Tests.{split, part-of, and-left, and-right}
 use Rattle.laws.proofs.Walks.{each-keeps}
 use Rattle.laws.proofs.Fields.{digit-small}
 use Rattle.laws.proofs.Fit.{NetworkOk, SourceOk}
-use Rattle.laws.proofs.FitKept.{Fits, port-in, network-in, source-in, port-put, network-put, source-put, timer-deferred, plain-ok, timer-ok, arbitrate-fits}
+use Rattle.laws.proofs.FitKept.{Fits, port-in, network-in, source-in, port-put, network-put, source-put, timer-deferred, plain-ok, timer-ok}
+use Rattle.laws.proofs.FitKept.{arbitrate-fits}
 use Rattle.laws.proofs.Happen.{Taken, Event, aTick, aMode, aRequest, aWakeup, aValid, aBusOff, aClear, event}
 
 -- The port of a network or a source.
@@ -43,7 +48,9 @@ show-fits : (t s : List ℕ) (p v : ℕ) → mayShow t p ≡ true → v < 256 �
 unfolding setPort
 show-fits t s p v m v₈ h =
     let w = may-show t p m in
-    port-put t s h p 1 1 v 0 (w .there) (plain-ok t p 1 v (λ e. let k : portKind t p ≡ portMode = w .mode in omega arith) (omega arith) (λ e. let d : deferred t p ≡ 1 = w .late in absurd (omega arith)) v₈ (λ e. let k : portKind t p ≡ portMode = w .mode in absurd (omega arith)))
+    port-put t s h p 1 1 v 0 (w .there)
+    (plain-ok t p 1 v (λ e. let k : portKind t p ≡ portMode = w .mode in omega arith) (omega arith)
+    (λ e. let d : deferred t p ≡ 1 = w .late in absurd (omega arith)) v₈ (λ e. let k : portKind t p ≡ portMode = w .mode in absurd (omega arith)))
 
 module _ (t : List ℕ) (f : Facts t) where
   -- Sources.
@@ -61,8 +68,10 @@ module _ (t : List ℕ) (f : Facts t) where
   woken-ok k =
       let cap : timeout t k < 65536 = digit-small _ 65536 _ (omega arith) in
       split (eqb (timeout t k) 0)
-      (λ e. let z : timeout t k ≡ 0 = eqb-true _ _ e in rw e (record { status₂ = omega arith; remaining₁₆ = cap; pending = λ a. absurd (omega arith); rest = λ a. z }))
-      (λ e. let z : (timeout t k ≡ 0 → ⊥) = eqb-false _ _ e in rw e (record { status₂ = omega arith; remaining₁₆ = cap; pending = λ a. (omega arith, omega arith); rest = λ a. absurd (a refl) }))
+      (λ e. let z : timeout t k ≡ 0 = eqb-true _ _ e in rw e
+      (record { status₂ = omega arith; remaining₁₆ = cap; pending = λ a. absurd (omega arith); rest = λ a. z }))
+      (λ e. let z : (timeout t k ≡ 0 → ⊥) = eqb-false _ _ e in rw e
+      (record { status₂ = omega arith; remaining₁₆ = cap; pending = λ a. (omega arith, omega arith); rest = λ a. absurd (a refl) }))
 
   wake-fits : (k : ℕ) (s : List ℕ) → k < sources t → Fits t s → Fits t (wake t k s)
   unfolding wake
@@ -72,7 +81,8 @@ module _ (t : List ℕ) (f : Facts t) where
   validate-fits : (k : ℕ) (s : List ℕ) → k < sources t → Fits t s → Fits t (validate t k s)
   unfolding validate
   validate-fits k s b h =
-      split (eqb (statusIn t k s) statusPending) (λ e. rw e (move-source-fits k _ _ s b (idle-ok k statusValidated (omega arith) (λ z. omega arith)) h)) (λ e. rw e h)
+      split (eqb (statusIn t k s) statusPending) (λ e. rw e (move-source-fits k _ _ s b (idle-ok k statusValidated (omega arith) (λ z. omega arith)) h))
+      (λ e. rw e h)
 
   clear-fits : (k : ℕ) (s : List ℕ) → k < sources t → Fits t s → Fits t (clear t k s)
   unfolding clear
@@ -87,7 +97,8 @@ module _ (t : List ℕ) (f : Facts t) where
       split (leb (remainingIn s (sourceIndex t k)) 1)
       (λ d. rw (e, d) (move-source-fits k _ _ s b (idle-ok k statusExpired (omega arith) (λ z. omega arith)) h))
       (λ d. let m : 1 < remainingIn s (sourceIndex t k) = leb-false _ _ d in
-      rw (e, d) (move-source-fits k _ _ s b (record { status₂ = omega arith; remaining₁₆ = omega arith; pending = λ z. (omega arith, omega arith); rest = λ z. absurd (z refl) }) h)))
+      rw (e, d) (move-source-fits k _ _ s b
+      (record { status₂ = omega arith; remaining₁₆ = omega arith; pending = λ z. (omega arith, omega arith); rest = λ z. absurd (z refl) }) h)))
       (λ e. rw e h)
 
   -- Networks.
@@ -108,29 +119,58 @@ module _ (t : List ℕ) (f : Facts t) where
   -- at rest in none, silent or full
   resting-ok : (n st : ℕ) (c : Network) → NetworkOk t n c → st ≤ stateRecover → (st ≡ stateCheck → ⊥) → (st ≡ stateRecover → ⊥) → NetworkOk t n (moved st 0 0 c)
   resting-ok n st c o b x y =
-      record { counter₈ = omega arith; remaining₁₆ = omega arith; modes = o .modes; states = b; check = λ e. absurd (x e); recover = λ e. absurd (y e); rest = λ a d. (refl, refl); counted = λ e. absurd (y e) }
+      record {
+        counter₈ = omega arith;
+        remaining₁₆ = omega arith;
+        modes = o .modes;
+        states = b;
+        check = λ e. absurd (x e);
+        recover = λ e. absurd (y e);
+        rest = λ a d. (refl, refl);
+        counted = λ e. absurd (y e);
+      }
 
   checking-ok : (n k r : ℕ) (c : Network) → NetworkOk t n c → k < 256 → 1 ≤ r → r ≤ eTicks t n → NetworkOk t n (moved stateCheck k r c)
   checking-ok n k r c o b x y =
       let cap : eTicks t n < 65536 = digit-small _ 65536 _ (omega arith) in
-      record { counter₈ = b; remaining₁₆ = omega arith; modes = o .modes; states = omega arith; check = λ e. (x, y); recover = λ e. absurd (omega arith); rest = λ a d. absurd (a refl); counted = λ e. absurd (omega arith) }
+      record {
+        counter₈ = b;
+        remaining₁₆ = omega arith;
+        modes = o .modes;
+        states = omega arith;
+        check = λ e. (x, y);
+        recover = λ e. absurd (omega arith);
+        rest = λ a d. absurd (a refl);
+        counted = λ e. absurd (omega arith);
+      }
 
   recovering-ok : (n k r : ℕ) (c : Network) → NetworkOk t n c → k < 256 → 1 ≤ k → 1 ≤ r → r ≤ max (l1 t n) (l2 t n) → NetworkOk t n (moved stateRecover k r c)
   recovering-ok n k r c o b z x y =
       let short : l1 t n < 256 = digit-small _ 256 _ (omega arith) in
       let long : l2 t n < 256 = digit-small _ 256 _ (omega arith) in
-      record { counter₈ = b; remaining₁₆ = omega arith; modes = o .modes; states = omega arith; check = λ e. absurd (omega arith); recover = λ e. (x, y); rest = λ a d. absurd (d refl); counted = λ e. z }
+      record {
+        counter₈ = b;
+        remaining₁₆ = omega arith;
+        modes = o .modes;
+        states = omega arith;
+        check = λ e. absurd (omega arith);
+        recover = λ e. (x, y);
+        rest = λ a d. absurd (d refl);
+        counted = λ e. z;
+      }
 
   pub off-bus-ok : (n k : ℕ) (c : Network) → n < networks t → NetworkOk t n c → k < 256 → 1 ≤ k → NetworkOk t n (offBus t n k c)
   unfolding offBus wait
   off-bus-ok n k c b o x y =
       let w = f .waits n b in let s₁ = w .l1 in let l₁ = w .l2 in
-      split (leb k (threshold t n)) (λ e. rw e (recovering-ok n k (l1 t n) c o x y (omega arith) (omega arith))) (λ e. rw e (recovering-ok n k (l2 t n) c o x y (omega arith) (omega arith)))
+      split (leb k (threshold t n)) (λ e. rw e (recovering-ok n k (l1 t n) c o x y (omega arith) (omega arith)))
+      (λ e. rw e (recovering-ok n k (l2 t n) c o x y (omega arith) (omega arith)))
 
   bus-off-fits : (n : ℕ) (s : List ℕ) → n < networks t → Fits t s → Fits t (busOff t n s)
   unfolding busOff
   bus-off-fits n s b h =
-      split (takes (networkIn t n s)) (λ e. rw e (move-network-fits n _ s b (off-bus-ok n _ _ b (network-in t s h n b) (omega arith) (omega arith)) h)) (λ e. rw e h)
+      split (takes (networkIn t n s)) (λ e. rw e (move-network-fits n _ s b (off-bus-ok n _ _ b (network-in t s h n b) (omega arith) (omega arith)) h))
+      (λ e. rw e h)
 
   counted-ok : (n : ℕ) (c : Network) → n < networks t → NetworkOk t n c → NetworkOk t n (countedNetwork t n c)
   unfolding countedNetwork
@@ -139,11 +179,13 @@ module _ (t : List ℕ) (f : Facts t) where
       split (eqb (c .state) stateRecover)
       (λ e. let p = o .recover (eqb-true _ _ e) in let k₁ = o .counted (eqb-true _ _ e) in
       split (leb (c .remaining) 1) (λ d. rw (e, d) (checking-ok n (c .counter) (eTicks t n) c o (o .counter₈) (omega arith) (omega arith)))
-      (λ d. let m : 1 < c .remaining = leb-false _ _ d in rw (e, d) (recovering-ok n (c .counter) (c .remaining - 1) c o (o .counter₈) (omega arith) (omega arith) (omega arith))))
+      (λ d. let m : 1 < c .remaining = leb-false _ _ d in rw (e, d)
+      (recovering-ok n (c .counter) (c .remaining - 1) c o (o .counter₈) (omega arith) (omega arith) (omega arith))))
       (λ e. split (eqb (c .state) stateCheck)
       (λ g. let p = o .check (eqb-true _ _ g) in
       split (leb (c .remaining) 1) (λ d. rw (e, g, d) (resting-ok n stateFull c o (omega arith) (λ z. omega arith) (λ z. omega arith)))
-      (λ d. let m : 1 < c .remaining = leb-false _ _ d in rw (e, g, d) (checking-ok n (c .counter) (c .remaining - 1) c o (o .counter₈) (omega arith) (omega arith))))
+      (λ d. let m : 1 < c .remaining = leb-false _ _ d in rw (e, g, d)
+      (checking-ok n (c .counter) (c .remaining - 1) c o (o .counter₈) (omega arith) (omega arith))))
       (λ g. rw (e, g) o))
 
   pub ticked-ok : (n : ℕ) (c : Network) → n < networks t → NetworkOk t n c → NetworkOk t n (tickedNetwork t n c)
@@ -151,8 +193,10 @@ module _ (t : List ℕ) (f : Facts t) where
   ticked-ok n c b o =
       let e₁ = f .waits n b .eticks in
       split (eqb (c .asked) askedNone) (λ x. rw x (resting-ok n stateNone c o (omega arith) (λ z. omega arith) (λ z. omega arith)))
-      (λ x. split (eqb (c .asked) askedSilent && not (eqb (c .state) stateNone)) (λ y. rw (x, y) (resting-ok n stateSilent c o (omega arith) (λ z. omega arith) (λ z. omega arith)))
-      (λ y. split (eqb (c .asked) askedFull && (eqb (c .state) stateNone || eqb (c .state) stateSilent)) (λ z. rw (x, y, z) (checking-ok n 0 (eTicks t n) c o (omega arith) (omega arith) (omega arith)))
+      (λ x. split (eqb (c .asked) askedSilent && not (eqb (c .state) stateNone))
+      (λ y. rw (x, y) (resting-ok n stateSilent c o (omega arith) (λ z. omega arith) (λ z. omega arith)))
+      (λ y. split (eqb (c .asked) askedFull && (eqb (c .state) stateNone || eqb (c .state) stateSilent))
+      (λ z. rw (x, y, z) (checking-ok n 0 (eTicks t n) c o (omega arith) (omega arith) (omega arith)))
       (λ z. rw (x, y, z) (counted-ok n c b o))))
 
   pub tick-network-fits : (n : ℕ) (s : List ℕ) → n < networks t → Fits t s → Fits t (tickNetwork t n s)
@@ -170,9 +214,11 @@ module _ (t : List ℕ) (f : Facts t) where
       let v = eqb-true _ _ (and-right (eqb (portKind t p) portTimer) _ e) in
       let r = o .started k v in let d₁ = timer-deferred t p (f .port p b) k in
       split (leb (remainingIn s p) 1)
-      (λ d. rw (e, d) (port-put t s h p 1 1 timerExpired 0 b (timer-ok t p 1 timerExpired 0 k d₁ (omega arith) (omega arith) (omega arith) (λ z. absurd (omega arith)) (λ z. refl))))
+      (λ d. rw (e, d) (port-put t s h p 1 1 timerExpired 0 b
+      (timer-ok t p 1 timerExpired 0 k d₁ (omega arith) (omega arith) (omega arith) (λ z. absurd (omega arith)) (λ z. refl))))
       (λ d. let m : 1 < remainingIn s p = leb-false _ _ d in
-      rw (e, d) (port-put t s h p 1 _ timerStarted _ b (timer-ok t p _ timerStarted _ k d₁ (o .marked₂) (omega arith) (omega arith) (λ z. omega arith) (λ z. absurd (z refl))))))
+      rw (e, d) (port-put t s h p 1 _ timerStarted _ b
+      (timer-ok t p _ timerStarted _ k d₁ (o .marked₂) (omega arith) (omega arith) (λ z. omega arith) (λ z. absurd (z refl))))))
       (λ e. rw e h)
 
   pub things-fit : (s : List ℕ) → Fits t s → Fits t (tickThings t s)
@@ -183,20 +229,24 @@ module _ (t : List ℕ) (f : Facts t) where
       (each-keeps (Fits t) (tickNetwork t) 0 (networks t) s (λ n x a b. tick-network-fits n x (omega arith)) h))
 
   -- the port of a request, written
-  pub requested-fits : (p m v : ℕ) (s : List ℕ) → p < ports t → (portKind t p ≡ portTimer → ⊥) → v < 256 → (portKind t p ≡ portEvent → v ≤ 1) → m < 2 → (deferred t p ≡ 0 → m ≡ 0) → Fits t s → Fits t (setPort p m v 0 s)
+  pub requested-fits : (p m v : ℕ) (s : List ℕ) → p < ports t → (portKind t p ≡ portTimer → ⊥) → v < 256 → (portKind t p ≡ portEvent → v ≤ 1) → m < 2
+      → (deferred t p ≡ 0 → m ≡ 0) → Fits t s → Fits t (setPort p m v 0 s)
   unfolding setPort
   requested-fits p m v s b nt v₈ ev m₂ imm h = port-put t s h p 1 m v 0 b (plain-ok t p m v nt m₂ imm v₈ ev)
 
   -- a request, deferred or immediate
-  pub request-cases : (P : Run → Type 0) (p v : ℕ) (s : List ℕ) → p < ports t → (portKind t p ≡ portTimer → ⊥) → v < 256 → (portKind t p ≡ portEvent → v ≤ 1) → Fits t s
-      → (Fits t (setPort p 1 v 0 s) → P (start (setPort p 1 v 0 s))) → (Fits t (setPort p 0 v 0 s) → P (arbitrate t (only p) (setPort p 0 v 0 s))) → P (request t p v s)
+  pub request-cases : (P : Run → Type 0) (p v : ℕ) (s : List ℕ) → p < ports t → (portKind t p ≡ portTimer → ⊥) → v < 256 → (portKind t p ≡ portEvent → v ≤ 1)
+      → Fits t s
+      → (Fits t (setPort p 1 v 0 s) → P (start (setPort p 1 v 0 s))) → (Fits t (setPort p 0 v 0 s) → P (arbitrate t (only p) (setPort p 0 v 0 s))) → P
+      (request t p v s)
   unfolding request
   request-cases P p v s b nt v₈ ev h late now =
       split (eqb (deferred t p) 1)
       (λ e. let d : deferred t p ≡ 1 = eqb-true _ _ e in rw e (late (requested-fits p 1 v s b nt v₈ ev (omega arith) (λ z. absurd (omega arith)) h)))
       (λ e. rw e (now (requested-fits p 0 v s b nt v₈ ev (omega arith) (λ z. refl) h)))
 
-  request-fits : (p v : ℕ) (s : List ℕ) → p < ports t → (portKind t p ≡ portTimer → ⊥) → v < 256 → (portKind t p ≡ portEvent → v ≤ 1) → Fits t s → Fits t (request t p v s .state)
+  request-fits : (p v : ℕ) (s : List ℕ) → p < ports t → (portKind t p ≡ portTimer → ⊥) → v < 256 → (portKind t p ≡ portEvent → v ≤ 1) → Fits t s
+      → Fits t (request t p v s .state)
   request-fits p v s b nt v₈ ev h = request-cases (λ x. Fits t (x .state)) p v s b nt v₈ ev h (λ fit. fit) (λ fit. arbitrate-fits t f (only p) _ fit)
 
   pub happen-fits : (e : ℕ) (s : List ℕ) → Taken t e → Fits t s → Fits t (happen t e s .state)
@@ -204,7 +254,8 @@ module _ (t : List ℕ) (f : Facts t) where
     where
       go : (g : List ℕ → Run) → Event t e g → Fits t (g s .state)
       go g (aTick k o) = unfold tick arbitrateMarked in arbitrate-fits t f _ _ (things-fit s h)
-      go g (aMode k p m u) = request-fits (eventIndex e) (eventValue e) s (p .there) (λ z. omega arith) (digit-small _ 256 _ (omega arith)) (λ z. absurd (omega arith)) h
+      go g (aMode k p m u) =
+          request-fits (eventIndex e) (eventValue e) s (p .there) (λ z. omega arith) (digit-small _ 256 _ (omega arith)) (λ z. absurd (omega arith)) h
       go g (aRequest k p m) = request-fits (eventIndex e) 1 s (p .there) (λ z. omega arith) (omega arith) (λ z. omega arith) h
       go g (aWakeup k p) = wake-fits (eventIndex e) s (p .there) h
       go g (aValid k p) = validate-fits (eventIndex e) s (p .there) h

@@ -10,7 +10,8 @@ use borrow.Author.Tests.{leb-true, eqb-true, eq-eqb}
 use Rattle.rulebook.specs.Words.{word}
 use Rattle.rulebook.specs.Table.{ports, networks, sources, rules, portKind, portEvent, portTimer, deferred, reload}
 use Rattle.rulebook.specs.Reasons.{portFields}
-use Rattle.rulebook.specs.State.{ruleIndex, networkIndex, sourceIndex, definedOf, markedOf, valueOf, remainingOf, timerStopped, timerStarted, timerExpired, Network, statusOf, packPort, packSource, thingFits, fits}
+use Rattle.rulebook.specs.State.{ruleIndex, networkIndex, sourceIndex, definedOf, markedOf, valueOf, remainingOf, timerStopped, timerStarted, timerExpired}
+use Rattle.rulebook.specs.State.{Network, statusOf, packPort, packSource, thingFits, fits}
 use Rattle.rulebook.specs.Lists.{setPort, networkIn, asking, setNetwork, setResult}
 use Rattle.rulebook.specs.Arbitration.{arbitrate}
 use Rattle.laws.specs.Facts.{Facts}
@@ -18,7 +19,8 @@ use Rattle.laws.proofs.Tests.{part-of, cond-yes, implies-elim}
 use Rattle.laws.proofs.Parts.{thing-port, thing-rule, thing-network, thing-source}
 use Rattle.laws.proofs.Fields.{digit-small}
 use Rattle.laws.proofs.Runs.{KeptByWrites, arbitrate-keeps}
-use Rattle.laws.proofs.Fit.{PortOk, port-ok, port-packed, rule-packed, NetworkOk, network-ok, network-packed, SourceOk, source-ok, source-packed, fits-word, fit-write}
+use Rattle.laws.proofs.Fit.{PortOk, port-ok, port-packed, rule-packed, NetworkOk, network-ok, network-packed, SourceOk, source-ok, source-packed}
+use Rattle.laws.proofs.Fit.{fits-word, fit-write}
 
 abbrev pub Fits : List ℕ → List ℕ → Type 0
 Fits t s = fits t s ≡ true
@@ -58,14 +60,18 @@ module _ (t s : List ℕ) (h : Fits t s) where
 
 pub timer-deferred : (t : List ℕ) (p : ℕ) → portFields t p ≡ true → portKind t p ≡ portTimer → deferred t p ≡ 1
 unfolding portFields
-timer-deferred t p h k = eqb-true _ _ (implies-elim (eqb (portKind t p) portTimer) (eqb (deferred t p) 1) (part-of _ (λ e. rw (portFields, e, and-false) at h)) (eq-eqb _ _ k))
+timer-deferred t p h k =
+    eqb-true _ _ (implies-elim (eqb (portKind t p) portTimer) (eqb (deferred t p) 1) (part-of _ (λ e. rw (portFields, e, and-false) at h)) (eq-eqb _ _ k))
 
 pub timer-reload : (t : List ℕ) (p : ℕ) → portFields t p ≡ true → portKind t p ≡ portTimer → 1 ≤ reload t p
 unfolding portFields
-timer-reload t p h k = leb-true _ _ (cond-yes (eqb (portKind t p) portTimer) (leb 1 (reload t p)) (eqb (reload t p) 0) (part-of _ (λ e. rw (portFields, e, and-false) at h)) (eq-eqb _ _ k))
+timer-reload t p h k =
+    leb-true _ _
+    (cond-yes (eqb (portKind t p) portTimer) (leb 1 (reload t p)) (eqb (reload t p) 0) (part-of _ (λ e. rw (portFields, e, and-false) at h)) (eq-eqb _ _ k))
 
 -- a defined mode or event port
-pub plain-ok : (t : List ℕ) (p m v : ℕ) → (portKind t p ≡ portTimer → ⊥) → m < 2 → (deferred t p ≡ 0 → m ≡ 0) → v < 256 → (portKind t p ≡ portEvent → v ≤ 1) → PortOk t p 1 m v 0
+pub plain-ok : (t : List ℕ) (p m v : ℕ) → (portKind t p ≡ portTimer → ⊥) → m < 2 → (deferred t p ≡ 0 → m ≡ 0) → v < 256 → (portKind t p ≡ portEvent → v ≤ 1)
+    → PortOk t p 1 m v 0
 plain-ok t p m v no-timer small imm v₈ ev =
     record {
       defined₂ = omega arith;
@@ -80,7 +86,8 @@ plain-ok t p m v no-timer small imm v₈ ev =
       rest = λ e. refl;
     }
 
-pub timer-ok : (t : List ℕ) (p m v r : ℕ) → portKind t p ≡ portTimer → deferred t p ≡ 1 → m < 2 → v ≤ timerExpired → r ≤ reload t p → (v ≡ timerStarted → 1 ≤ r) → ((v ≡ timerStarted → ⊥) → r ≡ 0) → PortOk t p 1 m v r
+pub timer-ok : (t : List ℕ) (p m v r : ℕ) → portKind t p ≡ portTimer → deferred t p ≡ 1 → m < 2 → v ≤ timerExpired → r ≤ reload t p
+    → (v ≡ timerStarted → 1 ≤ r) → ((v ≡ timerStarted → ⊥) → r ≡ 0) → PortOk t p 1 m v r
 timer-ok t p m v r k d small v₂ r₁ on off =
     let cap : reload t p < 65536 = digit-small _ 65536 _ (omega arith) in
     record {
@@ -104,13 +111,39 @@ fit-kept t f =
     record {
       clear = λ p s b k h. let o = port-in t s h p b in
           port-put t s h p 1 (markedOf (word s p)) 0 0 b (plain-ok t p _ 0 (λ e. omega arith) (o .marked₂) (o .immediate) (omega arith) (λ e. omega arith));
-      timerStart = λ p s b k h. port-put t s h p 1 1 timerStarted (reload t p) b (timer-ok t p 1 timerStarted (reload t p) k (timer-deferred t p (f .port p b) k) (omega arith) (omega arith) (omega arith) (λ e. timer-reload t p (f .port p b) k) (λ e. absurd (e refl)));
-      stop = λ p s b k h. port-put t s h p 1 1 timerStopped 0 b (timer-ok t p 1 timerStopped 0 k (timer-deferred t p (f .port p b) k) (omega arith) (omega arith) (omega arith) (λ e. absurd (omega arith)) (λ e. refl));
+      timerStart = λ p s b k h. port-put t s h p 1 1 timerStarted (reload t p) b
+          (timer-ok t p 1 timerStarted (reload t p) k (timer-deferred t p (f .port p b) k) (omega arith) (omega arith) (omega arith)
+          (λ e. timer-reload t p (f .port p b) k) (λ e. absurd (e refl)));
+      stop = λ p s b k h. port-put t s h p 1 1 timerStopped 0 b
+          (timer-ok t p 1 timerStopped 0 k (timer-deferred t p (f .port p b) k) (omega arith) (omega arith) (omega arith) (λ e. absurd (omega arith))
+          (λ e. refl));
       ask = λ n mode s b m h. let o = network-in t s h n b in
-          network-put t s h n (asking mode (networkIn t n s)) b (record { counter₈ = o .counter₈; remaining₁₆ = o .remaining₁₆; modes = m; states = o .states; check = o .check; recover = o .recover; rest = o .rest; counted = o .counted });
+          network-put t s h n (asking mode (networkIn t n s)) b
+          (record {
+            counter₈ = o .counter₈;
+            remaining₁₆ = o .remaining₁₆;
+            modes = m;
+            states = o .states;
+            check = o .check;
+            recover = o .recover;
+            rest = o .rest;
+            counted = o .counted;
+          });
       store = λ r b s c d h. rule-put t s h r b c (omega arith);
       unmark = λ p s b h. let o = port-in t s h p b in
-          port-put t s h p _ 0 _ _ b (record { defined₂ = o .defined₂; marked₂ = omega arith; value₈ = o .value₈; remaining₁₆ = o .remaining₁₆; immediate = λ e. refl; undefined = λ e. (o .undefined e .0, o .undefined e .1, refl); event = o .event; timer = o .timer; started = o .started; rest = o .rest });
+          port-put t s h p _ 0 _ _ b
+          (record {
+            defined₂ = o .defined₂;
+            marked₂ = omega arith;
+            value₈ = o .value₈;
+            remaining₁₆ = o .remaining₁₆;
+            immediate = λ e. refl;
+            undefined = λ e. (o .undefined e .0, o .undefined e .1, refl);
+            event = o .event;
+            timer = o .timer;
+            started = o .started;
+            rest = o .rest;
+          });
     }
 
 pub arbitrate-fits : (t : List ℕ) → Facts t → (q : ℕ → Bool) (s : List ℕ) → Fits t s → Fits t (arbitrate t q s .state)

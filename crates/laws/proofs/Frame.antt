@@ -8,7 +8,8 @@ use lib.Dec.{eqb}
 use Rattle.rulebook.specs.Words.{each}
 use Rattle.rulebook.specs.Table.{noList, listOwner, firstItem, itemCount, itemKind, itemA, itemRule}
 use Rattle.rulebook.specs.State.{undefinedResult}
-use Rattle.rulebook.specs.Lists.{Run, start, become, emit, tooDeep, traceWord, traceListStart, effect, act, unready, resultIn, choiceIn, setResult, judge, runChoice, runRule, runItem, runItems, runList}
+use Rattle.rulebook.specs.Lists.{Run, start, become, emit, tooDeep, traceWord, traceListStart, effect, act, unready, resultIn, choiceIn, setResult, judge}
+use Rattle.rulebook.specs.Lists.{runChoice, runRule, runItem, runItems, runList}
 use Rattle.rulebook.specs.Arbitration.{runIf, runChosen}
 use Rattle.laws.proofs.Tests.{split}
 use Rattle.laws.proofs.Cases.{item-list, item-rule, item-act, item-cases, rule-unready, rule-ready, choice-none, choice-some, if-chosen, if-not}
@@ -55,7 +56,8 @@ framed-each f i (suc n) h = framed-then (f i) (each (suc i) n f) (h i) (framed-e
 
 -- two runs that agree at x and at x's state alone: what one's frame says, the other's says
 framed-at : (f g : Run → Run) (x : Run) → f x ≡ g x → f (start (x .state)) ≡ g (start (x .state)) → Framed g
-    → (f x .state ≡ f (start (x .state)) .state) × (f x .words ≡ x .words ++ f (start (x .state)) .words) × (f x .deep ≡ (x .deep || f (start (x .state)) .deep))
+    → (f x .state ≡ f (start (x .state)) .state) × (f x .words ≡ x .words ++ f (start (x .state)) .words) ×
+    (f x .deep ≡ (x .deep || f (start (x .state)) .deep))
 framed-at f g x a b h = (
   ap (λ (r : Run). r .state) a ∙ h .state x ∙ sym (ap (λ (r : Run). r .state) b),
   ap (λ (r : Run). r .words) a ∙ h .words x ∙ sym (ap (λ (r : Run). x .words ++ r .words) b),
@@ -83,14 +85,25 @@ module _ (t : List ℕ) (below : ℕ → Run → Run) (h : (l : ℕ) → Framed 
   pub choice-framed : (l : ℕ) → Framed (runChoice below l)
   choice-framed l =
       framed-by (runChoice below l)
-      (λ x. split (eqb l noList) (λ e. (λ y. y, framed-none, choice-none below l x e, choice-none below l _ e)) (λ e. (below l, h l, choice-some below l x e, choice-some below l _ e)))
+      (λ x. split (eqb l noList) (λ e. (λ y. y, framed-none, choice-none below l x e, choice-none below l _ e))
+      (λ e. (below l, h l, choice-some below l x e, choice-some below l _ e)))
 
   pub rule-framed : (r : ℕ) → Framed (runRule below t o r)
   rule-framed r =
       framed-by (runRule below t o r)
       (λ x. split (unready t (x .state) r)
-      (λ e. (emit (traceWord itemRule o r undefinedResult), framed-put (λ s. s) (λ s. traceWord itemRule o r undefinedResult), rule-unready below t o r x e, rule-unready below t o r _ e))
-      (λ e. (λ y. runChoice below (choiceIn t (x .state) r) (judge t o r y), framed-then (judge t o r) (runChoice below (choiceIn t (x .state) r)) (judge-framed r) (choice-framed _), rule-ready below t o r x e, rule-ready below t o r _ e)))
+      (λ e. (
+        emit (traceWord itemRule o r undefinedResult),
+        framed-put (λ s. s) (λ s. traceWord itemRule o r undefinedResult),
+        rule-unready below t o r x e,
+        rule-unready below t o r _ e,
+      ))
+      (λ e. (
+        λ y. runChoice below (choiceIn t (x .state) r) (judge t o r y),
+        framed-then (judge t o r) (runChoice below (choiceIn t (x .state) r)) (judge-framed r) (choice-framed _),
+        rule-ready below t o r x e,
+        rule-ready below t o r _ e,
+      )))
 
   pub item-framed : (i : ℕ) → Framed (runItem below t o i)
   item-framed i =
@@ -111,7 +124,8 @@ list-framed t (suc d) l =
 pub if-framed : (t : List ℕ) (c : ℕ → Bool) (l : ℕ) → Framed (runIf t c l)
 if-framed t c l =
     framed-by (runIf t c l)
-    (λ x. split (c l) (λ e. (runList _ t l, list-framed t _ l, if-chosen t c l x e, if-chosen t c l _ e)) (λ e. (λ y. y, framed-none, if-not t c l x e, if-not t c l _ e)))
+    (λ x. split (c l) (λ e. (runList _ t l, list-framed t _ l, if-chosen t c l x e, if-chosen t c l _ e))
+    (λ e. (λ y. y, framed-none, if-not t c l x e, if-not t c l _ e)))
 
 pub chosen-framed : (t : List ℕ) (c : ℕ → Bool) (ls : List ℕ) → Framed (runChosen t c ls)
 unfolding runChosen

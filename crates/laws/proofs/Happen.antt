@@ -12,7 +12,8 @@ use Rattle.rulebook.specs.Table.{ports, networks, sources, portKind, portMode, 
 use Rattle.rulebook.specs.Reasons.{held}
 use Rattle.rulebook.specs.State.{aPort, aNetwork, aSource, ownerOf}
 use Rattle.rulebook.specs.Lists.{Run, start}
-use Rattle.rulebook.specs.Events.{eventKind, eventOwner, eventIndex, eventValue, eventTick, eventMode, eventRequest, eventWakeup, eventValid, eventBusOff, eventClear, highestKind, request, wake, validate, clear, busOff, tick, happen}
+use Rattle.rulebook.specs.Events.{eventKind, eventOwner, eventIndex, eventValue, eventTick, eventMode, eventRequest, eventWakeup, eventValid, eventBusOff}
+use Rattle.rulebook.specs.Events.{eventClear, highestKind, request, wake, validate, clear, busOff, tick, happen}
 use Rattle.rulebook.specs.Step.{wellFormed, named, present, suited, known, sentByOwner, refusedEvent}
 use Rattle.laws.proofs.Tests.{split, part-of, and-left, and-right, implies-elim, or-some, or-elim}
 
@@ -103,7 +104,9 @@ module _ (t : List ℕ) (e : ℕ) (w : Taken t e) where
 
   pub mode-unheld : eventKind e ≡ eventMode → held t (eventIndex e) (networks t) (sources t) ≡ false
   unfolding suited
-  mode-unheld k = not-true _ (implies-elim (eqb (eventKind e) eventMode) (not (held t (eventIndex e) (networks t) (sources t))) (part-of _ (λ x. rw (suited, x, and-false) at (fit-for (λ z. omega arith)))) (eq-eqb _ _ k))
+  mode-unheld k =
+      not-true _ (implies-elim (eqb (eventKind e) eventMode) (not (held t (eventIndex e) (networks t) (sources t)))
+      (part-of _ (λ x. rw (suited, x, and-false) at (fit-for (λ z. omega arith)))) (eq-eqb _ _ k))
 
   pub request-index : eventKind e ≡ eventRequest → eventIndex e < ports t
   unfolding present
@@ -111,13 +114,16 @@ module _ (t : List ℕ) (e : ℕ) (w : Taken t e) where
 
   pub request-kind : eventKind e ≡ eventRequest → portKind t (eventIndex e) ≡ portEvent
   unfolding suited
-  request-kind k = eqb-true _ _ (implies-elim (eqb (eventKind e) eventRequest) (eqb (portKind t (eventIndex e)) portEvent) (part-of _ (λ x. rw (suited, x, and-false) at (fit-for (λ z. omega arith)))) (eq-eqb _ _ k))
+  request-kind k =
+      eqb-true _ _ (implies-elim (eqb (eventKind e) eventRequest) (eqb (portKind t (eventIndex e)) portEvent)
+      (part-of _ (λ x. rw (suited, x, and-false) at (fit-for (λ z. omega arith)))) (eq-eqb _ _ k))
 
   pub bus-off-index : eventKind e ≡ eventBusOff → eventIndex e < networks t
   unfolding present
   bus-off-index k = ltb-true _ _ (rw (named-network k) at (there (λ z. omega arith)))
 
-  pub source-index : (eventKind e ≡ eventTick → ⊥) → (eventKind e ≡ eventMode → ⊥) → (eventKind e ≡ eventRequest → ⊥) → (eventKind e ≡ eventBusOff → ⊥) → eventIndex e < sources t
+  pub source-index : (eventKind e ≡ eventTick → ⊥) → (eventKind e ≡ eventMode → ⊥) → (eventKind e ≡ eventRequest → ⊥) → (eventKind e ≡ eventBusOff → ⊥)
+      → eventIndex e < sources t
   unfolding present
   source-index a b c d = ltb-true _ _ (rw (named-source b c d) at (there a))
 
@@ -179,15 +185,19 @@ module _ (t : List ℕ) (e : ℕ) (w : Taken t e) where
   event =
       split (eqb (eventKind e) eventTick) (λ a. let k = eqb-true (eventKind e) eventTick a in rw a (aTick k (tick-owner k)))
       (λ a. split (eqb (eventKind e) eventMode)
-      (λ b. let k = eqb-true (eventKind e) eventMode b in rw (a, b) (aMode k (of-port (mode-index t e w k) (λ z. omega arith) (named-port t e w k)) (mode-kind t e w k) (mode-unheld t e w k)))
+      (λ b. let k = eqb-true (eventKind e) eventMode b in rw (a, b)
+      (aMode k (of-port (mode-index t e w k) (λ z. omega arith) (named-port t e w k)) (mode-kind t e w k) (mode-unheld t e w k)))
       (λ b. split (eqb (eventKind e) eventRequest)
-      (λ c. let k = eqb-true (eventKind e) eventRequest c in rw (a, b, c) (aRequest k (of-port (request-index t e w k) (λ z. omega arith) (named-event t e w k)) (request-kind t e w k)))
+      (λ c. let k = eqb-true (eventKind e) eventRequest c in rw (a, b, c)
+      (aRequest k (of-port (request-index t e w k) (λ z. omega arith) (named-event t e w k)) (request-kind t e w k)))
       (λ c. split (eqb (eventKind e) eventBusOff)
       (λ h. let k = eqb-true (eventKind e) eventBusOff h in rw k (aBusOff k (of-network k)))
       (λ h. let s : OfSource t e = of-source (eqb-false _ _ a) (eqb-false _ _ b) (eqb-false _ _ c) (eqb-false _ _ h) in
       split (eqb (eventKind e) eventWakeup) (λ d. rw (a, b, c, d) (aWakeup (eqb-true _ _ d) s))
       (λ d. split (eqb (eventKind e) eventValid) (λ g. rw (a, b, c, d, g) (aValid (eqb-true _ _ g) s))
-      (λ g. rw (a, b, c, d, g, h) (aClear (only-clear (eventKind e) (eqb-false _ _ a) (eqb-false _ _ b) (eqb-false _ _ c) (eqb-false _ _ d) (eqb-false _ _ g) (eqb-false _ _ h) (kind-small t e w)) s)))))))
+      (λ g. rw (a, b, c, d, g, h)
+      (aClear (only-clear (eventKind e) (eqb-false _ _ a) (eqb-false _ _ b) (eqb-false _ _ c) (eqb-false _ _ d) (eqb-false _ _ g) (eqb-false _ _ h)
+      (kind-small t e w)) s)))))))
     where
       only-clear : (k : ℕ) → (k ≡ 0 → ⊥) → (k ≡ 1 → ⊥) → (k ≡ 2 → ⊥) → (k ≡ 3 → ⊥) → (k ≡ 4 → ⊥) → (k ≡ 5 → ⊥) → k ≤ 6 → k ≡ 6
       only-clear k a b c d g h small = omega arith

@@ -7,7 +7,8 @@ use native.Mathlib.Omega.{arith}
 use lib.Dec.{leb, ltb, eqb}
 use borrow.Author.Tests.{ltb-true, leb-true, eqb-true, eq-eqb}
 use Rattle.rulebook.specs.Words.{implies, between}
-use Rattle.rulebook.specs.Table.{ports, networks, rules, lists, portKind, portEvent, portTimer, trueList, falseList, noList, triggered, itemKind, itemA, itemB, itemClear, itemStart, itemStop, itemAsk, itemList, itemRule}
+use Rattle.rulebook.specs.Table.{ports, networks, rules, lists, portKind, portEvent, portTimer, trueList, falseList, noList, triggered, itemKind, itemA}
+use Rattle.rulebook.specs.Table.{itemB, itemClear, itemStart, itemStop, itemAsk, itemList, itemRule}
 use Rattle.rulebook.specs.Expressions.{deepest, holds}
 use Rattle.rulebook.specs.Reasons.{itemFields, itemNames, portOfKind, listOrNone}
 use Rattle.rulebook.specs.Lists.{valueIn, resultIn, listFor, choice}

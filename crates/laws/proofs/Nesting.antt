@@ -29,7 +29,8 @@ module _ (t : List ℕ) (fits : ℕ → Bool) where
   nests-act i h k = by-other t i fits (ruleNests t fits) true h k
 
   -- the list that a rule starts fits
-  pub nests-choice : (r previous result : ℕ) → ruleNests t fits r ≡ true → eqb (choice t r previous result) noList ≡ false → fits (choice t r previous result) ≡ true
+  pub nests-choice : (r previous result : ℕ) → ruleNests t fits r ≡ true → eqb (choice t r previous result) noList ≡ false
+      → fits (choice t r previous result) ≡ true
   unfolding ruleNests
   nests-choice r previous result n e =
       choice-cases t r previous result (λ c. clash {b = eqb noList noList} refl (rw c at e))
@@ -40,7 +41,8 @@ pub within-there : (t : List ℕ) (d l : ℕ) → listWithin (suc d) t l ≡ tru
 unfolding listWithin listNests
 within-there t d l h = ltb-true l (lists t) (and-left _ (all (firstItem t l) (itemCount t l) (itemNests t (listWithin d t))) h)
 
-pub within-item : (t : List ℕ) (d l i : ℕ) → listWithin (suc d) t l ≡ true → firstItem t l ≤ i → i < firstItem t l + itemCount t l → itemNests t (listWithin d t) i ≡ true
+pub within-item : (t : List ℕ) (d l i : ℕ) → listWithin (suc d) t l ≡ true → firstItem t l ≤ i → i < firstItem t l + itemCount t l
+    → itemNests t (listWithin d t) i ≡ true
 unfolding listWithin listNests
 within-item t d l i h a b = all-at (itemNests t (listWithin d t)) (firstItem t l) (itemCount t l) i (and-right (ltb l (lists t)) _ h) a b
 

@@ -31,7 +31,8 @@ pub record OfPriority (t : List ℕ) (k l n x : ℕ) : Type 0 where
   pub below : x < l + n
 
 of-later : (t : List ℕ) (k l n x : ℕ) → OfPriority t k (suc l) n x → OfPriority t k l (suc n) x
-of-later t k l n x o = record { priority = o .priority; from = let a : suc l ≤ x = o .from in omega arith; below = let b : x < suc l + n = o .below in omega arith }
+of-later t k l n x o =
+    record { priority = o .priority; from = let a : suc l ≤ x = o .from in omega arith; below = let b : x < suc l + n = o .below in omega arith }
 
 pub of-priority : (t : List ℕ) (k l n : ℕ) → Each (OfPriority t k l n) (ofPriority t k l n)
 unfolding ofPriority
@@ -54,8 +55,11 @@ unfolding orderBelow
 order-below t zero = tt
 order-below t (suc k) =
     each-both _ (ofPriority t k 0 (lists t)) (orderBelow k t)
-    (each-weaker (OfPriority t k 0 (lists t)) _ (ofPriority t k 0 (lists t)) (λ x o. record { priority = let e : priority t x ≡ k = o .priority in omega arith; there = let b : x < 0 + lists t = o .below in omega arith }) (of-priority t k 0 (lists t)))
-    (each-weaker (PriorityBelow t k) _ (orderBelow k t) (λ x o. record { priority = let e : priority t x < k = o .priority in omega arith; there = o .there }) (order-below t k))
+    (each-weaker (OfPriority t k 0 (lists t)) _ (ofPriority t k 0 (lists t))
+    (λ x o. record { priority = let e : priority t x ≡ k = o .priority in omega arith; there = let b : x < 0 + lists t = o .below in omega arith })
+    (of-priority t k 0 (lists t)))
+    (each-weaker (PriorityBelow t k) _ (orderBelow k t)
+    (λ x o. record { priority = let e : priority t x < k = o .priority in omega arith; there = o .there }) (order-below t k))
 
 pub order-there : (t : List ℕ) → Each (λ l. l < lists t) (order t)
 unfolding order
@@ -90,7 +94,8 @@ one-priority-more : (t : List ℕ) (f : ℕ → ℕ) (k l : ℕ) → onlyAt t f 
 unfolding onlyAt onlyBelow
 one-priority-more t f k l =
     split (ltb (priority t l) k)
-    (λ e. let a : priority t l < k = ltb-true _ _ e in rw (e, lt-ltb (priority t l) (suc k) (omega arith), ne-eqb (priority t l) k (λ z. omega arith)) (zero-add (f l)))
+    (λ e. let a : priority t l < k = ltb-true _ _ e in rw (e, lt-ltb (priority t l) (suc k) (omega arith), ne-eqb (priority t l) k (λ z. omega arith))
+    (zero-add (f l)))
     (λ e. let a : k ≤ priority t l = ltb-false _ _ e in
     split (eqb (priority t l) k)
     (λ d. let b : priority t l ≡ k = eqb-true _ _ d in rw (e, d, lt-ltb (priority t l) (suc k) (omega arith)) (add-zero (f l)))
@@ -162,7 +167,8 @@ priority-in-order t k l zero = tt
 priority-in-order t k l (suc n) =
     split (eqb (priority t l) k)
     (λ e. rw (e, ofPriority) (
-      each-weaker (OfPriority t k (suc l) n) _ (ofPriority t k (suc l) n) (λ x o. inr (eqb-true _ _ e ∙ sym (o .priority), o .from)) (of-priority t k (suc l) n),
+      each-weaker (OfPriority t k (suc l) n) _ (ofPriority t k (suc l) n) (λ x o. inr (eqb-true _ _ e ∙ sym (o .priority), o .from))
+          (of-priority t k (suc l) n),
       priority-in-order t k (suc l) n,
     ))
     (λ e. rw (e, ofPriority) (priority-in-order t k (suc l) n))
@@ -173,7 +179,8 @@ below-in-order t zero = tt
 below-in-order t (suc k) =
     all-before t (ofPriority t k 0 (lists t)) (orderBelow k t)
     (each-weaker (OfPriority t k 0 (lists t)) _ (ofPriority t k 0 (lists t))
-    (λ x o. each-weaker (PriorityBelow t k) _ (orderBelow k t) (λ y u. inl (let a : priority t x ≡ k = o .priority in let b : priority t y < k = u .priority in omega arith)) (order-below t k))
+    (λ x o. each-weaker (PriorityBelow t k) _ (orderBelow k t)
+    (λ y u. inl (let a : priority t x ≡ k = o .priority in let b : priority t y < k = u .priority in omega arith)) (order-below t k))
     (of-priority t k 0 (lists t)))
     (priority-in-order t k 0 (lists t)) (below-in-order t k)
 

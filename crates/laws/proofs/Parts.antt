@@ -7,7 +7,8 @@ use Prim.Native.Nat.{ℕ, _+_, _-_, _*_, _/_, _%_, _≤_, _<_}
 use native.Mathlib.Omega.{arith}
 use lib.Dec.{ltb}
 use borrow.Author.Tests.{lt-ltb, le-ltb}
-use Rattle.rulebook.specs.Table.{ports, networks, sources, expressions, rules, lists, items, portsFrom, networksFrom, sourcesFrom, expressionsFrom, rulesFrom, listsFrom, itemsFrom}
+use Rattle.rulebook.specs.Table.{ports, networks, sources, expressions, rules, lists, items, portsFrom, networksFrom, sourcesFrom, expressionsFrom, rulesFrom}
+use Rattle.rulebook.specs.Table.{listsFrom, itemsFrom}
 use Rattle.rulebook.specs.Table.{Part, inHeader, atPort, atNetwork, atWaits, atSource, atExpression, atRule, atList, atItem, ofPair, part}
 use Rattle.rulebook.specs.State.{ruleIndex, networkIndex, sourceIndex, aPort, aRule, aNetwork, aSource, thing}
 

@@ -8,15 +8,20 @@ use native.Mathlib.Omega.{arith}
 use lib.ListN.{set}
 use lib.Dec.{eqb}
 use Rattle.rulebook.specs.Words.{word}
-use Rattle.rulebook.specs.Table.{ports, networks, rules, lists, items, portKind, portEvent, portTimer, reload, noList, listOwner, firstItem, itemCount, itemKind, itemA, itemB, itemList, itemRule}
+use Rattle.rulebook.specs.Table.{ports, networks, rules, lists, items, portKind, portEvent, portTimer, reload, noList, listOwner, firstItem, itemCount}
+use Rattle.rulebook.specs.Table.{itemKind, itemA, itemB, itemList, itemRule}
 use Rattle.rulebook.specs.State.{markedOf, timerStopped, timerStarted, undefinedResult}
-use Rattle.rulebook.specs.Lists.{Run, start, emit, tooDeep, traceWord, traceListStart, setPort, networkIn, asking, setNetwork, effect, act, unready, choiceIn, choice, setResult, judge, runChoice, runRule, runItem, runItems, runList}
-use Rattle.rulebook.specs.Arbitration.{unmarked, unmarkPort, unmarkPorts, evaluated, storeResult, storeResults, chosen, order, runIf, runChosen, decide, arbitrate}
+use Rattle.rulebook.specs.Lists.{Run, start, emit, tooDeep, traceWord, traceListStart, setPort, networkIn, asking, setNetwork, effect, act, unready, choiceIn}
+use Rattle.rulebook.specs.Lists.{choice, setResult, judge, runChoice, runRule, runItem, runItems, runList}
+use Rattle.rulebook.specs.Arbitration.{unmarked, unmarkPort, unmarkPorts, evaluated, storeResult, storeResults, chosen, order, runIf, runChosen, decide}
+use Rattle.rulebook.specs.Arbitration.{arbitrate}
 use Rattle.laws.specs.Facts.{Facts}
 use Rattle.laws.proofs.Tests.{split}
 use Rattle.laws.proofs.Walks.{each-keeps}
-use Rattle.laws.proofs.Items.{clear-there, start-there, stop-there, ask-there, list-there, rule-there, mode-small, port-there, kind-is, result-small, choice-there}
-use Rattle.laws.proofs.Cases.{item-list, item-rule, item-act, item-cases, rule-unready, rule-ready, choice-none, choice-some, if-chosen, if-not, effect-cases}
+use Rattle.laws.proofs.Items.{clear-there, start-there, stop-there, ask-there, list-there, rule-there, mode-small, port-there, kind-is, result-small}
+use Rattle.laws.proofs.Items.{choice-there}
+use Rattle.laws.proofs.Cases.{item-list, item-rule, item-act, item-cases, rule-unready, rule-ready, choice-none, choice-some, if-chosen, if-not}
+use Rattle.laws.proofs.Cases.{effect-cases}
 use Rattle.laws.specs.Sequence.{Each}
 use Rattle.laws.proofs.Order.{order-there}
 
@@ -35,8 +40,10 @@ item-there t f l i w =
 pub record KeptByActs (t : List ℕ) (Q : Run → Type 0) : Type 0 where
   pub listStart : (l : ℕ) (x : Run) → l < lists t → Q x → Q (emit (traceWord traceListStart (listOwner t l) l 0) x)
   pub act : (l i : ℕ) (x : Run) → Within t l i → eqb (itemKind t i) itemList ≡ false → eqb (itemKind t i) itemRule ≡ false → Q x → Q (act t (listOwner t l) i x)
-  pub undefined : (l i : ℕ) (x : Run) → Within t l i → itemKind t i ≡ itemRule → Q x → Q (emit (traceWord itemRule (listOwner t l) (itemA t i) undefinedResult) x)
-  pub judge : (l i : ℕ) (x : Run) → Within t l i → itemKind t i ≡ itemRule → unready t (x .state) (itemA t i) ≡ false → Q x → Q (judge t (listOwner t l) (itemA t i) x)
+  pub undefined : (l i : ℕ) (x : Run) → Within t l i → itemKind t i ≡ itemRule → Q x
+      → Q (emit (traceWord itemRule (listOwner t l) (itemA t i) undefinedResult) x)
+  pub judge : (l i : ℕ) (x : Run) → Within t l i → itemKind t i ≡ itemRule → unready t (x .state) (itemA t i) ≡ false → Q x
+      → Q (judge t (listOwner t l) (itemA t i) x)
   pub deep : (x : Run) → Q x → Q (tooDeep x)
 
 module _ (t : List ℕ) (f : Facts t) (Q : Run → Type 0) (k : KeptByActs t Q) where
@@ -44,12 +51,14 @@ module _ (t : List ℕ) (f : Facts t) (Q : Run → Type 0) (k : KeptByActs t Q) 
   abbrev Keeps : (ℕ → Run → Run) → Type 0
   Keeps below = (l : ℕ) (x : Run) → l < lists t → Q x → Q (below l x)
 
-  choice-keeps : (below : ℕ → Run → Run) → Keeps below → (r previous result : ℕ) (x : Run) → r < rules t → Q x → Q (runChoice below (choice t r previous result) x)
+  choice-keeps : (below : ℕ → Run → Run) → Keeps below → (r previous result : ℕ) (x : Run) → r < rules t → Q x
+      → Q (runChoice below (choice t r previous result) x)
   choice-keeps below b r previous result x h q =
       split (eqb (choice t r previous result) noList) (λ e. rw (choice-none below _ x e) q)
       (λ e. rw (choice-some below _ x e) (b _ x (choice-there t r previous result (f .rule r h) e) q))
 
-  rule-keeps : (below : ℕ → Run → Run) → Keeps below → (l i : ℕ) (x : Run) → Within t l i → itemKind t i ≡ itemRule → Q x → Q (runRule below t (listOwner t l) (itemA t i) x)
+  rule-keeps : (below : ℕ → Run → Run) → Keeps below → (l i : ℕ) (x : Run) → Within t l i → itemKind t i ≡ itemRule → Q x
+      → Q (runRule below t (listOwner t l) (itemA t i) x)
   unfolding choiceIn
   rule-keeps below b l i x w e q =
       split (unready t (x .state) (itemA t i))
@@ -98,7 +107,8 @@ module _ (t : List ℕ) (f : Facts t) (P : List ℕ → Type 0) (k : KeptByWrite
       let named = f .item i h .1 in
       effect-cases P t i s
       (λ e. let there = clear-there t i named e in k .clear (itemA t i) s (port-there t portEvent (itemA t i) there) (kind-is t portEvent (itemA t i) there) q)
-      (λ e. let there = start-there t i named e in k .timerStart (itemA t i) s (port-there t portTimer (itemA t i) there) (kind-is t portTimer (itemA t i) there) q)
+      (λ e. let there = start-there t i named e in k .timerStart (itemA t i) s (port-there t portTimer (itemA t i) there)
+      (kind-is t portTimer (itemA t i) there) q)
       (λ e. let there = stop-there t i named e in k .stop (itemA t i) s (port-there t portTimer (itemA t i) there) (kind-is t portTimer (itemA t i) there) q)
       (λ e. k .ask (itemA t i) (itemB t i) s (ask-there t i named e) (mode-small t i (f .item i h .0) e) q)
       (λ e. q)
@@ -110,7 +120,8 @@ module _ (t : List ℕ) (f : Facts t) (P : List ℕ → Type 0) (k : KeptByWrite
         listStart = λ l x h q. q;
         act = λ l i x w g h q. effect-keeps i (x .state) (item-there t f l i w) q;
         undefined = λ l i x w e q. q;
-        judge = λ l i x w e u q. k .store (itemA t i) _ (x .state) (rule-there t i (f .item i (item-there t f l i w) .1) e) (result-small t (x .state) (itemA t i)) q;
+        judge = λ l i x w e u q. k .store (itemA t i) _ (x .state) (rule-there t i (f .item i (item-there t f l i w) .1) e)
+            (result-small t (x .state) (itemA t i)) q;
         deep = λ x q. q;
       }
 

@@ -11,9 +11,11 @@ use borrow.Author.Tests.{ltb-true, ltb-false, eqb-true, eqb-false, eq-eqb, lt-lt
 use Rattle.rulebook.specs.Words.{digit}
 use Rattle.rulebook.specs.Table.{ports, networks, sources, rules, portKind, portMode, portTimer, deferred, hasInitial, initial, firstResult}
 use Rattle.rulebook.specs.Reasons.{portFields, bound, accepted}
-use Rattle.rulebook.specs.State.{stateLength, Thing, aPort, aRule, aNetwork, aSource, thing, portFits, networkFits, sourceFits, thingFits, fits, freshPort, freshThing, freshAt, fresh}
+use Rattle.rulebook.specs.State.{stateLength, Thing, aPort, aRule, aNetwork, aSource, thing, portFits, networkFits, sourceFits, thingFits, fits, freshPort}
+use Rattle.rulebook.specs.State.{freshThing, freshAt, fresh}
 use Rattle.rulebook.specs.Events.{request, tick, arbitrateMarked, happen}
-use Rattle.rulebook.specs.Step.{refusedState, refusedCall, wellFormed, known, sentByOwner, present, firstFault, refusedEvent, Result, refusal, finish, conclude, handle, step}
+use Rattle.rulebook.specs.Step.{refusedState, refusedCall, wellFormed, known, sentByOwner, present, firstFault, refusedEvent, Result, refusal, finish}
+use Rattle.rulebook.specs.Step.{conclude, handle, step}
 use Rattle.laws.specs.Facts.{Facts}
 use Rattle.laws.specs.Callable.{Callable}
 use Rattle.laws.proofs.Tests.{split, part-of, cond-yes}
@@ -34,7 +36,8 @@ unfolding refusedCall refusedState
 callable t s room h =
     split (accepted t)
     (λ a. split (fits t s)
-    (λ b. split (ltb room (bound t)) (λ c. let z : 3 ≡ 0 = rw (a, b, c) at h in absurd (omega arith)) (λ c. record { table = a; state = b; enough = ltb-false _ _ c }))
+    (λ b. split (ltb room (bound t)) (λ c. let z : 3 ≡ 0 = rw (a, b, c) at h in absurd (omega arith))
+    (λ c. record { table = a; state = b; enough = ltb-false _ _ c }))
     (λ b. let z : 2 ≡ 0 = rw (a, b) at h in absurd (omega arith)))
     (λ a. let z : 1 ≡ 0 = rw a at h in absurd (omega arith))
 
@@ -77,7 +80,8 @@ module _ (t : List ℕ) (f : Facts t) where
   pub happen-shallow : (e : ℕ) (s : List ℕ) → happen t e s .deep ≡ false
   unfolding tick arbitrateMarked
   happen-shallow e s =
-      happen-cases (λ x. x .deep ≡ false) t e s (λ k. arbitrate-shallow t f _ _) (λ k. request-shallow _ _ s) (λ k. request-shallow _ _ s) (λ k. refl) (λ k. refl) (λ k. refl) (λ k. refl)
+      happen-cases (λ x. x .deep ≡ false) t e s (λ k. arbitrate-shallow t f _ _) (λ k. request-shallow _ _ s) (λ k. request-shallow _ _ s) (λ k. refl)
+      (λ k. refl) (λ k. refl) (λ k. refl)
 
   request-paid : (p v : ℕ) (s : List ℕ) → written (request t p v s) ≤ bound t
   unfolding request
@@ -86,7 +90,8 @@ module _ (t : List ℕ) (f : Facts t) where
   pub happen-paid : (e : ℕ) (s : List ℕ) → written (happen t e s) ≤ bound t
   unfolding tick arbitrateMarked
   happen-paid e s =
-      happen-cases (λ x. written x ≤ bound t) t e s (λ k. arbitrate-paid t f _ _) (λ k. request-paid _ _ s) (λ k. request-paid _ _ s) (λ k. omega arith) (λ k. omega arith) (λ k. omega arith) (λ k. omega arith)
+      happen-cases (λ x. written x ≤ bound t) t e s (λ k. arbitrate-paid t f _ _) (λ k. request-paid _ _ s) (λ k. request-paid _ _ s) (λ k. omega arith)
+      (λ k. omega arith) (λ k. omega arith) (λ k. omega arith)
 
 -- The two ways a step can go: refused, or done.
 
@@ -129,24 +134,42 @@ thing-present t i h =
     (λ a. let x : ports t ≤ i = ltb-false _ _ a in
     split (ltb i (ports t + rules t)) (λ b. let y : i < ports t + rules t = ltb-true _ _ b in rw (a, b) (lt-ltb (i - ports t) (rules t) (omega arith)))
     (λ b. let y : ports t + rules t ≤ i = ltb-false _ _ b in
-    split (ltb i (ports t + rules t + networks t)) (λ c. let z : i < ports t + rules t + networks t = ltb-true _ _ c in rw (a, b, c) (lt-ltb (i - (ports t + rules t)) (networks t) (omega arith)))
-    (λ c. let z : ports t + rules t + networks t ≤ i = ltb-false _ _ c in rw (a, b, c) (lt-ltb (i - (ports t + rules t + networks t)) (sources t) (omega arith)))))
+    split (ltb i (ports t + rules t + networks t))
+    (λ c. let z : i < ports t + rules t + networks t = ltb-true _ _ c in rw (a, b, c) (lt-ltb (i - (ports t + rules t)) (networks t) (omega arith)))
+    (λ c. let z : ports t + rules t + networks t ≤ i = ltb-false _ _ c in rw (a, b, c)
+    (lt-ltb (i - (ports t + rules t + networks t)) (sources t) (omega arith)))))
 
 initial-mode : (t : List ℕ) (p : ℕ) → portFields t p ≡ true → hasInitial t p ≡ 1 → portKind t p ≡ portMode
 unfolding portFields
-initial-mode t p h k = eqb-true _ _ (cond-yes (eqb (hasInitial t p) 1) (eqb (portKind t p) portMode) (eqb (initial t p) 0) (part-of _ (λ e. rw (portFields, e, and-false) at h)) (eq-eqb _ _ k))
+initial-mode t p h k =
+    eqb-true _ _ (cond-yes (eqb (hasInitial t p) 1) (eqb (portKind t p) portMode) (eqb (initial t p) 0) (part-of _ (λ e. rw (portFields, e, and-false) at h))
+    (eq-eqb _ _ k))
 
 fresh-port-fits : (t : List ℕ) (p : ℕ) → portFields t p ≡ true → portFits t p (freshPort t p) ≡ true
 unfolding freshPort
 fresh-port-fits t p h =
     split (eqb (hasInitial t p) 1)
     (λ a. let k = initial-mode t p h (eqb-true _ _ a) in
-    rw a (port-packed t p 1 0 (initial t p) 0 (plain-ok t p 0 (initial t p) (λ z. omega arith) (omega arith) (λ z. refl) (digit-small _ 256 _ (omega arith)) (λ z. absurd (omega arith)))))
+    rw a (port-packed t p 1 0 (initial t p) 0
+    (plain-ok t p 0 (initial t p) (λ z. omega arith) (omega arith) (λ z. refl) (digit-small _ 256 _ (omega arith)) (λ z. absurd (omega arith)))))
     (λ a. split (eqb (portKind t p) portMode)
     (λ b. let k = eqb-true _ _ b in
-    rw (a, b) (port-packed t p 0 0 0 0 (record { defined₂ = omega arith; marked₂ = omega arith; value₈ = omega arith; remaining₁₆ = omega arith; immediate = λ z. refl; undefined = λ z. (k, refl, refl); event = λ z. omega arith; timer = λ z. omega arith; started = λ z y. absurd (omega arith); rest = λ z. refl })))
+    rw (a, b) (port-packed t p 0 0 0 0
+    (record {
+      defined₂ = omega arith;
+      marked₂ = omega arith;
+      value₈ = omega arith;
+      remaining₁₆ = omega arith;
+      immediate = λ z. refl;
+      undefined = λ z. (k, refl, refl);
+      event = λ z. omega arith;
+      timer = λ z. omega arith;
+      started = λ z y. absurd (omega arith);
+      rest = λ z. refl;
+    })))
     (λ b. split (eqb (portKind t p) portTimer)
-    (λ c. let k = eqb-true _ _ c in rw (a, b) (port-packed t p 1 0 0 0 (timer-ok t p 0 0 0 k (timer-deferred t p h k) (omega arith) (omega arith) (omega arith) (λ z. absurd (omega arith)) (λ z. refl))))
+    (λ c. let k = eqb-true _ _ c in rw (a, b)
+    (port-packed t p 1 0 0 0 (timer-ok t p 0 0 0 k (timer-deferred t p h k) (omega arith) (omega arith) (omega arith) (λ z. absurd (omega arith)) (λ z. refl))))
     (λ c. rw (a, b) (port-packed t p 1 0 0 0 (plain-ok t p 0 0 (eqb-false _ _ c) (omega arith) (λ z. refl) (omega arith) (λ z. omega arith))))))
 
 zero-network : (t : List ℕ) (n : ℕ) → networkFits t n 0 ≡ true

@@ -87,7 +87,8 @@ first-before p i (suc n) j a b =
 
 -- what every turn keeps, the whole walk keeps; of one value, and of two side by side
 
-pub each-keeps {ℓ} : {A : Type 0} (P : A → Type ℓ) (f : ℕ → A → A) (i n : ℕ) (a : A) → ((j : ℕ) (x : A) → i ≤ j → j < i + n → P x → P (f j x)) → P a → P (each i n f a)
+pub each-keeps {ℓ} : {A : Type 0} (P : A → Type ℓ) (f : ℕ → A → A) (i n : ℕ) (a : A) → ((j : ℕ) (x : A) → i ≤ j → j < i + n → P x → P (f j x)) → P a
+    → P (each i n f a)
 unfolding each
 each-keeps P f i zero a k h = h
 each-keeps P f i (suc n) a k h =

@@ -8,7 +8,8 @@ use lib.ListN.{length}
 use lib.Dec.{ltb}
 use borrow.Author.Tests.{ltb-true, ltb-false, eqb-true}
 use Rattle.rulebook.specs.Table.{Part, tableLength}
-use Rattle.rulebook.specs.Reasons.{hasHeader, knownEdition, countsInside, exactLength, ownFields, names, nesting, owners, affordable, bound, accepted, lowest, Link, ofTable, ofWords, firstOf, check}
+use Rattle.rulebook.specs.Reasons.{hasHeader, knownEdition, countsInside, exactLength, ownFields, names, nesting, owners, affordable, bound, accepted, lowest}
+use Rattle.rulebook.specs.Reasons.{Link, ofTable, ofWords, firstOf, check}
 use Rattle.rulebook.specs.State.{stateLength}
 use Rattle.laws.specs.Facts.{Counts}
 use Rattle.laws.proofs.Tests.{split}
@@ -20,7 +21,15 @@ use Rattle.tables.proofs.Chain.{from-header, from-edition, from-counts, from-le
 use Rattle.tables.proofs.Chain.{none-left, kept, broken, kept-by-all, broken-at}
 
 pub longest : (t : List ℕ) → Counts t → tableLength t ≤ 3185
-longest t c = let a = c .ports in let b = c .networks in let d = c .sources in let e = c .expressions in let f = c .rules in let g = c .lists in let h = c .items in omega arith
+longest t c =
+    let a = c .ports in
+    let b = c .networks in
+    let d = c .sources in
+    let e = c .expressions in
+    let f = c .rules in
+    let g = c .lists in
+    let h = c .items in
+    omega arith
 
 exact-is : (t : List ℕ) → exactLength t ≡ true → length t ≡ tableLength t
 unfolding exactLength

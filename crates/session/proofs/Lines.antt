@@ -33,7 +33,8 @@ one-put {line} {out} {at} {next} {after} h p =
     record { place = q .0; bytes = q .1 }
 
 -- the first `to` words, where there is room for their lines
-pub words-put : {out : List ℕ} {at : ℕ} {ws : List ℕ} {to : ℕ} {r : Laid} {after : List ℕ} → to ≤ length ws → at + 9 * to ≤ length out → PutWords out at ws 0 to r after
+pub words-put : {out : List ℕ} {at : ℕ} {ws : List ℕ} {to : ℕ} {r : Laid} {after : List ℕ} → to ≤ length ws → at + 9 * to ≤ length out
+    → PutWords out at ws 0 to r after
     → PutAt (hexLines (take to ws)) out at (r .next) after
 words-put {out} {at} {ws} {to} {r} h room p =
     let n : r .words ≡ to = omega (arith, p .count) in
@@ -57,7 +58,8 @@ lines-long n s ws h =
 pub reason-unlaid : (xs out : List ℕ) → length out < 22 → PutLines 22 xs out 0 out
 reason-unlaid xs out h = let q = lt-leb 22 (length out) h in record { count = rw q; bytes = rw q; inside = omega arith }
 
-pub reason-laid : {out o₁ o₂ : List ℕ} {n₁ n₂ : ℕ} (k i : ℕ) → k < 2 ^ 32 → i < 2 ^ 32 → 22 ≤ length out → Put (decimalLine k) out 0 n₁ o₁ → Put (decimalLine i) o₁ n₁ n₂ o₂
+pub reason-laid : {out o₁ o₂ : List ℕ} {n₁ n₂ : ℕ} (k i : ℕ) → k < 2 ^ 32 → i < 2 ^ 32 → 22 ≤ length out → Put (decimalLine k) out 0 n₁ o₁
+    → Put (decimalLine i) o₁ n₁ n₂ o₂
     → PutLines 22 (reasonLines (verdict k i)) out n₂ o₂
 unfolding reasonLines
 reason-laid {out} k i hk hi h p q =
@@ -68,7 +70,11 @@ reason-laid {out} k i hk hi h p q =
     let second = one-put {line = decimalLine i} (omega (arith, first .place)) q in
     let both = put-more {xs = decimalLine k} {ys = decimalLine i} (omega arith) first second in
     let enough = le-leb 22 (length out) h in
-    record { count = rw enough (both .place ∙ omega arith); bytes = rw enough (both .bytes); inside = omega (arith, both .place, length-append (decimalLine k) (decimalLine i)) }
+    record {
+      count = rw enough (both .place ∙ omega arith);
+      bytes = rw enough (both .bytes);
+      inside = omega (arith, both .place, length-append (decimalLine k) (decimalLine i));
+    }
 
 -- The lines of an event.
 

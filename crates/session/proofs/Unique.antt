@@ -11,7 +11,8 @@ use Rattle.session.specs.declared.Taken.{Taken}
 use Rattle.session.specs.Printed.{runLines, stateAfter}
 use Rattle.session.specs.Promises.{Opens, PutLines, traceAfter, TookEvents}
 
-pub one-opening : {t : List ℕ} {p q : Opening} → Opens t p → Opens t q → (p .reason ≡ q .reason) × (p .place ≡ q .place) × (p .state ≡ q .state) × (p .trace ≡ q .trace)
+pub one-opening : {t : List ℕ} {p q : Opening} → Opens t p → Opens t q
+    → (p .reason ≡ q .reason) × (p .place ≡ q .place) × (p .state ≡ q .state) × (p .trace ≡ q .trace)
 one-opening a b = (a .reason ∙ sym (b .reason), a .place ∙ sym (b .place), a .state ∙ sym (b .state), a .trace ∙ sym (b .trace))
 
 pub one-laying : {room : ℕ} {xs out : List ℕ} {m n : ℕ} {a b : List ℕ} → PutLines room xs out m a → PutLines room xs out n b → (m ≡ n) × (a ≡ b)

@@ -39,7 +39,8 @@ module _ (t s trace bytes : List ℕ) (from n : ℕ) (within : n ≤ length (off
       (λ h. let none : n ≡ 0 = (let w : n ≤ 0 = rw (offered, h) at within in omega arith) in rw (h, none, add-zero))
 
 -- what stands at the front of the bytes after a call
-front : {t s trace es out : List ℕ} {r : Taken} {s₁ w₁ o₁ : List ℕ} → TookEvents t s trace es out r s₁ w₁ o₁ → take (r .bytes) o₁ ≡ runLines t s (take (r .events) es)
+front : {t s trace es out : List ℕ} {r : Taken} {s₁ w₁ o₁ : List ℕ} → TookEvents t s trace es out r s₁ w₁ o₁
+    → take (r .bytes) o₁ ≡ runLines t s (take (r .events) es)
 unfolding lay
 front p = rw (p .lines, p .bytes) (take-append-seam _ _)
 
@@ -131,7 +132,8 @@ reason-printed table events {out = out} opens some room put =
 
 -- No call is stuck: ready, with an event left and with room for one, it takes one, and what it leaves is ready again.
 
-module _ (t s trace bytes : List ℕ) (from : ℕ) (out : List ℕ) (r : Taken) (s₁ w₁ o₁ : List ℕ) (took : TookEvents t s trace (offered t s (length trace) bytes from) out r s₁ w₁ o₁) where
+module _ (t s trace bytes : List ℕ) (from : ℕ) (out : List ℕ) (r : Taken) (s₁ w₁ o₁ : List ℕ)
+    (took : TookEvents t s trace (offered t s (length trace) bytes from) out r s₁ w₁ o₁) where
   pub some-taken : Ready t s trace → from < length (wordsOf bytes) → most ≤ length out → 1 ≤ r .events
   unfolding runLines
   some-taken ready left room =
@@ -157,7 +159,8 @@ ready-after es ready same is =
       enough = let b = ready .enough in omega arith;
     }
 
-pub ready-again : {t s trace es out : List ℕ} {r : Taken} {s₁ w₁ o₁ : List ℕ} → Ready t s trace → length w₁ ≡ length trace → TookEvents t s trace es out r s₁ w₁ o₁ → Ready t s₁ w₁
+pub ready-again : {t s trace es out : List ℕ} {r : Taken} {s₁ w₁ o₁ : List ℕ} → Ready t s trace → length w₁ ≡ length trace
+    → TookEvents t s trace es out r s₁ w₁ o₁ → Ready t s₁ w₁
 ready-again ready same p = ready-after _ ready same (p .state)
 
 -- What a caller of many calls keeps: the state is that of the words before the next call's.

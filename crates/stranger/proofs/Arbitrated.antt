@@ -59,7 +59,8 @@ unmarked-value w = port-value (definedOf w) 0 (valueOf w) (remainingOf w) ∙ mo
 unmarked-defined : (w : ℕ) → definedOf (unmarked w) ≡ definedOf w
 unmarked-defined w = port-defined (definedOf w) 0 (valueOf w) (remainingOf w) ∙ mod-eq-of-lt (digit-small _ 2 w (omega arith))
 
-pub port-still : (t : List ℕ) → Facts t → (p v d : ℕ) → MayShow t p → (q : ℕ → Bool) (s : List ℕ) → Fits t s → ShowsAs p v d s → ShowsAs p v d (arbitrate t q s .state)
+pub port-still : (t : List ℕ) → Facts t → (p v d : ℕ) → MayShow t p → (q : ℕ → Bool) (s : List ℕ) → Fits t s → ShowsAs p v d s
+    → ShowsAs p v d (arbitrate t q s .state)
 unfolding setPort setNetwork setResult
 port-still t f p v d m =
     fitting-kept t f (ShowsAs p v d)
@@ -70,13 +71,17 @@ port-still t f p v d m =
       unmark = λ q s b h w. split (eqb p q)
           (λ e. let z : p ≡ q = eqb-true _ _ e in let len = fits-length t s h in let there : p < ports t = m .there in
           let is : word (set s q (unmarked (word s q))) p ≡ unmarked (word s p) = rw (← z) (getD-set-same s p (unmarked (word s p)) 0 (omega arith)) in
-          record { value = ap (λ (x : ℕ). valueOf x) is ∙ unmarked-value (word s p) ∙ w .value; defined = ap (λ (x : ℕ). definedOf x) is ∙ unmarked-defined (word s p) ∙ w .defined })
+          record {
+            value = ap (λ (x : ℕ). valueOf x) is ∙ unmarked-value (word s p) ∙ w .value;
+            defined = ap (λ (x : ℕ). definedOf x) is ∙ unmarked-defined (word s p) ∙ w .defined;
+          })
           (λ e. shows-other p v d q _ s (eqb-false _ _ e) w);
     })
 
 -- A source's word.
 
-pub source-still : (t : List ℕ) → Facts t → (k w : ℕ) → k < sources t → (q : ℕ → Bool) (s : List ℕ) → Fits t s → word s (sourceIndex t k) ≡ w → word (arbitrate t q s .state) (sourceIndex t k) ≡ w
+pub source-still : (t : List ℕ) → Facts t → (k w : ℕ) → k < sources t → (q : ℕ → Bool) (s : List ℕ) → Fits t s → word s (sourceIndex t k) ≡ w
+    → word (arbitrate t q s .state) (sourceIndex t k) ≡ w
 unfolding setPort setNetwork setResult
 source-still t f k w b =
     fitting-kept t f (λ s. word s (sourceIndex t k) ≡ w)
@@ -95,9 +100,16 @@ pub record Core (a b : Network) : Type 0 where
   pub remaining : a .remaining ≡ b .remaining
 
 pub small-of : (w mode : ℕ) → mode < 4 → NetworkSmall (asking mode (networkOf w))
-small-of w mode b = record { asked₂ = b; state₃ = digit-small _ 8 w (omega arith); counter₈ = digit-small _ 256 w (omega arith); remaining₁₆ = digit-small _ 65536 w (omega arith) }
+small-of w mode b =
+    record {
+      asked₂ = b;
+      state₃ = digit-small _ 8 w (omega arith);
+      counter₈ = digit-small _ 256 w (omega arith);
+      remaining₁₆ = digit-small _ 65536 w (omega arith);
+    }
 
-pub asked-word : (t s : List ℕ) (n mode : ℕ) → n < networks t → mode ≤ 2 → Fits t s → networkIn t n (setNetwork t n (asking mode (networkIn t n s)) s) ≡ asking mode (networkIn t n s)
+pub asked-word : (t s : List ℕ) (n mode : ℕ) → n < networks t → mode ≤ 2 → Fits t s
+    → networkIn t n (setNetwork t n (asking mode (networkIn t n s)) s) ≡ asking mode (networkIn t n s)
 unfolding setNetwork
 asked-word t s n mode b m h =
     let len = fits-length t s h in
@@ -106,14 +118,16 @@ asked-word t s n mode b m h =
 core-other : (t s : List ℕ) (n j w : ℕ) (c : Network) → (networkIndex t n ≡ j → ⊥) → Core (networkIn t n s) c → Core (networkIn t n (set s j w)) c
 core-other t s n j w c d k = rw (getD-set-other s j (networkIndex t n) w 0 d) k
 
-pub network-still : (t : List ℕ) → Facts t → (n : ℕ) (c : Network) → n < networks t → (q : ℕ → Bool) (s : List ℕ) → Fits t s → Core (networkIn t n s) c → Core (networkIn t n (arbitrate t q s .state)) c
+pub network-still : (t : List ℕ) → Facts t → (n : ℕ) (c : Network) → n < networks t → (q : ℕ → Bool) (s : List ℕ) → Fits t s → Core (networkIn t n s) c
+    → Core (networkIn t n (arbitrate t q s .state)) c
 unfolding setPort setResult
 network-still t f n c b =
     fitting-kept t f (λ s. Core (networkIn t n s) c)
     (record {
       port = λ q x y z s e nm h k. core-other t s n q _ c (λ u. omega arith) k;
       ask = λ m mode s e g h k. split (eqb n m)
-          (λ z. let same : n ≡ m = eqb-true _ _ z in rw (← same, asked-word t s n mode b g h) (record { state = k .state; counter = k .counter; remaining = k .remaining }))
+          (λ z. let same : n ≡ m = eqb-true _ _ z in rw (← same, asked-word t s n mode b g h)
+          (record { state = k .state; counter = k .counter; remaining = k .remaining }))
           (λ z. ask-other m mode s k (eqb-false _ _ z));
       store = λ r g s e h k. core-other t s n (ruleIndex t r) _ c (λ u. omega arith) k;
       unmark = λ q s e h k. core-other t s n q _ c (λ u. omega arith) k;

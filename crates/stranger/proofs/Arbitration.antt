@@ -12,7 +12,8 @@ use Rattle.rulebook.specs.Table.{ports, rules, lists, portOwner, ruleOwner, rul
 use Rattle.rulebook.specs.Expressions.{deepest, operator, expressionMentions, mentions}
 use Rattle.rulebook.specs.State.{ruleIndex}
 use Rattle.rulebook.specs.Lists.{Run, start, choiceIn, setResult}
-use Rattle.rulebook.specs.Arbitration.{unmarkPort, unmarkPorts, evaluated, storeResult, storeResults, chooses, chosen, order, runIf, runChosen, decide, arbitrate}
+use Rattle.rulebook.specs.Arbitration.{unmarkPort, unmarkPorts, evaluated, storeResult, storeResults, chooses, chosen, order, runIf, runChosen, decide}
+use Rattle.rulebook.specs.Arbitration.{arbitrate}
 use Rattle.laws.specs.Facts.{Facts}
 use Rattle.laws.proofs.Tests.{split, clash, and-one-false}
 use Rattle.laws.proofs.Walks.{any-some, each-keeps, each-alike}
@@ -39,13 +40,15 @@ module _ (t : List ℕ) (f : Facts t) (o : ℕ) where
   unmark-hidden q p s b h =
       pick (SameView t o s) (q p) (λ e. write-hidden t o s p _ (port-word t o p b ∙ h)) (λ e. same-view-refl t o s)
 
-  store-hidden : (q : ℕ → Bool) (s : List ℕ) (r : ℕ) (stored : List ℕ) → r < rules t → stranger o (ruleOwner t r) ≡ true → SameView t o stored (storeResult t q s r stored)
+  store-hidden : (q : ℕ → Bool) (s : List ℕ) (r : ℕ) (stored : List ℕ) → r < rules t → stranger o (ruleOwner t r) ≡ true
+      → SameView t o stored (storeResult t q s r stored)
   unfolding storeResult setResult
   store-hidden q s r stored b h =
       pick (SameView t o stored) (evaluated t q s r) (λ e. write-hidden t o stored (ruleIndex t r) _ (rule-word t o r b ∙ h)) (λ e. same-view-refl t o stored)
 
   -- a stranger's rule chooses strangers' lists alone
-  chooses-none : (q : ℕ → Bool) (s : List ℕ) (l r : ℕ) → l < lists t → r < rules t → stranger o (listOwner t l) ≡ false → stranger o (ruleOwner t r) ≡ true → chooses t q s l r ≡ false
+  chooses-none : (q : ℕ → Bool) (s : List ℕ) (l r : ℕ) → l < lists t → r < rules t → stranger o (listOwner t l) ≡ false → stranger o (ruleOwner t r) ≡ true
+      → chooses t q s l r ≡ false
   unfolding chooses
   chooses-none q s l r b c h k =
       and-one-false (evaluated t q s r) (eqb (choiceIn t s r) l) (λ e d.
@@ -60,7 +63,8 @@ module _ (t : List ℕ) (f : Facts t) (o : ℕ) where
 
   -- The lists that are chosen, in the order that the table alone gives: both sides go through it in step.
 
-  if-alike : (c₁ c₂ : ℕ → Bool) (l : ℕ) (x y : Run) → l < lists t → (stranger o (listOwner t l) ≡ false → c₁ l ≡ c₂ l) → Alike t o x y → Alike t o (runIf t c₁ l x) (runIf t c₂ l y)
+  if-alike : (c₁ c₂ : ℕ → Bool) (l : ℕ) (x y : Run) → l < lists t → (stranger o (listOwner t l) ≡ false → c₁ l ≡ c₂ l) → Alike t o x y
+      → Alike t o (runIf t c₁ l x) (runIf t c₂ l y)
   if-alike c₁ c₂ l x y b same a =
       split (stranger o (listOwner t l))
       (λ h. alike-around t o a (if-unseen c₁ l x b h) (if-unseen c₂ l y b h))
@@ -68,7 +72,8 @@ module _ (t : List ℕ) (f : Facts t) (o : ℕ) where
       (λ e. rw (if-chosen t c₁ l x e, if-chosen t c₂ l y (sym (same h) ∙ e)) (list-follows t f o deepest l x y b h a))
       (λ e. rw (if-not t c₁ l x e, if-not t c₂ l y (sym (same h) ∙ e)) a))
 
-  run-alike : (c₁ c₂ : ℕ → Bool) (ls : List ℕ) (x y : Run) → Each (λ l. l < lists t) ls → ((l : ℕ) → l < lists t → stranger o (listOwner t l) ≡ false → c₁ l ≡ c₂ l)
+  run-alike : (c₁ c₂ : ℕ → Bool) (ls : List ℕ) (x y : Run) → Each (λ l. l < lists t) ls
+      → ((l : ℕ) → l < lists t → stranger o (listOwner t l) ≡ false → c₁ l ≡ c₂ l)
       → Alike t o x y → Alike t o (runChosen t c₁ ls x) (runChosen t c₂ ls y)
   unfolding runChosen
   run-alike c₁ c₂ [] x y e same a = a
@@ -120,7 +125,8 @@ module _ (t : List ℕ) where
   unfolding mentions expressionMentions nothing
   mentions-nothing zero e = refl
   mentions-nothing (suc d) e =
-      split (operator t e) (λ op. rw (op, expressionMentions, mentions-nothing d (left t e), mentions-nothing d (right t e), and-false)) (λ op. rw (op, expressionMentions))
+      split (operator t e) (λ op. rw (op, expressionMentions, mentions-nothing d (left t e), mentions-nothing d (right t e), and-false))
+      (λ op. rw (op, expressionMentions))
 
   evaluated-nothing : (s : List ℕ) (r : ℕ) → evaluated t nothing s r ≡ false
   unfolding evaluated
@@ -147,7 +153,8 @@ module _ (t : List ℕ) where
       ∙ each-keeps (λ x. x ≡ s) (unmarkPort nothing) 0 (ports t) s (λ p x a b e. e) refl)
 
 -- an arbitration of strangers' ports alone
-pub arbitrate-hidden : (t : List ℕ) (f : Facts t) (o : ℕ) (q : ℕ → Bool) → ((p : ℕ) → p < ports t → stranger o (portOwner t p) ≡ false → q p ≡ false) → (s : List ℕ)
+pub arbitrate-hidden : (t : List ℕ) (f : Facts t) (o : ℕ) (q : ℕ → Bool) → ((p : ℕ) → p < ports t → stranger o (portOwner t p) ≡ false → q p ≡ false)
+    → (s : List ℕ)
     → Alike t o (start s) (arbitrate t q s)
 unfolding nothing
 arbitrate-hidden t f o q h s =

@@ -49,7 +49,8 @@ module _ (t : List ℕ) (f : Facts t) (n : ℕ) (b : n < networks t) (m : ℕ) w
   other-word s j w d = ap networkOf (getD-set-other s j (networkIndex t n) w 0 d)
 
   -- one word more that asks n for nothing
-  one-more : (x : Run) (w : ℕ) → asks n w ≡ false → networkIn t n (x .state) .asked ≡ lastAsked n m (x .words) → networkIn t n (x .state) .asked ≡ lastAsked n m (x .words ++ (w ∷ []))
+  one-more : (x : Run) (w : ℕ) → asks n w ≡ false → networkIn t n (x .state) .asked ≡ lastAsked n m (x .words)
+      → networkIn t n (x .state) .asked ≡ lastAsked n m (x .words ++ (w ∷ []))
   one-more x w quiet q = q ∙ sym (last-more n m (x .words) w ∙ rw quiet)
 
   effect-asked : (o i : ℕ) (x : Run) → i < items t → Fits t (x .state) → networkIn t n (x .state) .asked ≡ lastAsked n m (x .words)
@@ -59,22 +60,29 @@ module _ (t : List ℕ) (f : Facts t) (n : ℕ) (b : n < networks t) (m : ℕ) w
       let named = f .item i h .1 in
       let w = traceWord (itemKind t i) o (itemA t i) (itemB t i) in
       let small : itemKind t i % 16 ≡ itemKind t i = mod-eq-of-lt (digit-small _ 16 _ (omega arith)) in
-      let kind : (k : ℕ) → itemKind t i ≡ k → (k ≡ itemAsk → ⊥) → asks n w ≡ false = λ k e d. other-kind n (itemKind t i) o (itemA t i) (itemB t i) (λ z. d (sym e ∙ sym small ∙ z)) in
+      let kind : (k : ℕ) → itemKind t i ≡ k → (k ≡ itemAsk → ⊥) → asks n w ≡ false = λ k e d. other-kind n (itemKind t i) o (itemA t i) (itemB t i)
+      (λ z. d (sym e ∙ sym small ∙ z)) in
       effect-cases (λ y. networkIn t n y .asked ≡ lastAsked n m (x .words ++ (w ∷ []))) t i (x .state)
-      (λ e. let there = port-there t portEvent (itemA t i) (clear-there t i named e) in ap (λ (c : Network). c .asked) (other-word (x .state) (itemA t i) _ (λ z. omega arith)) ∙ one-more x w (kind _ e (λ z. omega arith)) q)
-      (λ e. let there = port-there t portTimer (itemA t i) (start-there t i named e) in ap (λ (c : Network). c .asked) (other-word (x .state) (itemA t i) _ (λ z. omega arith)) ∙ one-more x w (kind _ e (λ z. omega arith)) q)
-      (λ e. let there = port-there t portTimer (itemA t i) (stop-there t i named e) in ap (λ (c : Network). c .asked) (other-word (x .state) (itemA t i) _ (λ z. omega arith)) ∙ one-more x w (kind _ e (λ z. omega arith)) q)
+      (λ e. let there = port-there t portEvent (itemA t i) (clear-there t i named e) in ap (λ (c : Network). c .asked)
+      (other-word (x .state) (itemA t i) _ (λ z. omega arith)) ∙ one-more x w (kind _ e (λ z. omega arith)) q)
+      (λ e. let there = port-there t portTimer (itemA t i) (start-there t i named e) in ap (λ (c : Network). c .asked)
+      (other-word (x .state) (itemA t i) _ (λ z. omega arith)) ∙ one-more x w (kind _ e (λ z. omega arith)) q)
+      (λ e. let there = port-there t portTimer (itemA t i) (stop-there t i named e) in ap (λ (c : Network). c .asked)
+      (other-word (x .state) (itemA t i) _ (λ z. omega arith)) ∙ one-more x w (kind _ e (λ z. omega arith)) q)
       (λ e. let there = ask-there t i named e in let few = f .counts .networks in let two = mode-small t i (f .item i h .0) e in
       split (eqb n (itemA t i))
       (λ z. let same : n ≡ itemA t i = eqb-true _ _ z in
-      rw (← same) (ap (λ (c : Network). c .asked) (asked-word t (x .state) n (itemB t i) b two fit) ∙ sym (last-more n m (x .words) _ ∙ asked-so o i e two same)))
-      (λ z. ap (λ (c : Network). c .asked) (ask-elsewhere (x .state) (itemA t i) _ (eqb-false _ _ z)) ∙ one-more x w (other-network n (itemKind t i) o (itemA t i) (itemB t i) (omega arith) (eqb-false _ _ z)) q))
+      rw (← same) (ap (λ (c : Network). c .asked) (asked-word t (x .state) n (itemB t i) b two fit) ∙ sym
+      (last-more n m (x .words) _ ∙ asked-so o i e two same)))
+      (λ z. ap (λ (c : Network). c .asked) (ask-elsewhere (x .state) (itemA t i) _ (eqb-false _ _ z)) ∙ one-more x w
+      (other-network n (itemKind t i) o (itemA t i) (itemB t i) (omega arith) (eqb-false _ _ z)) q))
       (λ e. one-more x w (other-kind n (itemKind t i) o (itemA t i) (itemB t i) (λ z. e (sym small ∙ z))) q)
     where
       ask-elsewhere : (s : List ℕ) (k : ℕ) (c : Network) → (n ≡ k → ⊥) → networkIn t n (setNetwork t k c s) ≡ networkIn t n s
       ask-elsewhere s k c d = unfold setNetwork in other-word s (networkIndex t k) _ (λ u. d (omega arith))
 
-      asked-so : (o i : ℕ) → itemKind t i ≡ itemAsk → itemB t i ≤ 2 → n ≡ itemA t i → cond (asks n (traceWord (itemKind t i) o n (itemB t i))) (traceB (traceWord (itemKind t i) o n (itemB t i))) (lastAsked n m (x .words)) ≡ itemB t i
+      asked-so : (o i : ℕ) → itemKind t i ≡ itemAsk → itemB t i ≤ 2 → n ≡ itemA t i
+          → cond (asks n (traceWord (itemKind t i) o n (itemB t i))) (traceB (traceWord (itemKind t i) o n (itemB t i))) (lastAsked n m (x .words)) ≡ itemB t i
       asked-so o i e two same =
           unfold asks in
           let few = f .counts .networks in
@@ -95,7 +103,8 @@ module _ (t : List ℕ) (f : Facts t) (n : ℕ) (b : n < networks t) (m : ℕ) w
         undefined = λ l i x w e q. (q .0, one-more x _ (other-kind n itemRule (listOwner t l) (itemA t i) undefinedResult (λ z. omega arith)) (q .1));
         judge = λ l i x w e u q. let there = rule-there t i (f .item i (item-there t f l i w) .1) e in (
           fit-kept t f .store (itemA t i) _ (x .state) there (result-small t (x .state) (itemA t i)) (q .0),
-          ap (λ (c : Network). c .asked) (other-word (x .state) (ruleIndex t (itemA t i)) _ (λ z. omega arith)) ∙ one-more x _ (other-kind n itemRule (listOwner t l) (itemA t i) _ (λ z. omega arith)) (q .1),
+          ap (λ (c : Network). c .asked) (other-word (x .state) (ruleIndex t (itemA t i)) _ (λ z. omega arith)) ∙ one-more x _
+              (other-kind n itemRule (listOwner t l) (itemA t i) _ (λ z. omega arith)) (q .1),
         );
         deep = λ x q. q;
       }
@@ -108,11 +117,15 @@ module _ (t : List ℕ) (f : Facts t) (n : ℕ) (b : n < networks t) (m : ℕ) w
       (each-keeps (λ x. networkIn t n x ≡ networkIn t n s) (unmarkPort q) 0 (ports t) s
       (λ p x a c h. split (q p) (λ e. rw e (other-word x p _ (λ z. omega arith) ∙ h)) (λ e. rw e h)) refl)
 
-  pub asked-last : (q : ℕ → Bool) (s : List ℕ) → Fits t s → networkIn t n s .asked ≡ m → networkIn t n (arbitrate t q s .state) .asked ≡ lastAsked n m (arbitrate t q s .words)
+  pub asked-last : (q : ℕ → Bool) (s : List ℕ) → Fits t s → networkIn t n s .asked ≡ m
+      → networkIn t n (arbitrate t q s .state) .asked ≡ lastAsked n m (arbitrate t q s .words)
   unfolding arbitrate lastAsked
   asked-last q s fit is =
-      decide-keeps t f AskedLast asked-acts q (unmarkPorts t q s)
-      (store-keeps t f (Fits t) (fit-kept t f) q _ (unmark-keeps t f (Fits t) (fit-kept t f) q s fit), ap (λ (c : Network). c .asked) (before-lists q s) ∙ is) .1
+      decide-keeps t f AskedLast asked-acts q (unmarkPorts t q s) (
+        store-keeps t f (Fits t) (fit-kept t f) q _ (unmark-keeps t f (Fits t) (fit-kept t f) q s fit),
+        ap (λ (c : Network). c .asked)
+            (before-lists q s) ∙ is,
+      ) .1
 
 -- full, if that was asked before and no word asks for another mode
 pub full-last : (n : ℕ) (ws : List ℕ) → anyWord (asksOther n) ws ≡ false → lastAsked n askedFull ws ≡ askedFull

@@ -12,9 +12,12 @@ use borrow.Author.Tests.{eqb-true, eqb-false}
 use Rattle.rulebook.specs.Words.{word, digit}
 use Rattle.rulebook.specs.Table.{ports, networks, sources, portKind, portEvent, portTimer, networkPort, sourcePort}
 use Rattle.rulebook.specs.Reasons.{accepted}
-use Rattle.rulebook.specs.State.{fresh, networkIndex, sourceIndex, valueOf, askedNone, askedSilent, askedFull, stateNone, stateSilent, stateCheck, stateRecover, statusNone, statusPending, statusExpired, timerStarted, Network, networkOf, packNetwork}
+use Rattle.rulebook.specs.State.{fresh, networkIndex, sourceIndex, valueOf, askedNone, askedSilent, askedFull, stateNone, stateSilent, stateCheck}
+use Rattle.rulebook.specs.State.{stateRecover, statusNone, statusPending, statusExpired, timerStarted, Network, networkOf, packNetwork}
 use Rattle.rulebook.specs.Lists.{Run, setPort, networkIn, setNetwork}
-use Rattle.rulebook.specs.Events.{eventIndex, eventValue, only, request, statusIn, setSource, moveSource, wake, validate, clear, shown, moveNetwork, takes, counterPlusOne, offBus, busOff, countedNetwork, tickedNetwork, tickNetwork, remainingIn, tickSource, tickTimer, tickThings, arbitrateMarked, tick, happen}
+use Rattle.rulebook.specs.Events.{eventIndex, eventValue, only, request, statusIn, setSource, moveSource, wake, validate, clear, shown, moveNetwork, takes}
+use Rattle.rulebook.specs.Events.{counterPlusOne, offBus, busOff, countedNetwork, tickedNetwork, tickNetwork, remainingIn, tickSource, tickTimer, tickThings}
+use Rattle.rulebook.specs.Events.{arbitrateMarked, tick, happen}
 use Rattle.laws.specs.Facts.{Facts}
 use Rattle.laws.proofs.Tests.{split}
 use Rattle.laws.proofs.Facts.{facts}
@@ -67,13 +70,15 @@ module _ (t : List ℕ) (f : Facts t) (n : ℕ) (b : n < networks t) where
       (λ e. rw e (asks-port a (sourcePort t k) _ _ _ _ (may-show t _ (f .source k c .may) .there) one))
 
   -- a network that is moved keeps what it is asked
-  asks-network : (a m : ℕ) (c : Network) (s : List ℕ) → m < networks t → Fits t s → NetworkOk t m c → c .asked ≡ networkIn t m s .asked → Asks a s → Asks a (moveNetwork t m c s)
+  asks-network : (a m : ℕ) (c : Network) (s : List ℕ) → m < networks t → Fits t s → NetworkOk t m c → c .asked ≡ networkIn t m s .asked → Asks a s
+      → Asks a (moveNetwork t m c s)
   unfolding moveNetwork setNetwork
   asks-network a m c s u fit ok same h =
       let len = fits-length t s fit in
       let one : Asks a (setNetwork t m c s) = split (eqb m n)
       (λ e. let is : m ≡ n = eqb-true _ _ e in
-      rw is (ap (λ (x : ℕ). networkOf x .asked) (getD-set-same s (networkIndex t n) (packNetwork c) 0 (omega arith)) ∙ ap (λ (x : Network). x .asked) (network-again c (network-small t m c ok)) ∙ (rw is at same) ∙ h))
+      rw is (ap (λ (x : ℕ). networkOf x .asked) (getD-set-same s (networkIndex t n) (packNetwork c) 0 (omega arith)) ∙ ap (λ (x : Network). x .asked)
+      (network-again c (network-small t m c ok)) ∙ (rw is at same) ∙ h))
       (λ e. let d : (m ≡ n → ⊥) = eqb-false _ _ e in asks-other a (networkIndex t m) _ s (λ z. d (omega arith)) h) in
       split (eqb (shown (c .state)) (shown (networkIn t m s .state))) (λ e. rw e one)
       (λ e. rw e (asks-port a (networkPort t m) _ _ _ _ (may-show t _ (f .network m u .may) .there) one))
@@ -109,7 +114,8 @@ module _ (t : List ℕ) (f : Facts t) (n : ℕ) (b : n < networks t) where
   AskedBy s x = networkIn t n (x .state) .asked ≡ lastAsked n (networkIn t n s .asked) (x .words)
 
   -- one event
-  pub asked-after : (e : ℕ) (s : List ℕ) → Taken t e → Fits t s → networkIn t n (happen t e s .state) .asked ≡ lastAsked n (networkIn t n s .asked) (happen t e s .words)
+  pub asked-after : (e : ℕ) (s : List ℕ) → Taken t e → Fits t s
+      → networkIn t n (happen t e s .state) .asked ≡ lastAsked n (networkIn t n s .asked) (happen t e s .words)
   asked-after e s w fit = go (happen t e) (event t e w)
     where
       by-request : (q v : ℕ) → q < ports t → (portKind t q ≡ portTimer → ⊥) → v < 256 → (portKind t q ≡ portEvent → v ≤ 1) → AskedBy s (request t q v s)
@@ -118,12 +124,14 @@ module _ (t : List ℕ) (f : Facts t) (n : ℕ) (b : n < networks t) where
           request-cases t f (AskedBy s) q v s c nt v₈ ev fit
           (λ fit₁. asks-port _ q _ _ _ s c refl) (λ fit₁. asked-last t f n b _ (only q) _ fit₁ (asks-port _ q _ _ _ s c refl))
 
-      bus-off-asks : (m : ℕ) → m < networks t → Asks (networkIn t n s .asked) (moveNetwork t m (offBus t m (counterPlusOne (networkIn t m s)) (networkIn t m s)) s)
+      bus-off-asks : (m : ℕ) → m < networks t → Asks (networkIn t n s .asked)
+          (moveNetwork t m (offBus t m (counterPlusOne (networkIn t m s)) (networkIn t m s)) s)
       bus-off-asks m c = asks-network _ m _ s c fit (off-bus-ok t f m _ _ c (network-in t s fit m c) (omega arith) (omega arith)) (unfold offBus in refl) refl
 
       go : (g : List ℕ → Run) → Event t e g → AskedBy s (g s)
       go g (aTick k o) = unfold tick arbitrateMarked in asked-last t f n b _ _ _ (things-fit t f s fit) (asks-things _ s fit refl)
-      go g (aMode k of m free) = by-request (eventIndex e) (eventValue e) (of .there) (λ z. omega arith) (digit-small _ 256 _ (omega arith)) (λ z. absurd (omega arith))
+      go g (aMode k of m free) =
+          by-request (eventIndex e) (eventValue e) (of .there) (λ z. omega arith) (digit-small _ 256 _ (omega arith)) (λ z. absurd (omega arith))
       go g (aRequest k of m) = by-request (eventIndex e) 1 (of .there) (λ z. omega arith) (omega arith) (λ z. omega arith)
       go g (aWakeup k of) =
           unfold wake lastAsked in
@@ -132,11 +140,13 @@ module _ (t : List ℕ) (f : Facts t) (n : ℕ) (b : n < networks t) where
       go g (aValid k of) =
           unfold validate lastAsked in
           split (eqb (statusIn t (eventIndex e) s) statusPending) (λ d. rw d (asks-source _ (eventIndex e) _ _ s (of .there) refl)) (λ d. rw d refl)
-      go g (aBusOff k of) = unfold busOff lastAsked in split (takes (networkIn t (eventIndex e) s)) (λ d. rw d (bus-off-asks (eventIndex e) (of .there))) (λ d. rw d refl)
+      go g (aBusOff k of) =
+          unfold busOff lastAsked in split (takes (networkIn t (eventIndex e) s)) (λ d. rw d (bus-off-asks (eventIndex e) (of .there))) (λ d. rw d refl)
       go g (aClear k of) = unfold clear lastAsked in asks-source _ (eventIndex e) _ _ s (of .there) refl
 
 -- a log
-pub asked-in : (t : List ℕ) → accepted t ≡ true → (n : ℕ) → n < networks t → (s : List ℕ) (xs : List Entry) → Log t s xs → Fits t s → networkIn t n (stateAfter s xs) .asked ≡ lastAskedIn n (networkIn t n s .asked) xs
+pub asked-in : (t : List ℕ) → accepted t ≡ true → (n : ℕ) → n < networks t → (s : List ℕ) (xs : List Entry) → Log t s xs → Fits t s
+    → networkIn t n (stateAfter s xs) .asked ≡ lastAskedIn n (networkIn t n s .asked) xs
 unfolding stateAfter lastAskedIn
 asked-in t h n b s [] l fit = refl
 asked-in t h n b s (x ∷ xs) l fit =
@@ -147,7 +157,8 @@ asked-in t h n b s (x ∷ xs) l fit =
     ∙ ap (λ (ws : List ℕ). lastAsked n (networkIn t n s .asked) ws) (sym (f .words)) in
     asked-in t h n b (x .state) xs (l .1) (entry-fits t h s x f fit) ∙ ap (λ (a : ℕ). lastAskedIn n a xs) one
 
-pub asked-from-fresh : (t : List ℕ) → accepted t ≡ true → (n : ℕ) → n < networks t → (xs : List Entry) → Log t (fresh t) xs → networkIn t n (stateAfter (fresh t) xs) .asked ≡ lastAskedIn n askedNone xs
+pub asked-from-fresh : (t : List ℕ) → accepted t ≡ true → (n : ℕ) → n < networks t → (xs : List Entry) → Log t (fresh t) xs
+    → networkIn t n (stateAfter (fresh t) xs) .asked ≡ lastAskedIn n askedNone xs
 unfolding digit
 asked-from-fresh t h n b xs l =
     asked-in t h n b (fresh t) xs l (fresh-fits t h) ∙ ap (λ (w : ℕ). lastAskedIn n (networkOf w .asked) xs) (fresh-network t n b)

@@ -40,10 +40,12 @@ module _ (t : List ℕ) (f : Facts t) where
 
   item-asks : (l i : ℕ) → Within t l i → AsksOwn t (traceWord (itemKind t i) (listOwner t l) (itemA t i) (itemB t i))
   item-asks l i w k =
-      let kind : itemKind t i ≡ itemAsk = sym (mod-eq-of-lt (digit-small _ 16 _ (omega arith))) ∙ sym (trace-kind (itemKind t i) (listOwner t l) (itemA t i) (itemB t i)) ∙ k in
+      let kind : itemKind t i ≡ itemAsk = sym (mod-eq-of-lt (digit-small _ 16 _ (omega arith))) ∙ sym
+      (trace-kind (itemKind t i) (listOwner t l) (itemA t i) (itemB t i)) ∙ k in
       let there : itemA t i < networks t = ask-there t i (f .item i (item-there t f l i w) .1) kind in
       let few : networks t ≤ 8 = f .counts .networks in
-      let number : traceA (traceWord (itemKind t i) (listOwner t l) (itemA t i) (itemB t i)) ≡ itemA t i = trace-a (itemKind t i) (listOwner t l) (itemA t i) (itemB t i) ∙ mod-eq-of-lt (omega arith) in
+      let number : traceA (traceWord (itemKind t i) (listOwner t l) (itemA t i) (itemB t i)) ≡ itemA t i = trace-a (itemKind t i) (listOwner t l) (itemA t i)
+      (itemB t i) ∙ mod-eq-of-lt (omega arith) in
       let own = word-owner t l (itemKind t i) (itemA t i) (itemB t i) in
       split (eqb (listOwner t l) platform) (λ e. inr (own ∙ eqb-true _ _ e))
       (λ e. inl (own ∙ rw number (sym (network-owned t (listOwner t l) i (f .list l (w .list) .owned i (w .from) (w .below)) e kind))))
@@ -70,7 +72,8 @@ module _ (t : List ℕ) (f : Facts t) where
   pub happen-asks-own : (e : ℕ) (s : List ℕ) → AllAskOwn (happen t e s)
   unfolding tick arbitrateMarked
   happen-asks-own e s =
-      happen-cases AllAskOwn t e s (λ k. arbitrate-asks-own _ _) (λ k. request-asks-own _ _ s) (λ k. request-asks-own _ _ s) (λ k. tt) (λ k. tt) (λ k. tt) (λ k. tt)
+      happen-cases AllAskOwn t e s (λ k. arbitrate-asks-own _ _) (λ k. request-asks-own _ _ s) (λ k. request-asks-own _ _ s) (λ k. tt) (λ k. tt)
+      (λ k. tt) (λ k. tt)
 
 -- So the words of its owner and of the platform tell whether a network is asked for another mode.
 
@@ -82,7 +85,8 @@ asks-no-stranger t n w h a =
     ⊎-elim (λ e. let own : traceOwner w ≡ networkOwner t n = e ∙ ap (networkOwner t) number in rw own (self-known (networkOwner t n)))
     (λ e. rw e (platform-known (networkOwner t n))) (h kind)
 
-pub asks-in-own-words : (t : List ℕ) (n : ℕ) (ws : List ℕ) → Each (AsksOwn t) ws → anyWord (asksOther n) ws ≡ anyWord (asksOther n) (ownWords (networkOwner t n) ws)
+pub asks-in-own-words : (t : List ℕ) (n : ℕ) (ws : List ℕ) → Each (AsksOwn t) ws
+    → anyWord (asksOther n) ws ≡ anyWord (asksOther n) (ownWords (networkOwner t n) ws)
 unfolding anyWord ownWords
 asks-in-own-words t n [] a = refl
 asks-in-own-words t n (w ∷ ws) a =

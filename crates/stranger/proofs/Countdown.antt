@@ -12,14 +12,16 @@ use Rattle.rulebook.specs.Table.{networks, threshold, eTicks}
 use Rattle.rulebook.specs.Reasons.{accepted}
 use Rattle.rulebook.specs.State.{Network, askedNone, askedFull, stateCheck, stateFull, stateRecover, fresh}
 use Rattle.rulebook.specs.Lists.{networkIn}
-use Rattle.rulebook.specs.Events.{eventKind, eventIndex, eventTick, eventBusOff, shown, moved, takes, counterPlusOne, wait, offBus, countedNetwork, tickedNetwork, happen}
+use Rattle.rulebook.specs.Events.{eventKind, eventIndex, eventTick, eventBusOff, shown, moved, takes, counterPlusOne, wait, offBus, countedNetwork}
+use Rattle.rulebook.specs.Events.{tickedNetwork, happen}
 use Rattle.laws.proofs.Tests.{split, part-of, and-left, and-right}
 use Rattle.laws.proofs.Facts.{facts}
 use Rattle.laws.proofs.FitKept.{Fits}
 use Rattle.laws.proofs.Happen.{Taken, of-network}
 use Rattle.laws.proofs.Steps.{fresh-fits}
 use Rattle.stranger.specs.Logs.{Entry, Follows, Log, stateAfter}
-use Rattle.stranger.specs.Demand.{ticks, tickCount, shows, busOffTaken, loaded, asksOther, anyWord, asksAnother, lastAskedIn, leftAlone, Phase, modeToShow}
+use Rattle.stranger.specs.Demand.{ticks, tickCount, shows, busOffTaken, loaded, asksOther, anyWord, asksAnother, lastAskedIn, leftAlone, Phase}
+use Rattle.stranger.specs.Demand.{modeToShow}
 use Rattle.stranger.proofs.Logs.{taken, after-append, log-parts, entry-fits, log-fits}
 use Rattle.stranger.proofs.Moves.{nextNetwork, network-moves}
 use Rattle.stranger.proofs.Shows.{network-shows}
@@ -46,11 +48,13 @@ counts-in : (t : List ℕ) (n : ℕ) (c : Network) (st : ℕ) → c .asked ≡ a
 unfolding tickedNetwork
 counts-in t n c st a e two = rw (a, e, ne-eqb st 0 (λ z. omega arith), ne-eqb st 1 (λ z. omega arith))
 
-recover-last : (t : List ℕ) (n : ℕ) (c : Network) → c .state ≡ stateRecover → c .remaining ≤ 1 → countedNetwork t n c ≡ moved stateCheck (c .counter) (eTicks t n) c
+recover-last : (t : List ℕ) (n : ℕ) (c : Network) → c .state ≡ stateRecover → c .remaining ≤ 1
+    → countedNetwork t n c ≡ moved stateCheck (c .counter) (eTicks t n) c
 unfolding countedNetwork
 recover-last t n c e r = rw (e, le-leb (c .remaining) 1 r)
 
-recover-on : (t : List ℕ) (n : ℕ) (c : Network) → c .state ≡ stateRecover → 1 < c .remaining → countedNetwork t n c ≡ moved stateRecover (c .counter) (c .remaining - 1) c
+recover-on : (t : List ℕ) (n : ℕ) (c : Network) → c .state ≡ stateRecover → 1 < c .remaining
+    → countedNetwork t n c ≡ moved stateRecover (c .counter) (c .remaining - 1) c
 unfolding countedNetwork
 recover-on t n c e r = rw (e, lt-leb (c .remaining) 1 r)
 
@@ -58,7 +62,8 @@ check-last : (t : List ℕ) (n : ℕ) (c : Network) → c .state ≡ stateCheck 
 unfolding countedNetwork
 check-last t n c e r = rw (e, le-leb (c .remaining) 1 r)
 
-check-on : (t : List ℕ) (n : ℕ) (c : Network) → c .state ≡ stateCheck → 1 < c .remaining → countedNetwork t n c ≡ moved stateCheck (c .counter) (c .remaining - 1) c
+check-on : (t : List ℕ) (n : ℕ) (c : Network) → c .state ≡ stateCheck → 1 < c .remaining
+    → countedNetwork t n c ≡ moved stateCheck (c .counter) (c .remaining - 1) c
 unfolding countedNetwork
 check-on t n c e r = rw (e, lt-leb (c .remaining) 1 r)
 
@@ -69,7 +74,8 @@ full-stays t n c e = rw e
 phase-here : (L E k : ℕ) (c x : Network) → c ≡ x → PhaseOf L E k x → PhaseOf L E k c
 phase-here L E k c x e p = phase-same L E k c x (ap (λ (u : Network). u .state) e) (ap (λ (u : Network). u .remaining) e) p
 
-phase-tick : (t : List ℕ) (n L k : ℕ) (c : Network) → 1 ≤ eTicks t n → c .asked ≡ askedFull → PhaseOf L (eTicks t n) k c → PhaseOf L (eTicks t n) (suc k) (tickedNetwork t n c)
+phase-tick : (t : List ℕ) (n L k : ℕ) (c : Network) → 1 ≤ eTicks t n → c .asked ≡ askedFull → PhaseOf L (eTicks t n) k c
+    → PhaseOf L (eTicks t n) (suc k) (tickedNetwork t n c)
 phase-tick t n L k c one a p =
     let E = eTicks t n in
     split (ltb k L)
@@ -111,14 +117,17 @@ module _ (t : List ℕ) (h : accepted t ≡ true) (n : ℕ) (b : n < networks t)
   unfolding nextNetwork
   next-tick e s k = rw k
 
-  next-same : (e : ℕ) (s : List ℕ) → eqb (eventKind e) eventTick ≡ false → (eqb (eventKind e) eventBusOff && eqb (eventIndex e) n && takes (networkIn t n s)) ≡ false → nextNetwork t (facts t h) n b e s ≡ networkIn t n s
+  next-same : (e : ℕ) (s : List ℕ) → eqb (eventKind e) eventTick ≡ false
+      → (eqb (eventKind e) eventBusOff && eqb (eventIndex e) n && takes (networkIn t n s)) ≡ false → nextNetwork t (facts t h) n b e s ≡ networkIn t n s
   unfolding nextNetwork
   next-same e s k d = rw (k, d)
 
-  tick-done : (k : ℕ) (s : List ℕ) (e : ℕ) → eventKind e ≡ eventTick → Taken t e → Fits t s → networkIn t n s .asked ≡ askedFull → At k s → At (suc k) (happen t e s .state)
+  tick-done : (k : ℕ) (s : List ℕ) (e : ℕ) → eventKind e ≡ eventTick → Taken t e → Fits t s → networkIn t n s .asked ≡ askedFull → At k s
+      → At (suc k) (happen t e s .state)
   tick-done k s e is w fit a p = next-is e s (suc k) w fit (rw (next-tick e s is) (phase-tick t n L k (networkIn t n s) (facts t h .waits n b .eticks) a p))
 
-  entry-phase : (k : ℕ) (s : List ℕ) (x : Entry) → Follows t s x → Fits t s → networkIn t n s .asked ≡ askedFull → busOffTaken t n s x ≡ false → At k s → At (cond (ticks x) 1 0 + k) (x .state)
+  entry-phase : (k : ℕ) (s : List ℕ) (x : Entry) → Follows t s x → Fits t s → networkIn t n s .asked ≡ askedFull → busOffTaken t n s x ≡ false → At k s
+      → At (cond (ticks x) 1 0 + k) (x .state)
   unfolding ticks busOffTaken
   entry-phase k s x f fit a quiet p =
       rw (f .state)
@@ -126,7 +135,8 @@ module _ (t : List ℕ) (h : accepted t ≡ true) (n : ℕ) (b : n < networks t)
       (λ d. let one : 1 + k ≡ suc k = omega arith in rw (d, one) (tick-done k s (x .event) (eqb-true _ _ d) (taken f) fit a p))
       (λ d. rw (d, zero-add k) (next-is (x .event) s k (taken f) fit (rw (next-same (x .event) s d quiet) p))))
 
-  entry-asked : (s : List ℕ) (x : Entry) → Follows t s x → Fits t s → networkIn t n s .asked ≡ askedFull → asksAnother n x ≡ false → networkIn t n (x .state) .asked ≡ askedFull
+  entry-asked : (s : List ℕ) (x : Entry) → Follows t s x → Fits t s → networkIn t n s .asked ≡ askedFull → asksAnother n x ≡ false
+      → networkIn t n (x .state) .asked ≡ askedFull
   unfolding asksAnother
   entry-asked s x f fit a quiet =
       ap (λ (y : List ℕ). networkIn t n y .asked) (f .state)
@@ -134,7 +144,8 @@ module _ (t : List ℕ) (h : accepted t ≡ true) (n : ℕ) (b : n < networks t)
       ∙ rw a (full-last n (happen t (x .event) s .words) (rw (f .words) at quiet))
 
   -- a log that leaves n alone
-  log-phase : (xs : List Entry) (k : ℕ) (s : List ℕ) → Log t s xs → Fits t s → networkIn t n s .asked ≡ askedFull → leftAlone t n s xs ≡ true → At k s → At (tickCount xs + k) (stateAfter s xs) × (networkIn t n (stateAfter s xs) .asked ≡ askedFull)
+  log-phase : (xs : List Entry) (k : ℕ) (s : List ℕ) → Log t s xs → Fits t s → networkIn t n s .asked ≡ askedFull → leftAlone t n s xs ≡ true → At k s
+      → At (tickCount xs + k) (stateAfter s xs) × (networkIn t n (stateAfter s xs) .asked ≡ askedFull)
   unfolding leftAlone tickCount stateAfter
   log-phase [] k s l fit a alone p = (rw (zero-add k) p, a)
   log-phase (x ∷ xs) k s l fit a alone p =
@@ -183,11 +194,16 @@ module _ (t : List ℕ) (h : accepted t ≡ true) (n : ℕ) (s : List ℕ) (fit 
   unfolding offBus
   start-phase =
       rw (f .state) (next-is t h n there (loaded t n s) (x .event) s 0 (taken f) fit
-      (rw next-off (record { recovering = λ z. (refl, omega arith); checking = λ z y. let one = wait-some in absurd (omega arith); settled = λ z. let one = wait-some in absurd (omega arith) })))
+      (rw next-off (record {
+        recovering = λ z. (refl, omega arith);
+        checking = λ z y. let one = wait-some in absurd (omega arith);
+        settled = λ z. let one = wait-some in absurd (omega arith);
+      })))
 
   start-asked : networkIn t n s .asked ≡ askedFull → networkIn t n (x .state) .asked ≡ askedFull
   unfolding asksAnother anyWord
-  start-asked a = entry-asked t h n there (loaded t n s) s x f fit a (ap (anyWord (asksOther n)) (f .words ∙ no-words t s (x .event) (starts t n s x off .kind)))
+  start-asked a =
+      entry-asked t h n there (loaded t n s) s x f fit a (ap (anyWord (asksOther n)) (f .words ∙ no-words t s (x .event) (starts t n s x off .kind)))
 
 -- The theorem.
 
@@ -223,7 +239,8 @@ module _ (t : List ℕ) (h : accepted t ≡ true) (n : ℕ) (before : List Entry
     asked₁ = start-asked t h n s₀ fit₀ x here off (asked-from-fresh t h n n-there before (log-parts t (fresh t) before (x ∷ xs) log .0) ∙ full)
 
     run : (ys zs : List Entry) → xs ≡ ys ++ zs → leftAlone t n (x .state) ys ≡ true
-        → PhaseOf (loaded t n s₀) (eTicks t n) (tickCount ys) (networkIn t n (stateAfter (x .state) ys)) × (networkIn t n (stateAfter (x .state) ys) .asked ≡ askedFull)
+        → PhaseOf (loaded t n s₀) (eTicks t n) (tickCount ys) (networkIn t n (stateAfter (x .state) ys)) ×
+        (networkIn t n (stateAfter (x .state) ys) .asked ≡ askedFull)
     run ys zs parts alone =
         let l = log-parts t (x .state) ys zs (rw parts at rest) .0 in
         let r = log-phase t h n n-there (loaded t n s₀) ys 0 (x .state) l (entry-fits t h s₀ x here fit₀) asked₁ alone (start-phase t h n s₀ fit₀ x here off) in
@@ -235,11 +252,13 @@ module _ (t : List ℕ) (h : accepted t ≡ true) (n : ℕ) (before : List Entry
     shown-last = rw (after-append (fresh t) before (x ∷ xs)) at (network-shows t h n n-there (before ++ x ∷ xs) log .value)
 
   -- after entries that leave it alone: between ticks nothing of it changes
-  pub network-between : (xs : List Entry) → Log t (fresh t) (before ++ x ∷ xs) → leftAlone t n (x .state) xs ≡ true → Phase t n (loaded t n s₀) (tickCount xs) (stateAfter (x .state) xs)
+  pub network-between : (xs : List Entry) → Log t (fresh t) (before ++ x ∷ xs) → leftAlone t n (x .state) xs ≡ true
+      → Phase t n (loaded t n s₀) (tickCount xs) (stateAfter (x .state) xs)
   network-between xs log alone = phase-shown t n _ _ _ (shown-last xs log) (run xs log xs [] (sym (append-nil xs)) alone .0)
 
   -- and after the next tick, whatever that tick's own lists ask for
-  pub network-at-tick : (xs : List Entry) (d : Entry) → Log t (fresh t) (before ++ x ∷ (xs ++ d ∷ [])) → leftAlone t n (x .state) xs ≡ true → ticks d ≡ true → Phase t n (loaded t n s₀) (suc (tickCount xs)) (d .state)
+  pub network-at-tick : (xs : List Entry) (d : Entry) → Log t (fresh t) (before ++ x ∷ (xs ++ d ∷ [])) → leftAlone t n (x .state) xs ≡ true → ticks d ≡ true
+      → Phase t n (loaded t n s₀) (suc (tickCount xs)) (d .state)
   unfolding ticks stateAfter
   network-at-tick xs d log alone is =
       let r = run (xs ++ d ∷ []) log xs (d ∷ []) refl alone in
@@ -247,4 +266,5 @@ module _ (t : List ℕ) (h : accepted t ≡ true) (n : ℕ) (before : List Entry
       let last : Follows t (stateAfter (x .state) xs) d = parts .1 .0 in
       let fit₂ = log-fits t h (x .state) xs (parts .0) (entry-fits t h s₀ x (here (xs ++ d ∷ []) log) (fit₀ (xs ++ d ∷ []) log)) in
       phase-shown t n _ _ (d .state) (rw (after-append (x .state) xs (d ∷ [])) at (shown-last (xs ++ d ∷ []) log))
-      (rw (last .state) (tick-done t h n (n-there (xs ++ d ∷ []) log) (loaded t n s₀) (tickCount xs) (stateAfter (x .state) xs) (d .event) (eqb-true _ _ is) (taken last) fit₂ (r .1) (r .0)))
+      (rw (last .state) (tick-done t h n (n-there (xs ++ d ∷ []) log) (loaded t n s₀) (tickCount xs) (stateAfter (x .state) xs) (d .event) (eqb-true _ _ is)
+      (taken last) fit₂ (r .1) (r .0)))

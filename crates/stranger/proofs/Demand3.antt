@@ -47,7 +47,8 @@ module _ (t : List ℕ) (h : accepted t ≡ true) (Went : List Entry → Type 0)
       let f = last xs x w in
       let status = ended-status t h k (stateAfter (fresh t) xs) x f over (fit xs x w) pending in
       let there = ended-there t h k (stateAfter (fresh t) xs) x f over in
-      let v : showsStatus t k (x .state) ≡ statusIn t k (x .state) = rw (after-append (fresh t) xs (x ∷ [])) at (source-shows t h k there (xs ++ x ∷ []) (log _ w) .value) in
+      let v : showsStatus t k (x .state) ≡ statusIn t k (x .state) = rw (after-append (fresh t) xs (x ∷ [])) at
+      (source-shows t h k there (xs ++ x ∷ []) (log _ w) .value) in
       (status, v ∙ status)
 
   pub source-waits : SourceWaits t (fresh t) Went

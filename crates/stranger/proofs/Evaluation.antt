@@ -7,7 +7,8 @@ use Prim.Native.Nat.{ℕ, zero, suc, _<_}
 use lib.Dec.{eqb}
 use borrow.Author.Tests.{ltb-true, eqb-true, not-true}
 use Rattle.rulebook.specs.Words.{word}
-use Rattle.rulebook.specs.Table.{ports, expressions, rules, portOwner, expressionKind, conditionPort, left, right, ruleOwner, ruleExpression, platform, stranger}
+use Rattle.rulebook.specs.Table.{ports, expressions, rules, portOwner, expressionKind, conditionPort, left, right, ruleOwner, ruleExpression, platform}
+use Rattle.rulebook.specs.Table.{stranger}
 use Rattle.rulebook.specs.Expressions.{deepest, operator, isNot, expressionMentions, mentions, condition, joined, expressionHolds, holds}
 use Rattle.rulebook.specs.State.{ruleIndex}
 use Rattle.rulebook.specs.Reasons.{expressionNames, strangersPort, ruleOwned}
@@ -28,7 +29,8 @@ module _ (t : List ℕ) (f : Facts t) (e : ℕ) (b : e < expressions t) where
   right-there : operator t e ≡ true → isNot t e ≡ false → right t e < expressions t
   unfolding expressionNames
   right-there h n =
-      ltb-true _ _ (implies-elim (operator t e && not (isNot t e)) _ (part-of _ (λ d. rw (expressionNames, d, and-false) at (f .expression e b .0))) (and-both _ _ h (ap not n)))
+      ltb-true _ _ (implies-elim (operator t e && not (isNot t e)) _ (part-of _ (λ d. rw (expressionNames, d, and-false) at (f .expression e b .0)))
+      (and-both _ _ h (ap not n)))
 
   port-named : operator t e ≡ false → conditionPort t e < ports t
   unfolding expressionNames
@@ -39,7 +41,8 @@ pub record Unmentioned (t : List ℕ) (q : ℕ → Bool) (P : ℕ → ℕ → Ty
   pub condition : (d e : ℕ) → operator t e ≡ false → conditionPort t e < ports t → q (conditionPort t e) ≡ false → P (suc d) e
   pub operator : (d e : ℕ) → operator t e ≡ true → P d (left t e) → (isNot t e ≡ false → P d (right t e)) → P (suc d) e
 
-pub unmentioned : (t : List ℕ) (f : Facts t) (q : ℕ → Bool) (P : ℕ → ℕ → Type 0) → Unmentioned t q P → (d e : ℕ) → e < expressions t → mentions d t q e ≡ false → P d e
+pub unmentioned : (t : List ℕ) (f : Facts t) (q : ℕ → Bool) (P : ℕ → ℕ → Type 0) → Unmentioned t q P → (d e : ℕ) → e < expressions t
+    → mentions d t q e ≡ false → P d e
 unfolding mentions expressionMentions
 unmentioned t f q P u zero e b h = u .none e
 unmentioned t f q P u (suc d) e b h =

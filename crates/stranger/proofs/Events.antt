@@ -9,11 +9,14 @@ use lib.ListN.{set}
 use lib.Dec.{leb, eqb}
 use borrow.Author.Tests.{ltb-true, ne-eqb}
 use Rattle.rulebook.specs.Words.{word}
-use Rattle.rulebook.specs.Table.{ports, networks, sources, portKind, portTimer, portOwner, deferred, networkOwner, networkPort, sourceOwner, sourcePort, timeout, platform, stranger}
-use Rattle.rulebook.specs.State.{networkIndex, sourceIndex, markedOf, valueOf, remainingOf, timerStarted, timerExpired, Network, networkOf, statusOf, statusNone, statusPending, statusValidated, statusExpired}
+use Rattle.rulebook.specs.Table.{ports, networks, sources, portKind, portTimer, portOwner, deferred, networkOwner, networkPort, sourceOwner, sourcePort}
+use Rattle.rulebook.specs.Table.{timeout, platform, stranger}
+use Rattle.rulebook.specs.State.{networkIndex, sourceIndex, markedOf, valueOf, remainingOf, timerStarted, timerExpired, Network, networkOf, statusOf}
+use Rattle.rulebook.specs.State.{statusNone, statusPending, statusValidated, statusExpired}
 use Rattle.rulebook.specs.Reasons.{mayShow}
 use Rattle.rulebook.specs.Lists.{Run, start, setPort, setNetwork}
-use Rattle.rulebook.specs.Events.{eventOwner, eventIndex, eventValue, only, request, setSource, moveSource, wake, validate, clear, shown, moveNetwork, takes, offBus, busOff, tickedNetwork, tickNetwork, tickSource, tickTimer, tickThings, markedIn, arbitrateMarked, tick, happen}
+use Rattle.rulebook.specs.Events.{eventOwner, eventIndex, eventValue, only, request, setSource, moveSource, wake, validate, clear, shown, moveNetwork, takes}
+use Rattle.rulebook.specs.Events.{offBus, busOff, tickedNetwork, tickNetwork, tickSource, tickTimer, tickThings, markedIn, arbitrateMarked, tick, happen}
 use Rattle.laws.specs.Facts.{Facts, Shows}
 use Rattle.laws.proofs.Tests.{split, clash, part-of}
 use Rattle.laws.proofs.Walks.{each-alike}
@@ -143,7 +146,8 @@ module _ (t : List ℕ) (f : Facts t) (o : ℕ) where
     tick-timer =
         by-word p (port-word t o p b)
         (λ u. choose (eqb (portKind t p) portTimer && eqb (valueOf u) timerStarted)
-        (choose (leb (remainingOf u) 1) (put-port p 1 timerExpired 0 (port-word t o p b)) (put-port p (markedOf u) timerStarted (remainingOf u - 1) (port-word t o p b))) stay)
+        (choose (leb (remainingOf u) 1) (put-port p 1 timerExpired 0 (port-word t o p b))
+        (put-port p (markedOf u) timerStarted (remainingOf u - 1) (port-word t o p b))) stay)
 
     -- of the ports of o and of the platform, a stranger's is none
     only-hidden : stranger o (portOwner t p) ≡ true → (x : ℕ) → x < ports t → stranger o (portOwner t x) ≡ false → only p x ≡ false

@@ -10,9 +10,11 @@ use borrow.Author.Tests.{eqb-true, eqb-false, eq-eqb, ne-eqb, le-leb}
 use Rattle.rulebook.specs.Words.{word}
 use Rattle.rulebook.specs.Table.{networks, sources, timeout}
 use Rattle.rulebook.specs.Reasons.{accepted}
-use Rattle.rulebook.specs.State.{sourceIndex, Network, askedNone, askedSilent, askedFull, stateNone, stateSilent, stateCheck, stateRecover, statusOf, statusNone, statusPending, statusValidated, statusExpired}
+use Rattle.rulebook.specs.State.{sourceIndex, Network, askedNone, askedSilent, askedFull, stateNone, stateSilent, stateCheck, stateRecover, statusOf}
+use Rattle.rulebook.specs.State.{statusNone, statusPending, statusValidated, statusExpired}
 use Rattle.rulebook.specs.Lists.{networkIn}
-use Rattle.rulebook.specs.Events.{eventKind, eventIndex, eventTick, eventWakeup, eventValid, eventBusOff, eventClear, statusIn, takes, offBus, countedNetwork, tickedNetwork}
+use Rattle.rulebook.specs.Events.{eventKind, eventIndex, eventTick, eventWakeup, eventValid, eventBusOff, eventClear, statusIn, takes, offBus, countedNetwork}
+use Rattle.rulebook.specs.Events.{tickedNetwork}
 use Rattle.laws.proofs.Tests.{split, clash, and-right}
 use Rattle.laws.proofs.Facts.{facts}
 use Rattle.laws.proofs.Fields.{source-status}
@@ -40,7 +42,8 @@ counted-recover : (t : List ℕ) (n : ℕ) (c : Network) → (c .state ≡ state
 unfolding countedNetwork
 counted-recover t n c d =
     split (eqb (c .state) stateCheck)
-    (λ e. split (leb (c .remaining) 1) (λ g. rw (ne-eqb (c .state) stateRecover d, e, g) (λ z. omega arith)) (λ g. rw (ne-eqb (c .state) stateRecover d, e, g) (λ z. omega arith)))
+    (λ e. split (leb (c .remaining) 1) (λ g. rw (ne-eqb (c .state) stateRecover d, e, g) (λ z. omega arith))
+    (λ g. rw (ne-eqb (c .state) stateRecover d, e, g) (λ z. omega arith)))
     (λ e. rw (ne-eqb (c .state) stateRecover d, e) d)
 
 ticked-recover : (t : List ℕ) (n : ℕ) (c : Network) → (c .state ≡ stateRecover → ⊥) → tickedNetwork t n c .state ≡ stateRecover → ⊥
@@ -69,7 +72,8 @@ bus-off-exactly t h n b s x f fit =
     (λ e. sym (newly-was stateRecover (c .state) (tickedNetwork t n c .state) (eqb-true _ _ e)))
     (λ e. sym (newly-not stateRecover (c .state) (tickedNetwork t n c .state) (ticked-recover t n c (eqb-false _ _ e))))))
     (λ d. split (eqb (eventKind (x .event)) eventBusOff && eqb (eventIndex (x .event)) n && takes c)
-    (λ e. let off : c .state ≡ stateRecover → ⊥ = takes-not-recover c (and-right (eqb (eventKind (x .event)) eventBusOff && eqb (eventIndex (x .event)) n) _ e) in
+    (λ e. let off : c .state ≡ stateRecover → ⊥ = takes-not-recover c
+    (and-right (eqb (eventKind (x .event)) eventBusOff && eqb (eventIndex (x .event)) n) _ e) in
     rw (d, e, ne-eqb (c .state) stateRecover off))
     (λ e. rw (d, e) (sym (newly-same stateRecover (c .state))))))
 
@@ -91,7 +95,8 @@ wakeup-exactly t h k b s x f fit =
     (λ d. split (eqb (eventKind e) eventWakeup && eqb (eventIndex e) k)
     (λ g. split (eqb (statusOf w) statusNone || eqb (statusOf w) statusExpired)
     (λ i. split (eqb (timeout t k) 0)
-    (λ z. rw (d, g, i, z, source-status statusValidated (timeout t k), eqb-true (timeout t k) 0 z) (sym (newly-not statusPending (statusOf w) statusValidated (λ y. omega arith))))
+    (λ z. rw (d, g, i, z, source-status statusValidated (timeout t k), eqb-true (timeout t k) 0 z)
+    (sym (newly-not statusPending (statusOf w) statusValidated (λ y. omega arith))))
     (λ z. let some : timeout t k ≡ 0 → ⊥ = eqb-false (timeout t k) 0 z in
     rw (d, g, i, z, source-status statusPending (timeout t k), le-leb 1 (timeout t k) (omega arith), idle-not-pending (statusOf w) i)))
     (λ i. rw (d, g, i) (sym (newly-same statusPending (statusOf w)))))

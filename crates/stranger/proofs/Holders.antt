@@ -123,7 +123,8 @@ module _ (t : List ℕ) (f : Facts t) (i p : ℕ) (h : Holder t i p) (s₀ : Lis
   other-timer q s b k =
       split (eqb (portKind t q) portTimer && eqb (valueOf (word s q)) timerStarted)
       (λ e. let kind : portKind t q ≡ portTimer = eqb-true _ _ (and-left _ (eqb (valueOf (word s q)) timerStarted) e) in
-      let apart : (q ≡ p → ⊥) = λ z. let mode : portKind t p ≡ portMode = h .may .mode in let same : portKind t q ≡ portKind t p = ap (λ (x : ℕ). portKind t x) z in omega arith in
+      let apart : (q ≡ p → ⊥) = λ z. let mode : portKind t p ≡ portMode = h .may .mode in let same : portKind t q ≡ portKind t p = ap
+      (λ (x : ℕ). portKind t x) z in omega arith in
       split (leb (remainingIn s q) 1) (λ d. rw (e, d) (port-keeps q 1 _ 0 s b apart k)) (λ d. rw (e, d) (port-keeps q _ _ _ s b apart k)))
       (λ e. rw e k)
 

@@ -7,10 +7,12 @@ use Prim.Native.Nat.{ℕ, zero, suc, _<_}
 use lib.ListN.{set}
 use lib.Dec.{eqb}
 use Rattle.rulebook.specs.Words.{between}
-use Rattle.rulebook.specs.Table.{rules, lists, portEvent, portTimer, ruleOwner, noList, listOwner, firstItem, itemCount, itemKind, itemA, itemClear, itemStart, itemStop, itemAsk, itemRule, stranger}
+use Rattle.rulebook.specs.Table.{rules, lists, portEvent, portTimer, ruleOwner, noList, listOwner, firstItem, itemCount, itemKind, itemA, itemClear}
+use Rattle.rulebook.specs.Table.{itemStart, itemStop, itemAsk, itemRule, stranger}
 use Rattle.rulebook.specs.State.{ruleIndex, networkIndex, undefinedResult}
 use Rattle.rulebook.specs.Reasons.{portOfKind, itemOwned}
-use Rattle.rulebook.specs.Lists.{Run, emit, traceWord, traceListStart, setPort, setNetwork, effect, act, unready, choiceIn, setResult, judge, runChoice, runRule, runItem, runItems, runList}
+use Rattle.rulebook.specs.Lists.{Run, emit, traceWord, traceListStart, setPort, setNetwork, effect, act, unready, choiceIn, setResult, judge, runChoice}
+use Rattle.rulebook.specs.Lists.{runRule, runItem, runItems, runList}
 use Rattle.laws.specs.Facts.{Facts}
 use Rattle.laws.proofs.Tests.{split}
 use Rattle.laws.proofs.Walks.{each-keeps, each-alike}
@@ -63,12 +65,14 @@ module _ (t : List ℕ) (f : Facts t) (o : ℕ) where
       (λ e. rw (choice-some below _ x e)
       (u _ x (choice-there t r _ _ (f .rule r b) e) (rw (choice-owned t s r (f .rule r b .owned) e) h)))
 
-  judge-hidden : (l r : ℕ) (x : Run) → r < rules t → stranger o (listOwner t l) ≡ true → stranger o (ruleOwner t r) ≡ true → Alike t o x (judge t (listOwner t l) r x)
+  judge-hidden : (l r : ℕ) (x : Run) → r < rules t → stranger o (listOwner t l) ≡ true → stranger o (ruleOwner t r) ≡ true
+      → Alike t o x (judge t (listOwner t l) r x)
   unfolding judge setResult
   judge-hidden l r x b h k =
       record { view = write-hidden t o (x .state) (ruleIndex t r) _ (rule-word t o r b ∙ k); own = word-hidden l itemRule r _ x h .own }
 
-  item-unseen : (below : ℕ → Run → Run) → Unseen below → (l i : ℕ) (x : Run) → Within t l i → stranger o (listOwner t l) ≡ true → Alike t o x (runItem below t (listOwner t l) i x)
+  item-unseen : (below : ℕ → Run → Run) → Unseen below → (l i : ℕ) (x : Run) → Within t l i → stranger o (listOwner t l) ≡ true
+      → Alike t o x (runItem below t (listOwner t l) i x)
   unfolding act
   item-unseen below u l i x w h =
       let there = f .item i (item-there t f l i w) .1 in
@@ -101,10 +105,12 @@ module _ (t : List ℕ) (f : Facts t) (o : ℕ) where
       pick-both (SameView t o) (eqb (itemKind t i) itemClear) (λ e. write-alike t o (itemA t i) _ _ (λ h. rw (v .same (itemA t i) h)) v)
       (λ e. pick-both (SameView t o) (eqb (itemKind t i) itemStart) (λ e. write-alike t o (itemA t i) _ _ (λ h. refl) v)
       (λ e. pick-both (SameView t o) (eqb (itemKind t i) itemStop) (λ e. write-alike t o (itemA t i) _ _ (λ h. refl) v)
-      (λ e. pick-both (SameView t o) (eqb (itemKind t i) itemAsk) (λ e. write-alike t o (networkIndex t (itemA t i)) _ _ (λ h. rw (v .same (networkIndex t (itemA t i)) h)) v)
+      (λ e. pick-both (SameView t o) (eqb (itemKind t i) itemAsk)
+      (λ e. write-alike t o (networkIndex t (itemA t i)) _ _ (λ h. rw (v .same (networkIndex t (itemA t i)) h)) v)
       (λ e. v))))
 
-  judge-alike : (l r : ℕ) {x y : Run} → r < rules t → stranger o (ruleOwner t r) ≡ false → Alike t o x y → Alike t o (judge t (listOwner t l) r x) (judge t (listOwner t l) r y)
+  judge-alike : (l r : ℕ) {x y : Run} → r < rules t → stranger o (ruleOwner t r) ≡ false → Alike t o x y
+      → Alike t o (judge t (listOwner t l) r x) (judge t (listOwner t l) r y)
   unfolding judge setResult
   judge-alike l r b h a =
       rw (result-alike t f o r b h (a .view)) (become-alike t o (write-alike t o (ruleIndex t r) _ _ (λ k. refl) (a .view)) (emit-alike t o _ a))

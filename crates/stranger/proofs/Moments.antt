@@ -70,12 +70,14 @@ module _ (t : List ℕ) (h : accepted t ≡ true) where
     ask-same s₁ s₂ x y f g same =
         asks-in-own-words t n _ (entry-asks-own s₁ x f) ∙ ap (anyWord (asksOther n)) (same .words) ∙ sym (asks-in-own-words t n _ (entry-asks-own s₂ y g))
 
-    network-alike : (j : ℕ) (s₁ s₂ : List ℕ) (x y : Entry) → Follows t s₁ x → Follows t s₂ y → SameView t o s₁ s₂ → SameSeen t o x y → networkMoment t n j s₁ x ≡ networkMoment t n j s₂ y
+    network-alike : (j : ℕ) (s₁ s₂ : List ℕ) (x y : Entry) → Follows t s₁ x → Follows t s₂ y → SameView t o s₁ s₂ → SameSeen t o x y
+        → networkMoment t n j s₁ x ≡ networkMoment t n j s₂ y
     unfolding networkMoment
     network-alike j s₁ s₂ x y f g v same =
         rw (bus-off-same s₁ s₂ x y v same, ask-same s₁ s₂ x y f g same, same-network v, same-network (same .state), same-shown (same .state))
 
-    pub network-moments : (s₁ s₂ : List ℕ) (xs ys : List Entry) → Log t s₁ xs → Log t s₂ ys → SameView t o s₁ s₂ → struckOut o xs ≡ struckOut o ys → (j : ℕ) → moments (networkMoment t n) j s₁ xs ≡ moments (networkMoment t n) j s₂ ys
+    pub network-moments : (s₁ s₂ : List ℕ) (xs ys : List Entry) → Log t s₁ xs → Log t s₂ ys → SameView t o s₁ s₂ → struckOut o xs ≡ struckOut o ys → (j : ℕ)
+        → moments (networkMoment t n) j s₁ xs ≡ moments (networkMoment t n) j s₂ ys
     network-moments = moments-beside t h o (networkMoment t n) network-quiet network-alike
 
   -- Source k, its owner o.
@@ -126,10 +128,12 @@ module _ (t : List ℕ) (h : accepted t ≡ true) where
     unfolding ended
     end-same x y e = rw e
 
-    source-alike : (j : ℕ) (s₁ s₂ : List ℕ) (x y : Entry) → Follows t s₁ x → Follows t s₂ y → SameView t p s₁ s₂ → SameSeen t p x y → sourceMoment t k j s₁ x ≡ sourceMoment t k j s₂ y
+    source-alike : (j : ℕ) (s₁ s₂ : List ℕ) (x y : Entry) → Follows t s₁ x → Follows t s₂ y → SameView t p s₁ s₂ → SameSeen t p x y
+        → sourceMoment t k j s₁ x ≡ sourceMoment t k j s₂ y
     unfolding sourceMoment
     source-alike j s₁ s₂ x y f g v same =
         rw (wake-same s₁ s₂ x y v same, end-same x y (same .event), same-status v, same-status (same .state), same-status-shown (same .state))
 
-    pub source-moments : (s₁ s₂ : List ℕ) (xs ys : List Entry) → Log t s₁ xs → Log t s₂ ys → SameView t p s₁ s₂ → struckOut p xs ≡ struckOut p ys → (j : ℕ) → moments (sourceMoment t k) j s₁ xs ≡ moments (sourceMoment t k) j s₂ ys
+    pub source-moments : (s₁ s₂ : List ℕ) (xs ys : List Entry) → Log t s₁ xs → Log t s₂ ys → SameView t p s₁ s₂ → struckOut p xs ≡ struckOut p ys → (j : ℕ)
+        → moments (sourceMoment t k) j s₁ xs ≡ moments (sourceMoment t k) j s₂ ys
     source-moments = moments-beside t h p (sourceMoment t k) source-quiet source-alike

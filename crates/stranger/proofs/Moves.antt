@@ -13,11 +13,14 @@ use lib.Dec.{leb, eqb}
 use borrow.Author.Tests.{eqb-true, eqb-false, eq-eqb, ne-eqb}
 use Rattle.rulebook.specs.Words.{word, each}
 use Rattle.rulebook.specs.Table.{ports, networks, sources, portKind, portMode, portEvent, portTimer, networkPort, sourcePort, timeout}
-use Rattle.rulebook.specs.State.{networkIndex, sourceIndex, definedOf, valueOf, remainingOf, Network, networkOf, statusOf, statusNone, statusPending, statusValidated, statusExpired, packPort, packNetwork, packSource}
+use Rattle.rulebook.specs.State.{networkIndex, sourceIndex, definedOf, valueOf, remainingOf, Network, networkOf, statusOf, statusNone, statusPending}
+use Rattle.rulebook.specs.State.{statusValidated, statusExpired, packPort, packNetwork, packSource}
 use Rattle.rulebook.specs.Reasons.{held}
 use Rattle.rulebook.specs.Lists.{Run, setPort, networkIn, asking, setNetwork}
 use Rattle.rulebook.specs.Arbitration.{arbitrate}
-use Rattle.rulebook.specs.Events.{eventKind, eventIndex, eventValue, eventTick, eventWakeup, eventValid, eventBusOff, eventClear, only, request, statusIn, setSource, moveSource, wake, validate, clear, shown, moveNetwork, takes, offBus, busOff, tickedNetwork, tickNetwork, remainingIn, tickSource, tickThings, arbitrateMarked, tick, happen}
+use Rattle.rulebook.specs.Events.{eventKind, eventIndex, eventValue, eventTick, eventWakeup, eventValid, eventBusOff, eventClear, only, request, statusIn}
+use Rattle.rulebook.specs.Events.{setSource, moveSource, wake, validate, clear, shown, moveNetwork, takes, offBus, busOff, tickedNetwork, tickNetwork}
+use Rattle.rulebook.specs.Events.{remainingIn, tickSource, tickThings, arbitrateMarked, tick, happen}
 use Rattle.laws.specs.Facts.{Facts}
 use Rattle.laws.proofs.Tests.{split}
 use Rattle.laws.proofs.Walks.{each-keeps, each-at}
@@ -26,7 +29,8 @@ use Rattle.laws.proofs.Fit.{NetworkOk, network-again, network-small, fits-lengt
 use Rattle.laws.proofs.FitKept.{Fits, network-in}
 use Rattle.laws.proofs.FitEvents.{MayShow, things-fit, ticked-ok, off-bus-ok, shown-small, woken-ok, tick-network-fits, tick-source-fits, request-cases}
 use Rattle.laws.proofs.Happen.{Taken, OfPort, Event, aTick, aMode, aRequest, aWakeup, aValid, aBusOff, aClear, event}
-use Rattle.stranger.proofs.Holders.{Holder, network-holder, source-holder, Cells, cells-refl, cells-write, other-network, other-source, other-tick-network, other-tick-source, timers-keep}
+use Rattle.stranger.proofs.Holders.{Holder, network-holder, source-holder, Cells, cells-refl, cells-write, other-network, other-source}
+use Rattle.stranger.proofs.Holders.{other-tick-network, other-tick-source, timers-keep}
 use Rattle.stranger.proofs.Arbitrated.{port-still, source-still, Core, network-still}
 
 -- A port that shows `old` comes to show `new`: written, and defined, exactly if the two differ.
@@ -38,16 +42,21 @@ pub port-stays : (p v : ℕ) (s s′ : List ℕ) → word s′ p ≡ word s p �
 port-stays p v s s′ e = record { value = λ h. ap (λ (x : ℕ). valueOf x) e ∙ h; defined = rw (eq-eqb v v refl) (ap (λ (x : ℕ). definedOf x) e) }
 
 -- the port is written, or not, by the test that moves it
-port-written : (t s s₁ : List ℕ) (p old new : ℕ) → p < length s₁ → new < 256 → word s₁ p ≡ word s p → PortMoves p old new s (cond (eqb new old) s₁ (setPort p 1 new 0 s₁))
+port-written : (t s s₁ : List ℕ) (p old new : ℕ) → p < length s₁ → new < 256 → word s₁ p ≡ word s p
+    → PortMoves p old new s (cond (eqb new old) s₁ (setPort p 1 new 0 s₁))
 unfolding setPort
 port-written t s s₁ p old new b small e =
     split (eqb new old)
     (λ h. rw h (record { value = λ v. ap (λ (x : ℕ). valueOf x) e ∙ v ∙ sym (eqb-true _ _ h); defined = rw h (ap (λ (x : ℕ). definedOf x) e) }))
     (λ h. let is : word (set s₁ p (packPort 1 1 new 0)) p ≡ packPort 1 1 new 0 = getD-set-same s₁ p _ 0 b in
-    rw h (record { value = λ v. ap (λ (x : ℕ). valueOf x) is ∙ port-value 1 1 new 0 ∙ mod-eq-of-lt small; defined = rw h (ap (λ (x : ℕ). definedOf x) is ∙ port-defined 1 1 new 0) }))
+    rw h (record {
+      value = λ v. ap (λ (x : ℕ). valueOf x) is ∙ port-value 1 1 new 0 ∙ mod-eq-of-lt small;
+      defined = rw h (ap (λ (x : ℕ). definedOf x) is ∙ port-defined 1 1 new 0);
+    }))
 
 -- arbitration leaves it so
-pub port-then-still : (t : List ℕ) → Facts t → (p old new : ℕ) → MayShow t p → (q : ℕ → Bool) (s s₁ : List ℕ) → Fits t s₁ → PortMoves p old new s s₁ → PortMoves p old new s (arbitrate t q s₁ .state)
+pub port-then-still : (t : List ℕ) → Facts t → (p old new : ℕ) → MayShow t p → (q : ℕ → Bool) (s s₁ : List ℕ) → Fits t s₁ → PortMoves p old new s s₁
+    → PortMoves p old new s (arbitrate t q s₁ .state)
 port-then-still t f p old new m q s s₁ fit h =
     let k = port-still t f p _ _ m q s₁ fit (record { value = refl; defined = refl }) in
     record { value = λ v. k .value ∙ h .value v; defined = k .defined ∙ h .defined }
@@ -77,7 +86,10 @@ module _ (t : List ℕ) (f : Facts t) {X : Type 0} (i p : ℕ) (core : ℕ → X
   carried x s s₁ s₂ m k =
       record {
         own = ap core (k .own) ∙ m .own;
-        port = record { value = λ v. ap (λ (w : ℕ). valueOf w) (k .port) ∙ m .port .value v; defined = ap (λ (w : ℕ). definedOf w) (k .port) ∙ m .port .defined };
+        port = record {
+          value = λ v. ap (λ (w : ℕ). valueOf w) (k .port) ∙ m .port .value v;
+          defined = ap (λ (w : ℕ). definedOf w) (k .port) ∙ m .port .defined;
+        };
       }
 
   -- events of others, and requests, leave it alone
@@ -88,7 +100,8 @@ module _ (t : List ℕ) (f : Facts t) {X : Type 0} (i p : ℕ) (core : ℕ → X
   pub by-source : (m status r : ℕ) (s : List ℕ) → m < sources t → (sourceIndex t m ≡ i → ⊥) → Moves i p core show (now s) s (moveSource t m status r s)
   by-source m status r s b d = stays s _ (other-source t f i p (h .holder) s m status r s b d (cells-refl i p s))
 
-  by-port : (q v : ℕ) (s : List ℕ) → q < ports t → (q ≡ p → ⊥) → (portKind t q ≡ portTimer → ⊥) → v < 256 → (portKind t q ≡ portEvent → v ≤ 1) → Fits t s → Moves i p core show (now s) s (request t q v s .state)
+  by-port : (q v : ℕ) (s : List ℕ) → q < ports t → (q ≡ p → ⊥) → (portKind t q ≡ portTimer → ⊥) → v < 256 → (portKind t q ≡ portEvent → v ≤ 1) → Fits t s
+      → Moves i p core show (now s) s (request t q v s .state)
   unfolding setPort
   by-port q v s c apart nt v₈ ev fit =
       let above : ports t ≤ i = h .holder .above in
@@ -96,25 +109,33 @@ module _ (t : List ℕ) (f : Facts t) {X : Type 0} (i p : ℕ) (core : ℕ → X
       request-cases t f (λ x. Moves i p core show (now s) s (x .state)) q v s c nt v₈ ev fit
       (λ fit₁. stays s _ (cells _)) (λ fit₁. then-still _ (only q) s _ fit₁ (stays s _ (cells _)))
 
-  pub by-mode-request : (e : ℕ) (s : List ℕ) → OfPort t e → portKind t (eventIndex e) ≡ portMode → held t (eventIndex e) (networks t) (sources t) ≡ false → Fits t s → Moves i p core show (now s) s (request t (eventIndex e) (eventValue e) s .state)
+  pub by-mode-request : (e : ℕ) (s : List ℕ) → OfPort t e → portKind t (eventIndex e) ≡ portMode → held t (eventIndex e) (networks t) (sources t) ≡ false
+      → Fits t s → Moves i p core show (now s) s (request t (eventIndex e) (eventValue e) s .state)
   by-mode-request e s of m free fit =
-      by-port (eventIndex e) (eventValue e) s (of .there) (h .holder .requests (eventIndex e) free) (λ z. omega arith) (digit-small _ 256 _ (omega arith)) (λ z. absurd (omega arith)) fit
+      by-port (eventIndex e) (eventValue e) s (of .there) (h .holder .requests (eventIndex e) free) (λ z. omega arith) (digit-small _ 256 _ (omega arith))
+      (λ z. absurd (omega arith)) fit
 
-  pub by-event-request : (e : ℕ) (s : List ℕ) → OfPort t e → portKind t (eventIndex e) ≡ portEvent → Fits t s → Moves i p core show (now s) s (request t (eventIndex e) 1 s .state)
+  pub by-event-request : (e : ℕ) (s : List ℕ) → OfPort t e → portKind t (eventIndex e) ≡ portEvent → Fits t s
+      → Moves i p core show (now s) s (request t (eventIndex e) 1 s .state)
   by-event-request e s of m fit =
       let mode : portKind t p ≡ portMode = h .holder .may .mode in
-      by-port (eventIndex e) 1 s (of .there) (λ z. let same : portKind t (eventIndex e) ≡ portKind t p = ap (λ (u : ℕ). portKind t u) z in omega arith) (λ z. omega arith) (omega arith) (λ z. omega arith) fit
+      by-port (eventIndex e) 1 s (of .there) (λ z. let same : portKind t (eventIndex e) ≡ portKind t p = ap (λ (u : ℕ). portKind t u) z in omega arith)
+      (λ z. omega arith) (omega arith) (λ z. omega arith) fit
 
   pub by-nothing : (s : List ℕ) → Moves i p core show (now s) s s
   by-nothing s = stays s s (cells-refl i p s)
 
   -- the walks of a tick over other things
 
-  pub past-networks : (s₀ s : List ℕ) (j m : ℕ) → j + m ≤ networks t → ((a : ℕ) → j ≤ a → a < j + m → networkIndex t a ≡ i → ⊥) → Cells i p s₀ s → Cells i p s₀ (each j m (tickNetwork t) s)
-  past-networks s₀ s j m b d c = each-keeps (Cells i p s₀) (tickNetwork t) j m s (λ a x u v. other-tick-network t f i p (h .holder) s₀ a x (omega arith) (d a u v)) c
+  pub past-networks : (s₀ s : List ℕ) (j m : ℕ) → j + m ≤ networks t → ((a : ℕ) → j ≤ a → a < j + m → networkIndex t a ≡ i → ⊥) → Cells i p s₀ s
+      → Cells i p s₀ (each j m (tickNetwork t) s)
+  past-networks s₀ s j m b d c =
+      each-keeps (Cells i p s₀) (tickNetwork t) j m s (λ a x u v. other-tick-network t f i p (h .holder) s₀ a x (omega arith) (d a u v)) c
 
-  pub past-sources : (s₀ s : List ℕ) (j m : ℕ) → j + m ≤ sources t → ((a : ℕ) → j ≤ a → a < j + m → sourceIndex t a ≡ i → ⊥) → Cells i p s₀ s → Cells i p s₀ (each j m (tickSource t) s)
-  past-sources s₀ s j m b d c = each-keeps (Cells i p s₀) (tickSource t) j m s (λ a x u v. other-tick-source t f i p (h .holder) s₀ a x (omega arith) (d a u v)) c
+  pub past-sources : (s₀ s : List ℕ) (j m : ℕ) → j + m ≤ sources t → ((a : ℕ) → j ≤ a → a < j + m → sourceIndex t a ≡ i → ⊥) → Cells i p s₀ s
+      → Cells i p s₀ (each j m (tickSource t) s)
+  past-sources s₀ s j m b d c =
+      each-keeps (Cells i p s₀) (tickSource t) j m s (λ a x u v. other-tick-source t f i p (h .holder) s₀ a x (omega arith) (d a u v)) c
 
 -- Network n. Its core is all but what it is asked.
 
@@ -129,7 +150,10 @@ core-path a b k j = record { asked = 0; state = k .state j; counter = k .counter
 
 pub network-held : (t : List ℕ) → Facts t → (n : ℕ) → n < networks t → LeftAlone t (networkIndex t n) (networkPort t n) coreOf
 network-held t f n b =
-    record { holder = network-holder t f n b; still = λ q s fit. core-path _ _ (network-still t f n (networkIn t n s) b q s fit (record { state = refl; counter = refl; remaining = refl })) }
+    record {
+      holder = network-holder t f n b;
+      still = λ q s fit. core-path _ _ (network-still t f n (networkIn t n s) b q s fit (record { state = refl; counter = refl; remaining = refl }));
+    }
 
 -- the network's word, whether or not its port is written after it
 kept-own : (i p w v : ℕ) (s : List ℕ) (x : Bool) → i < length s → (i ≡ p → ⊥) → word (cond x (set s i w) (setPort p 1 v 0 (set s i w))) i ≡ w
@@ -145,14 +169,18 @@ module _ (t : List ℕ) (f : Facts t) (n : ℕ) (b : n < networks t) where
   held-network = network-held t f n b
 
   -- n itself is moved
-  network-moved : (c : Network) (s s₁ : List ℕ) → Fits t s₁ → NetworkOk t n c → Cells (networkIndex t n) (networkPort t n) s s₁ → NetworkMoves c s (moveNetwork t n c s₁)
+  network-moved : (c : Network) (s s₁ : List ℕ) → Fits t s₁ → NetworkOk t n c → Cells (networkIndex t n) (networkPort t n) s s₁
+      → NetworkMoves c s (moveNetwork t n c s₁)
   unfolding moveNetwork setNetwork
   network-moved c s s₁ fit ok cells =
       let len = fits-length t s₁ fit in let there : networkPort t n < ports t = held-network .holder .may .there in
       let same : shown (networkIn t n s₁ .state) ≡ shown (networkIn t n s .state) = ap (λ (w : ℕ). shown (networkOf w .state)) (cells .own) in
       record {
-        own = ap coreOf (kept-own (networkIndex t n) (networkPort t n) (packNetwork c) _ s₁ (eqb (shown (c .state)) (shown (networkIn t n s₁ .state))) (omega arith) (λ z. omega arith)) ∙ ap (asking 0) (network-again c (network-small t n c ok));
-        port = rw same (port-written t s (set s₁ (networkIndex t n) (packNetwork c)) (networkPort t n) _ (shown (c .state)) (lt-length-set s₁ _ _ (omega arith)) (shown-small t f (c .state)) (getD-set-other s₁ (networkIndex t n) (networkPort t n) _ 0 (λ z. omega arith) ∙ cells .port));
+        own = ap coreOf (kept-own (networkIndex t n) (networkPort t n) (packNetwork c) _ s₁ (eqb (shown (c .state)) (shown (networkIn t n s₁ .state)))
+            (omega arith) (λ z. omega arith)) ∙ ap (asking 0) (network-again c (network-small t n c ok));
+        port = rw same (port-written t s (set s₁ (networkIndex t n) (packNetwork c)) (networkPort t n) _ (shown (c .state))
+            (lt-length-set s₁ _ _ (omega arith)) (shown-small t f (c .state))
+            (getD-set-other s₁ (networkIndex t n) (networkPort t n) _ 0 (λ z. omega arith) ∙ cells .port));
       }
 
   ticked-here : (s : List ℕ) → Fits t s → NetworkMoves (tickedNetwork t n (networkIn t n s)) s (tickNetwork t n (each 0 n (tickNetwork t) s))
@@ -160,7 +188,8 @@ module _ (t : List ℕ) (f : Facts t) (n : ℕ) (b : n < networks t) where
   ticked-here s fit =
       let s₁ = each 0 n (tickNetwork t) s in
       let fit₁ : Fits t s₁ = each-keeps (Fits t) (tickNetwork t) 0 n s (λ m x a c. tick-network-fits t f m x (omega arith)) fit in
-      let cells = past-networks t f (networkIndex t n) (networkPort t n) coreOf shownBy held-network s s 0 n (omega arith) (λ a u v z. omega arith) (cells-refl _ _ s) in
+      let cells = past-networks t f (networkIndex t n) (networkPort t n) coreOf shownBy held-network s s 0 n (omega arith) (λ a u v z. omega arith)
+      (cells-refl _ _ s) in
       rw (ap networkOf (cells .own)) (network-moved (tickedNetwork t n (networkIn t n s)) s s₁ fit₁ (ticked-ok t f n _ b (network-in t s fit n b)) cells)
 
   things-move : (s : List ℕ) → Fits t s → NetworkMoves (tickedNetwork t n (networkIn t n s)) s (tickThings t s)
@@ -172,16 +201,19 @@ module _ (t : List ℕ) (f : Facts t) (n : ℕ) (b : n < networks t) where
       carried t f (networkIndex t n) (networkPort t n) coreOf shownBy held-network _ s s₂ _ (ticked-here s fit)
       (timers-keep t f _ _ (held-network .holder) s₂ _
       (past-sources t f _ _ coreOf shownBy held-network s₂ _ 0 (sources t) (omega arith) (λ a u v z. omega arith)
-      (rw (whole, each-at (tickNetwork t) n m s) (past-networks t f _ _ coreOf shownBy held-network s₂ s₂ (suc n) m (omega arith) (λ a u v z. omega arith) (cells-refl _ _ s₂)))))
+      (rw (whole, each-at (tickNetwork t) n m s)
+      (past-networks t f _ _ coreOf shownBy held-network s₂ s₂ (suc n) m (omega arith) (λ a u v z. omega arith) (cells-refl _ _ s₂)))))
 
   -- what the event makes of n
   unfoldable pub nextNetwork : ℕ → List ℕ → Network
   nextNetwork e s =
       cond (eqb (eventKind e) eventTick) (tickedNetwork t n (networkIn t n s))
-      (cond (eqb (eventKind e) eventBusOff && eqb (eventIndex e) n && takes (networkIn t n s)) (offBus t n (min 255 (networkIn t n s .counter + 1)) (networkIn t n s))
+      (cond (eqb (eventKind e) eventBusOff && eqb (eventIndex e) n && takes (networkIn t n s))
+      (offBus t n (min 255 (networkIn t n s .counter + 1)) (networkIn t n s))
       (networkIn t n s))
 
-  quiet : (e : ℕ) (s s′ : List ℕ) → (eventKind e ≡ eventTick → ⊥) → (eventKind e ≡ eventBusOff → ⊥) → NetworkMoves (networkIn t n s) s s′ → NetworkMoves (nextNetwork e s) s s′
+  quiet : (e : ℕ) (s s′ : List ℕ) → (eventKind e ≡ eventTick → ⊥) → (eventKind e ≡ eventBusOff → ⊥) → NetworkMoves (networkIn t n s) s s′
+      → NetworkMoves (nextNetwork e s) s s′
   unfolding nextNetwork
   quiet e s s′ a c m = rw (ne-eqb _ _ a, ne-eqb _ _ c) m
 
@@ -193,19 +225,23 @@ module _ (t : List ℕ) (f : Facts t) (n : ℕ) (b : n < networks t) where
 
   network-by-wake : (k : ℕ) (s : List ℕ) → k < sources t → NetworkMoves (networkIn t n s) s (wake t k s)
   unfolding wake
-  network-by-wake k s c = split (eqb (statusIn t k s) statusNone || eqb (statusIn t k s) statusExpired) (λ e. rw e (network-by-source k _ _ s c)) (λ e. rw e (network-by-nothing s))
+  network-by-wake k s c =
+      split (eqb (statusIn t k s) statusNone || eqb (statusIn t k s) statusExpired) (λ e. rw e (network-by-source k _ _ s c))
+      (λ e. rw e (network-by-nothing s))
 
   network-by-valid : (k : ℕ) (s : List ℕ) → k < sources t → NetworkMoves (networkIn t n s) s (validate t k s)
   unfolding validate
   network-by-valid k s c = split (eqb (statusIn t k s) statusPending) (λ e. rw e (network-by-source k _ _ s c)) (λ e. rw e (network-by-nothing s))
 
-  network-by-bus-off : (e : ℕ) (s : List ℕ) → eventKind e ≡ eventBusOff → eventIndex e < networks t → Fits t s → NetworkMoves (nextNetwork e s) s (busOff t (eventIndex e) s)
+  network-by-bus-off : (e : ℕ) (s : List ℕ) → eventKind e ≡ eventBusOff → eventIndex e < networks t → Fits t s
+      → NetworkMoves (nextNetwork e s) s (busOff t (eventIndex e) s)
   unfolding nextNetwork busOff
   network-by-bus-off e s k c fit =
       split (eqb (eventIndex e) n)
       (λ a. let same : eventIndex e ≡ n = eqb-true _ _ a in
       split (takes (networkIn t n s))
-      (λ d. rw (k, same, eq-eqb n n refl, d) (network-moved _ s s fit (off-bus-ok t f n _ _ b (network-in t s fit n b) (omega arith) (omega arith)) (cells-refl _ _ s)))
+      (λ d. rw (k, same, eq-eqb n n refl, d)
+      (network-moved _ s s fit (off-bus-ok t f n _ _ b (network-in t s fit n b) (omega arith) (omega arith)) (cells-refl _ _ s)))
       (λ d. rw (k, same, eq-eqb n n refl, d) (network-by-nothing s)))
       (λ a. let differ : (eventIndex e ≡ n → ⊥) = eqb-false _ _ a in
       rw (k, a) (split (takes (networkIn t (eventIndex e) s))
@@ -245,7 +281,8 @@ module _ (t : List ℕ) (f : Facts t) (k : ℕ) (b : k < sources t) where
   source-by-nothing s = by-nothing t f _ _ wordOf _ held-source s
 
   -- k itself is moved
-  source-moved : (status r : ℕ) (s s₁ : List ℕ) → Fits t s₁ → status < 4 → Cells (sourceIndex t k) (sourcePort t k) s s₁ → SourceMoves (packSource status r) s (moveSource t k status r s₁)
+  source-moved : (status r : ℕ) (s s₁ : List ℕ) → Fits t s₁ → status < 4 → Cells (sourceIndex t k) (sourcePort t k) s s₁
+      → SourceMoves (packSource status r) s (moveSource t k status r s₁)
   unfolding moveSource setSource
   source-moved status r s s₁ fit small cells =
       let len = fits-length t s₁ fit in let there : sourcePort t k < ports t = held-source .holder .may .there in
@@ -253,19 +290,24 @@ module _ (t : List ℕ) (f : Facts t) (k : ℕ) (b : k < sources t) where
       let is : statusOf (packSource status r) ≡ status = source-status status r ∙ mod-eq-of-lt small in
       record {
         own = kept-own (sourceIndex t k) (sourcePort t k) (packSource status r) status s₁ (eqb status (statusIn t k s₁)) (omega arith) (λ z. omega arith);
-        port = rw (is, same) (port-written t s (set s₁ (sourceIndex t k) (packSource status r)) (sourcePort t k) _ status (lt-length-set s₁ _ _ (omega arith)) (omega arith) (getD-set-other s₁ (sourceIndex t k) (sourcePort t k) _ 0 (λ z. omega arith) ∙ cells .port));
+        port = rw (is, same)
+            (port-written t s (set s₁ (sourceIndex t k) (packSource status r)) (sourcePort t k) _ status (lt-length-set s₁ _ _ (omega arith)) (omega arith)
+            (getD-set-other s₁ (sourceIndex t k) (sourcePort t k) _ 0 (λ z. omega arith) ∙ cells .port));
       }
 
   -- what a tick makes of its word
   unfoldable pub tickedSource : ℕ → ℕ
-  tickedSource w = cond (eqb (statusOf w) statusPending) (cond (leb (remainingOf w) 1) (packSource statusExpired 0) (packSource statusPending (remainingOf w - 1))) w
+  tickedSource w =
+      cond (eqb (statusOf w) statusPending) (cond (leb (remainingOf w) 1) (packSource statusExpired 0) (packSource statusPending (remainingOf w - 1))) w
 
-  ticked-source-here : (s s₁ : List ℕ) → Fits t s₁ → Cells (sourceIndex t k) (sourcePort t k) s s₁ → SourceMoves (tickedSource (word s (sourceIndex t k))) s (tickSource t k s₁)
+  ticked-source-here : (s s₁ : List ℕ) → Fits t s₁ → Cells (sourceIndex t k) (sourcePort t k) s s₁
+      → SourceMoves (tickedSource (word s (sourceIndex t k))) s (tickSource t k s₁)
   unfolding tickSource tickedSource
   ticked-source-here s s₁ fit cells =
       rw (← (cells .own))
       (split (eqb (statusIn t k s₁) statusPending)
-      (λ e. split (leb (remainingIn s₁ (sourceIndex t k)) 1) (λ d. rw (e, d) (source-moved statusExpired 0 s s₁ fit (omega arith) cells)) (λ d. rw (e, d) (source-moved statusPending _ s s₁ fit (omega arith) cells)))
+      (λ e. split (leb (remainingIn s₁ (sourceIndex t k)) 1) (λ d. rw (e, d) (source-moved statusExpired 0 s s₁ fit (omega arith) cells))
+      (λ d. rw (e, d) (source-moved statusPending _ s s₁ fit (omega arith) cells)))
       (λ e. rw e (rw (cells .own) (stays t f _ _ wordOf _ held-source s s₁ cells))))
 
   source-things-move : (s : List ℕ) → Fits t s → SourceMoves (tickedSource (word s (sourceIndex t k))) s (tickThings t s)
@@ -282,11 +324,14 @@ module _ (t : List ℕ) (f : Facts t) (k : ℕ) (b : k < sources t) where
       let s₃ = tickSource t k s₂ in
       carried t f _ _ wordOf _ held-source _ s s₃ _ (ticked-source-here s s₂ fit₂ cells₂)
       (timers-keep t f _ _ (held-source .holder) s₃ _
-      (rw (whole, each-at (tickSource t) k m s₁) (past-sources t f _ _ wordOf (λ x. statusOf x) held-source s₃ s₃ (suc k) m (omega arith) (λ a u v z. omega arith) (cells-refl _ _ s₃))))
+      (rw (whole, each-at (tickSource t) k m s₁)
+      (past-sources t f _ _ wordOf (λ x. statusOf x) held-source s₃ s₃ (suc k) m (omega arith) (λ a u v z. omega arith) (cells-refl _ _ s₃))))
 
   -- what an event of the source's own makes of its word
   unfoldable pub wokenSource : ℕ → ℕ
-  wokenSource w = cond (eqb (statusOf w) statusNone || eqb (statusOf w) statusExpired) (packSource (cond (eqb (timeout t k) 0) statusValidated statusPending) (timeout t k)) w
+  wokenSource w =
+      cond (eqb (statusOf w) statusNone || eqb (statusOf w) statusExpired)
+      (packSource (cond (eqb (timeout t k) 0) statusValidated statusPending) (timeout t k)) w
 
   unfoldable pub validSource : ℕ → ℕ
   validSource w = cond (eqb (statusOf w) statusPending) (packSource statusValidated 0) w
@@ -303,7 +348,8 @@ module _ (t : List ℕ) (f : Facts t) (k : ℕ) (b : k < sources t) where
   other-index : (m : ℕ) → (m ≡ k → ⊥) → sourceIndex t m ≡ sourceIndex t k → ⊥
   other-index m d z = d (omega arith)
 
-  source-by-wake : (m : ℕ) (s : List ℕ) → m < sources t → Fits t s → SourceMoves (cond (eqb m k) (wokenSource (word s (sourceIndex t k))) (word s (sourceIndex t k))) s (wake t m s)
+  source-by-wake : (m : ℕ) (s : List ℕ) → m < sources t → Fits t s
+      → SourceMoves (cond (eqb m k) (wokenSource (word s (sourceIndex t k))) (word s (sourceIndex t k))) s (wake t m s)
   unfolding wake wokenSource
   source-by-wake m s c fit =
       split (eqb m k)
@@ -313,16 +359,19 @@ module _ (t : List ℕ) (f : Facts t) (k : ℕ) (b : k < sources t) where
       (λ a. rw a (split (eqb (statusIn t m s) statusNone || eqb (statusIn t m s) statusExpired)
       (λ e. rw e (by-source t f _ _ wordOf _ held-source m _ _ s c (other-index m (eqb-false _ _ a)))) (λ e. rw e (source-by-nothing s))))
 
-  source-by-valid : (m : ℕ) (s : List ℕ) → m < sources t → Fits t s → SourceMoves (cond (eqb m k) (validSource (word s (sourceIndex t k))) (word s (sourceIndex t k))) s (validate t m s)
+  source-by-valid : (m : ℕ) (s : List ℕ) → m < sources t → Fits t s
+      → SourceMoves (cond (eqb m k) (validSource (word s (sourceIndex t k))) (word s (sourceIndex t k))) s (validate t m s)
   unfolding validate validSource
   source-by-valid m s c fit =
       split (eqb m k)
       (λ a. let same : m ≡ k = eqb-true _ _ a in rw (a, same)
-      (split (eqb (statusIn t k s) statusPending) (λ e. rw e (source-moved statusValidated 0 s s fit (omega arith) (cells-refl _ _ s))) (λ e. rw e (source-by-nothing s))))
+      (split (eqb (statusIn t k s) statusPending) (λ e. rw e (source-moved statusValidated 0 s s fit (omega arith) (cells-refl _ _ s)))
+      (λ e. rw e (source-by-nothing s))))
       (λ a. rw a (split (eqb (statusIn t m s) statusPending)
       (λ e. rw e (by-source t f _ _ wordOf _ held-source m _ _ s c (other-index m (eqb-false _ _ a)))) (λ e. rw e (source-by-nothing s))))
 
-  source-by-clear : (m : ℕ) (s : List ℕ) → m < sources t → Fits t s → SourceMoves (cond (eqb m k) (packSource statusNone 0) (word s (sourceIndex t k))) s (clear t m s)
+  source-by-clear : (m : ℕ) (s : List ℕ) → m < sources t → Fits t s
+      → SourceMoves (cond (eqb m k) (packSource statusNone 0) (word s (sourceIndex t k))) s (clear t m s)
   unfolding clear
   source-by-clear m s c fit =
       split (eqb m k)
@@ -331,7 +380,8 @@ module _ (t : List ℕ) (f : Facts t) (k : ℕ) (b : k < sources t) where
 
   source-by-bus-off : (n : ℕ) (s : List ℕ) → n < networks t → SourceMoves (word s (sourceIndex t k)) s (busOff t n s)
   unfolding busOff
-  source-by-bus-off n s c = split (takes (networkIn t n s)) (λ d. rw d (by-network t f _ _ wordOf _ held-source n _ s c (λ z. omega arith))) (λ d. rw d (source-by-nothing s))
+  source-by-bus-off n s c =
+      split (takes (networkIn t n s)) (λ d. rw d (by-network t f _ _ wordOf _ held-source n _ s c (λ z. omega arith))) (λ d. rw d (source-by-nothing s))
 
   pub source-moves : (e : ℕ) (s : List ℕ) → Taken t e → Fits t s → SourceMoves (nextSource e s) s (happen t e s .state)
   source-moves e s w fit = go (happen t e) (event t e w)

@@ -42,10 +42,28 @@ module _ (t : List ℕ) (h : accepted t ≡ true) where
   unfolding refusedEvent wellFormed known named present suited sentByOwner ownerOf
   wakeup-known k b =
       let few = facts t h .counts .sources in let o = sourceOwner t k in
-      rw (kind-is eventWakeup o k (omega arith), value-is eventWakeup o k, zeros-are eventWakeup o k, index-is eventWakeup o k (omega arith), lt-ltb k (sources t) b, owner-is eventWakeup o k (digit-small _ 16 _ (omega arith)), eq-eqb o o refl)
+      rw (
+        kind-is eventWakeup o k (omega arith),
+        value-is eventWakeup o k,
+        zeros-are eventWakeup o k,
+        index-is eventWakeup o k (omega arith),
+        lt-ltb k
+            (sources t) b,
+        owner-is eventWakeup o k (digit-small _ 16 _ (omega arith)),
+        eq-eqb o o refl,
+      )
 
   pub bus-off-known : (n : ℕ) → n < networks t → refusedEvent t (ownersEvent eventBusOff (networkOwner t n) n) ≡ 0
   unfolding refusedEvent wellFormed known named present suited sentByOwner ownerOf
   bus-off-known n b =
       let few = facts t h .counts .networks in let o = networkOwner t n in
-      rw (kind-is eventBusOff o n (omega arith), value-is eventBusOff o n, zeros-are eventBusOff o n, index-is eventBusOff o n (omega arith), lt-ltb n (networks t) b, owner-is eventBusOff o n (digit-small _ 16 _ (omega arith)), eq-eqb o o refl)
+      rw (
+        kind-is eventBusOff o n (omega arith),
+        value-is eventBusOff o n,
+        zeros-are eventBusOff o n,
+        index-is eventBusOff o n (omega arith),
+        lt-ltb n
+            (networks t) b,
+        owner-is eventBusOff o n (digit-small _ 16 _ (omega arith)),
+        eq-eqb o o refl,
+      )

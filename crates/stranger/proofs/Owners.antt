@@ -6,7 +6,8 @@ use Prim.Native.Nat.{ℕ}
 use lib.Dec.{eqb}
 use borrow.Author.Tests.{eqb-true, eq-eqb, not-true}
 use Rattle.rulebook.specs.Words.{implies, between}
-use Rattle.rulebook.specs.Table.{portOwner, networkOwner, ruleOwner, listOwner, trueList, falseList, noList, itemKind, itemA, itemClear, itemStop, itemAsk, itemList, itemRule, platform, stranger}
+use Rattle.rulebook.specs.Table.{portOwner, networkOwner, ruleOwner, listOwner, trueList, falseList, noList, itemKind, itemA, itemClear, itemStop, itemAsk}
+use Rattle.rulebook.specs.Table.{itemList, itemRule, platform, stranger}
 use Rattle.rulebook.specs.Reasons.{ruleOwned, itemOwned}
 use Rattle.rulebook.specs.Lists.{choiceIn}
 use Rattle.laws.proofs.Tests.{clash, part-of, and-right, implies-elim, or-elim}
@@ -39,18 +40,23 @@ module _ (t : List ℕ) (w i : ℕ) (h : itemOwned t w i ≡ true) where
   unfolding itemOwned
   port-owned n k =
       eqb-true _ _ (implies-elim (between itemClear itemStop (itemKind t i)) _
-      (or-elim (eqb w platform) (implies (between itemClear itemStop (itemKind t i)) (eqb (portOwner t (itemA t i)) w)) (part-of _ (λ e. rw (itemOwned, e, and-false) at h)) n) k)
+      (or-elim (eqb w platform) (implies (between itemClear itemStop (itemKind t i)) (eqb (portOwner t (itemA t i)) w))
+      (part-of _ (λ e. rw (itemOwned, e, and-false) at h)) n) k)
 
   pub network-owned : eqb w platform ≡ false → itemKind t i ≡ itemAsk → networkOwner t (itemA t i) ≡ w
   unfolding itemOwned
   network-owned n k =
       eqb-true _ _ (implies-elim (eqb (itemKind t i) itemAsk) _
-      (or-elim (eqb w platform) (implies (eqb (itemKind t i) itemAsk) (eqb (networkOwner t (itemA t i)) w)) (part-of _ (λ e. rw (itemOwned, e, and-false) at h)) n) (eq-eqb _ _ k))
+      (or-elim (eqb w platform) (implies (eqb (itemKind t i) itemAsk) (eqb (networkOwner t (itemA t i)) w))
+      (part-of _ (λ e. rw (itemOwned, e, and-false) at h)) n) (eq-eqb _ _ k))
 
 -- the list that a rule starts has the rule's owner
 pub choice-owned : (t s : List ℕ) (r : ℕ) → ruleOwned t r ≡ true → eqb (choiceIn t s r) noList ≡ false → listOwner t (choiceIn t s r) ≡ ruleOwner t r
 unfolding ruleOwned choiceIn
 choice-owned t s r h n =
     choice-cases t r _ _ (λ e. clash (eq-eqb _ _ e) n)
-    (λ e. rw e (eqb-true _ _ (or-elim (eqb (trueList t r) noList) (eqb (listOwner t (trueList t r)) (ruleOwner t r)) (part-of _ (λ d. rw (ruleOwned, d, and-false) at h)) (rw e at n))))
-    (λ e. rw e (eqb-true _ _ (or-elim (eqb (falseList t r) noList) (eqb (listOwner t (falseList t r)) (ruleOwner t r)) (part-of _ (λ d. rw (ruleOwned, d, and-false) at h)) (rw e at n))))
+    (λ e. rw e (eqb-true _ _
+    (or-elim (eqb (trueList t r) noList) (eqb (listOwner t (trueList t r)) (ruleOwner t r)) (part-of _ (λ d. rw (ruleOwned, d, and-false) at h)) (rw e at n))))
+    (λ e. rw e (eqb-true _ _
+    (or-elim (eqb (falseList t r) noList) (eqb (listOwner t (falseList t r)) (ruleOwner t r)) (part-of _ (λ d. rw (ruleOwned, d, and-false) at h))
+    (rw e at n))))

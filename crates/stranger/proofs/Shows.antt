@@ -10,7 +10,8 @@ use lib.Dec.{eqb}
 use Rattle.rulebook.specs.Words.{word, digit}
 use Rattle.rulebook.specs.Table.{networks, sources, networkPort, sourcePort}
 use Rattle.rulebook.specs.Reasons.{accepted}
-use Rattle.rulebook.specs.State.{networkIndex, sourceIndex, stateLength, definedOf, valueOf, networkOf, statusOf, packPort, freshPort, freshThing, freshAt, fresh}
+use Rattle.rulebook.specs.State.{networkIndex, sourceIndex, stateLength, definedOf, valueOf, networkOf, statusOf, packPort, freshPort, freshThing, freshAt}
+use Rattle.rulebook.specs.State.{fresh}
 use Rattle.rulebook.specs.Lists.{networkIn}
 use Rattle.rulebook.specs.Events.{shown, happen}
 use Rattle.laws.proofs.Tests.{split}
@@ -27,26 +28,30 @@ use Rattle.stranger.proofs.Moves.{PortMoves, nextNetwork, network-moves
 
 -- one entry
 module _ (t : List ℕ) (h : accepted t ≡ true) where
-  network-entry : (n : ℕ) → n < networks t → (s : List ℕ) (x : Entry) → Follows t s x → Fits t s → PortMoves (networkPort t n) (modeToShow t n s) (modeToShow t n (x .state)) s (x .state)
+  network-entry : (n : ℕ) → n < networks t → (s : List ℕ) (x : Entry) → Follows t s x → Fits t s
+      → PortMoves (networkPort t n) (modeToShow t n s) (modeToShow t n (x .state)) s (x .state)
   unfolding modeToShow
   network-entry n b s x f fit =
       let m = network-moves t (facts t h) n b (x .event) s (taken f) fit in
       let e : nextNetwork t (facts t h) n b (x .event) s .state ≡ networkIn t n (happen t (x .event) s .state) .state = sym (ap (λ y. y .state) (m .own)) in
       rw (f .state) (rw (← e) (m .port))
 
-  source-entry : (k : ℕ) → k < sources t → (s : List ℕ) (x : Entry) → Follows t s x → Fits t s → PortMoves (sourcePort t k) (statusToShow t k s) (statusToShow t k (x .state)) s (x .state)
+  source-entry : (k : ℕ) → k < sources t → (s : List ℕ) (x : Entry) → Follows t s x → Fits t s
+      → PortMoves (sourcePort t k) (statusToShow t k s) (statusToShow t k (x .state)) s (x .state)
   unfolding statusToShow
   source-entry k b s x f fit = let m = source-moves t (facts t h) k b (x .event) s (taken f) fit in rw (f .state) (rw (m .own) (m .port))
 
 -- a log
 module _ (t : List ℕ) (h : accepted t ≡ true) (p : ℕ) (look : List ℕ → ℕ)
     (one : (s : List ℕ) (x : Entry) → Follows t s x → Fits t s → PortMoves p (look s) (look (x .state)) s (x .state)) where
-  value-after : (xs : List Entry) (s : List ℕ) → Log t s xs → Fits t s → valueOf (word s p) ≡ look s → valueOf (word (stateAfter s xs) p) ≡ look (stateAfter s xs)
+  value-after : (xs : List Entry) (s : List ℕ) → Log t s xs → Fits t s → valueOf (word s p) ≡ look s
+      → valueOf (word (stateAfter s xs) p) ≡ look (stateAfter s xs)
   unfolding stateAfter
   value-after [] s l fit v = v
   value-after (x ∷ xs) s l fit v = value-after xs (x .state) (l .1) (entry-fits t h s x (l .0) fit) (one s x (l .0) fit .value v)
 
-  defined-after : (xs : List Entry) (s : List ℕ) → Log t s xs → Fits t s → definedOf (word (stateAfter s xs) p) ≡ cond (changes look s xs) 1 (definedOf (word s p))
+  defined-after : (xs : List Entry) (s : List ℕ) → Log t s xs → Fits t s
+      → definedOf (word (stateAfter s xs) p) ≡ cond (changes look s xs) 1 (definedOf (word s p))
   unfolding stateAfter changes
   defined-after [] s l fit = refl
   defined-after (x ∷ xs) s l fit =
@@ -84,21 +89,27 @@ zero-port : (valueOf (packPort 0 0 0 0) ≡ 0) × (definedOf (packPort 0 0 0 0) 
 unfolding packPort digit
 zero-port = (refl, refl)
 
-shows-after : (t : List ℕ) (h : accepted t ≡ true) (p : ℕ) (look : List ℕ → ℕ) → ((s : List ℕ) (x : Entry) → Follows t s x → Fits t s → PortMoves p (look s) (look (x .state)) s (x .state))
+shows-after : (t : List ℕ) (h : accepted t ≡ true) (p : ℕ) (look : List ℕ → ℕ)
+    → ((s : List ℕ) (x : Entry) → Follows t s x → Fits t s → PortMoves p (look s) (look (x .state)) s (x .state))
     → MayShow t p → look (fresh t) ≡ 0 → (xs : List Entry) → Log t (fresh t) xs → PortShows p look (fresh t) xs
 shows-after t h p look one m zero-look xs l =
     let w = fresh-showing t p m in
     record {
       value = value-after t h p look one xs (fresh t) l (fresh-fits t h) (ap (λ (x : ℕ). valueOf x) w ∙ zero-port .0 ∙ sym zero-look);
-      defined = defined-after t h p look one xs (fresh t) l (fresh-fits t h) ∙ ap (λ (d : ℕ). cond (changes look (fresh t) xs) 1 d) (ap (λ (x : ℕ). definedOf x) w ∙ zero-port .1);
+      defined = defined-after t h p look one xs (fresh t) l (fresh-fits t h) ∙ ap (λ (d : ℕ). cond (changes look (fresh t) xs) 1 d)
+          (ap (λ (x : ℕ). definedOf x) w ∙ zero-port .1);
     }
 
-pub network-shows : (t : List ℕ) → accepted t ≡ true → (n : ℕ) → n < networks t → (xs : List Entry) → Log t (fresh t) xs → PortShows (networkPort t n) (modeToShow t n) (fresh t) xs
+pub network-shows : (t : List ℕ) → accepted t ≡ true → (n : ℕ) → n < networks t → (xs : List Entry) → Log t (fresh t) xs
+    → PortShows (networkPort t n) (modeToShow t n) (fresh t) xs
 unfolding modeToShow digit shown
 network-shows t h n b xs l =
-    shows-after t h (networkPort t n) (modeToShow t n) (network-entry t h n b) (may-show t _ (facts t h .network n b .may)) (ap (λ (w : ℕ). shown (networkOf w .state)) (fresh-network t n b)) xs l
+    shows-after t h (networkPort t n) (modeToShow t n) (network-entry t h n b) (may-show t _ (facts t h .network n b .may))
+    (ap (λ (w : ℕ). shown (networkOf w .state)) (fresh-network t n b)) xs l
 
-pub source-shows : (t : List ℕ) → accepted t ≡ true → (k : ℕ) → k < sources t → (xs : List Entry) → Log t (fresh t) xs → PortShows (sourcePort t k) (statusToShow t k) (fresh t) xs
+pub source-shows : (t : List ℕ) → accepted t ≡ true → (k : ℕ) → k < sources t → (xs : List Entry) → Log t (fresh t) xs
+    → PortShows (sourcePort t k) (statusToShow t k) (fresh t) xs
 unfolding statusToShow digit
 source-shows t h k b xs l =
-    shows-after t h (sourcePort t k) (statusToShow t k) (source-entry t h k b) (may-show t _ (facts t h .source k b .may)) (ap (λ (w : ℕ). statusOf w) (fresh-source t k b)) xs l
+    shows-after t h (sourcePort t k) (statusToShow t k) (source-entry t h k b) (may-show t _ (facts t h .source k b .may))
+    (ap (λ (w : ℕ). statusOf w) (fresh-source t k b)) xs l

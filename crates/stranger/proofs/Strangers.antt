@@ -47,7 +47,8 @@ module _ (t : List ℕ) (h : accepted t ≡ true) (o : ℕ) where
       (λ e. clash (rw (tick-owner t (x .event) (taken f) (eqb-true _ _ (unfold ticks in e))) at k) (platform-known o))
       (λ e. e)
 
-  kept-same : (s₁ s₂ : List ℕ) (x y : Entry) → Follows t s₁ x → Follows t s₂ y → x .event ≡ y .event → strangersEntry o x ≡ false → SameView t o s₁ s₂ → SameSeen t o x y
+  kept-same : (s₁ s₂ : List ℕ) (x y : Entry) → Follows t s₁ x → Follows t s₂ y → x .event ≡ y .event → strangersEntry o x ≡ false → SameView t o s₁ s₂
+      → SameSeen t o x y
   unfolding strangersEntry
   kept-same s₁ s₂ x y f g e k v =
       let alike = happen-confined t (facts t h) o (x .event) (taken f) .alike k s₁ s₂ v in
@@ -61,22 +62,26 @@ module _ (t : List ℕ) (h : accepted t ≡ true) (o : ℕ) where
       (none : (s₁ s₂ : List ℕ) → P s₁ [] s₂ [])
       (left : (s₁ s₂ : List ℕ) (x : Entry) (xs ys : List Entry) → Follows t s₁ x → strangersEntry o x ≡ true → P (x .state) xs s₂ ys → P s₁ (x ∷ xs) s₂ ys)
       (right : (s₁ s₂ : List ℕ) (y : Entry) (xs ys : List Entry) → Follows t s₂ y → strangersEntry o y ≡ true → P s₁ xs (y .state) ys → P s₁ xs s₂ (y ∷ ys))
-      (both : (s₁ s₂ : List ℕ) (x y : Entry) (xs ys : List Entry) → Follows t s₁ x → Follows t s₂ y → strangersEntry o x ≡ false → strangersEntry o y ≡ false → SameView t o s₁ s₂ → SameSeen t o x y → P (x .state) xs (y .state) ys → P s₁ (x ∷ xs) s₂ (y ∷ ys)) where
+      (both : (s₁ s₂ : List ℕ) (x y : Entry)
+      (xs ys : List Entry) → Follows t s₁ x → Follows t s₂ y → strangersEntry o x ≡ false → strangersEntry o y ≡ false → SameView t o s₁ s₂ → SameSeen t o x y → P (x .state) xs (y .state) ys → P s₁ (x ∷ xs) s₂ (y ∷ ys)) where
     pub beside : (s₁ s₂ : List ℕ) (xs ys : List Entry) → Log t s₁ xs → Log t s₂ ys → SameView t o s₁ s₂ → struckOut o xs ≡ struckOut o ys → P s₁ xs s₂ ys
     unfolding struckOut
     beside s₁ s₂ [] [] l m v e = none s₁ s₂
     beside s₁ s₂ [] (y ∷ ys) l m v e =
         split (strangersEntry o y)
-        (λ k. right s₁ s₂ y [] ys (m .0) k (beside s₁ (y .state) [] ys l (m .1) (same-view-trans t o v (strangers-unseen s₂ y (m .0) k .state)) (rw (k, struckOut) at e)))
+        (λ k. right s₁ s₂ y [] ys (m .0) k
+        (beside s₁ (y .state) [] ys l (m .1) (same-view-trans t o v (strangers-unseen s₂ y (m .0) k .state)) (rw (k, struckOut) at e)))
         (λ k. absurd (empty (rw (k, struckOut) at e)))
     beside s₁ s₂ (x ∷ xs) [] l m v e =
         split (strangersEntry o x)
-        (λ k. left s₁ s₂ x xs [] (l .0) k (beside (x .state) s₂ xs [] (l .1) m (same-view-trans t o (same-view-sym t o (strangers-unseen s₁ x (l .0) k .state)) v) (rw (k, struckOut) at e)))
+        (λ k. left s₁ s₂ x xs [] (l .0) k
+        (beside (x .state) s₂ xs [] (l .1) m (same-view-trans t o (same-view-sym t o (strangers-unseen s₁ x (l .0) k .state)) v) (rw (k, struckOut) at e)))
         (λ k. absurd (empty (sym (rw (k, struckOut) at e))))
     beside s₁ s₂ (x ∷ xs) (y ∷ ys) l m v e =
         split (strangersEntry o x)
         (λ k. left s₁ s₂ x xs (y ∷ ys) (l .0) k
-        (beside (x .state) s₂ xs (y ∷ ys) (l .1) m (same-view-trans t o (same-view-sym t o (strangers-unseen s₁ x (l .0) k .state)) v) (rw (k, struckOut) at e)))
+        (beside (x .state) s₂ xs (y ∷ ys) (l .1) m (same-view-trans t o (same-view-sym t o (strangers-unseen s₁ x (l .0) k .state)) v)
+        (rw (k, struckOut) at e)))
         (λ k. split (strangersEntry o y)
         (λ j. right s₁ s₂ y (x ∷ xs) ys (m .0) j
         (beside s₁ (y .state) (x ∷ xs) ys l (m .1) (same-view-trans t o v (strangers-unseen s₂ y (m .0) j .state)) (rw (j, struckOut) at e)))
@@ -90,7 +95,8 @@ module _ (t : List ℕ) (h : accepted t ≡ true) (o : ℕ) where
   unfolding seenOf
   same-seen e i = record { state = same-visible t o (e .state) i; words = e .words i }
 
-  pub seen-beside : (s₁ s₂ : List ℕ) (xs ys : List Entry) → Log t s₁ xs → Log t s₂ ys → SameView t o s₁ s₂ → struckOut o xs ≡ struckOut o ys → seen t o xs ≡ seen t o ys
+  pub seen-beside : (s₁ s₂ : List ℕ) (xs ys : List Entry) → Log t s₁ xs → Log t s₂ ys → SameView t o s₁ s₂ → struckOut o xs ≡ struckOut o ys
+      → seen t o xs ≡ seen t o ys
   unfolding seen
   seen-beside =
       beside (λ s₁ xs s₂ ys. seen t o xs ≡ seen t o ys) (λ s₁ s₂. refl)
@@ -100,8 +106,10 @@ module _ (t : List ℕ) (h : accepted t ≡ true) (o : ℕ) where
   -- Moments fall at the same ticks, if a stranger's entry brings none and o's and the platform's bring the same.
   module _ (bring : ℕ → List ℕ → Entry → List Moment)
       (quiet : (j : ℕ) (s : List ℕ) (x : Entry) → Follows t s x → strangersEntry o x ≡ true → bring j s x ≡ [])
-      (alike : (j : ℕ) (s₁ s₂ : List ℕ) (x y : Entry) → Follows t s₁ x → Follows t s₂ y → SameView t o s₁ s₂ → SameSeen t o x y → bring j s₁ x ≡ bring j s₂ y) where
-    strange : (j : ℕ) (s : List ℕ) (x : Entry) (xs : List Entry) → Follows t s x → strangersEntry o x ≡ true → moments bring j s (x ∷ xs) ≡ moments bring j (x .state) xs
+      (alike : (j : ℕ) (s₁ s₂ : List ℕ)
+      (x y : Entry) → Follows t s₁ x → Follows t s₂ y → SameView t o s₁ s₂ → SameSeen t o x y → bring j s₁ x ≡ bring j s₂ y) where
+    strange : (j : ℕ) (s : List ℕ) (x : Entry) (xs : List Entry) → Follows t s x → strangersEntry o x ≡ true
+        → moments bring j s (x ∷ xs) ≡ moments bring j (x .state) xs
     unfolding moments
     strange j s x xs f k = rw (strangers-tick s x f k, zero-add j, quiet j s x f k)
 
@@ -109,7 +117,8 @@ module _ (t : List ℕ) (h : accepted t ≡ true) (o : ℕ) where
     unfolding ticks
     same-ticks x y e = rw e
 
-    pub moments-beside : (s₁ s₂ : List ℕ) (xs ys : List Entry) → Log t s₁ xs → Log t s₂ ys → SameView t o s₁ s₂ → struckOut o xs ≡ struckOut o ys → (j : ℕ) → moments bring j s₁ xs ≡ moments bring j s₂ ys
+    pub moments-beside : (s₁ s₂ : List ℕ) (xs ys : List Entry) → Log t s₁ xs → Log t s₂ ys → SameView t o s₁ s₂ → struckOut o xs ≡ struckOut o ys → (j : ℕ)
+        → moments bring j s₁ xs ≡ moments bring j s₂ ys
     unfolding moments
     moments-beside =
         beside (λ s₁ xs s₂ ys. (j : ℕ) → moments bring j s₁ xs ≡ moments bring j s₂ ys) (λ s₁ s₂ j. refl)

@@ -63,12 +63,14 @@ module _ (t : List ℕ) (h : accepted t ≡ true) (k : ℕ) (b : k < sources t) 
   unfolding nextSource
   next-tick e s z = rw z
 
-  next-same : (x : Entry) (s : List ℕ) (j : ℕ) → ticks x ≡ false → ended k x ≡ false → PendingAt T j (word s (sourceIndex t k)) → nextSource t f k b (x .event) s ≡ word s (sourceIndex t k)
+  next-same : (x : Entry) (s : List ℕ) (j : ℕ) → ticks x ≡ false → ended k x ≡ false → PendingAt T j (word s (sourceIndex t k))
+      → nextSource t f k b (x .event) s ≡ word s (sourceIndex t k)
   unfolding nextSource wokenSource ticks ended
   next-same x s j nt ne p =
       let e = x .event in
       split (eqb (eventIndex e) k)
-      (λ i. let neither : (eqb (eventKind e) eventValid || eqb (eventKind e) eventClear) ≡ false = rw-and (eqb (eventKind e) eventValid || eqb (eventKind e) eventClear) (rw i at ne) in
+      (λ i. let neither : (eqb (eventKind e) eventValid || eqb (eventKind e) eventClear) ≡ false = rw-and
+      (eqb (eventKind e) eventValid || eqb (eventKind e) eventClear) (rw i at ne) in
       split (eqb (eventKind e) eventValid) (λ v. clash (rw v) neither)
       (λ v. let c : eqb (eventKind e) eventClear ≡ false = rw v at neither in
       split (eqb (eventKind e) eventWakeup) (λ w. rw (nt, w, i, p .status)) (λ w. rw (nt, w, v, c))))
@@ -86,7 +88,8 @@ module _ (t : List ℕ) (h : accepted t ≡ true) (k : ℕ) (b : k < sources t) 
   pub next-own : (s : List ℕ) (x : Entry) → Follows t s x → Fits t s → Own (x .state) ≡ nextSource t f k b (x .event) s
   next-own s x l fit = ap (λ (y : List ℕ). word y (sourceIndex t k)) (l .state) ∙ source-moves t f k b (x .event) s (taken l) fit .own
 
-  entry-pending : (j : ℕ) (s : List ℕ) (x : Entry) → Follows t s x → Fits t s → ended k x ≡ false → cond (ticks x) 1 0 + j < T → PendingAt T j (Own s) → PendingAt T (cond (ticks x) 1 0 + j) (Own (x .state))
+  entry-pending : (j : ℕ) (s : List ℕ) (x : Entry) → Follows t s x → Fits t s → ended k x ≡ false → cond (ticks x) 1 0 + j < T → PendingAt T j (Own s)
+      → PendingAt T (cond (ticks x) 1 0 + j) (Own (x .state))
   entry-pending j s x l fit n lt p =
       split (ticks x)
       (λ d. let one : 1 + j ≡ suc j = omega arith in
@@ -94,14 +97,16 @@ module _ (t : List ℕ) (h : accepted t ≡ true) (k : ℕ) (b : k < sources t) 
       rw (d, one, next-own s x l fit, next-tick (x .event) s (is-tick x d)) (ticked-on j (Own s) (omega arith) p))
       (λ d. rw (d, zero-add j, next-own s x l fit, next-same x s j d n p) p)
 
-  log-pending : (xs : List Entry) (j : ℕ) (s : List ℕ) → Log t s xs → Fits t s → notEnded k xs ≡ true → tickCount xs + j < T → PendingAt T j (Own s) → PendingAt T (tickCount xs + j) (Own (stateAfter s xs))
+  log-pending : (xs : List Entry) (j : ℕ) (s : List ℕ) → Log t s xs → Fits t s → notEnded k xs ≡ true → tickCount xs + j < T → PendingAt T j (Own s)
+      → PendingAt T (tickCount xs + j) (Own (stateAfter s xs))
   unfolding notEnded tickCount stateAfter
   log-pending [] j s l fit n lt p = rw (zero-add j) p
   log-pending (x ∷ xs) j s l fit n lt p =
       let i : ℕ = cond (ticks x) 1 0 in
       let sum : i + tickCount xs + j ≡ tickCount xs + (i + j) = omega arith in
       let one = not-true _ (and-left _ (notEnded k xs) n) in
-      rw sum (log-pending xs (i + j) (x .state) (l .1) (entry-fits t h s x (l .0) fit) (and-right (not (ended k x)) _ n) (omega arith) (entry-pending j s x (l .0) fit one (omega arith) p))
+      rw sum (log-pending xs (i + j) (x .state) (l .1) (entry-fits t h s x (l .0) fit) (and-right (not (ended k x)) _ n) (omega arith)
+      (entry-pending j s x (l .0) fit one (omega arith) p))
 
 -- The wakeup that starts it.
 
@@ -124,17 +129,20 @@ starts-pending t k s x h =
 source-there : (t : List ℕ) (k : ℕ) (s : List ℕ) (x : Entry) → Follows t s x → becomesPending t k s x ≡ true → k < sources t
 source-there t k s x l h = let st = starts-pending t k s x h in rw (st .index) at (of-wakeup t (x .event) (taken l) (st .kind) .there)
 
-start-pending : (t : List ℕ) (h : accepted t ≡ true) (k : ℕ) (s : List ℕ) (fit : Fits t s) (x : Entry) → Follows t s x → becomesPending t k s x ≡ true → PendingAt (timeout t k) 0 (word (x .state) (sourceIndex t k))
+start-pending : (t : List ℕ) (h : accepted t ≡ true) (k : ℕ) (s : List ℕ) (fit : Fits t s) (x : Entry) → Follows t s x → becomesPending t k s x ≡ true
+    → PendingAt (timeout t k) 0 (word (x .state) (sourceIndex t k))
 unfolding nextSource wokenSource
 start-pending t h k s fit x l woken =
     let st = starts-pending t k s x woken in
     let there = source-there t k s x l woken in
     let one = st .some in
-    rw (next-own t h k there s x l fit, st .kind, st .index, eq-eqb k k refl, st .idle, ne-eqb (timeout t k) 0 (λ z. omega arith)) (pending-packed t h k there (timeout t k) 0 (omega arith))
+    rw (next-own t h k there s x l fit, st .kind, st .index, eq-eqb k k refl, st .idle, ne-eqb (timeout t k) 0 (λ z. omega arith))
+    (pending-packed t h k there (timeout t k) 0 (omega arith))
 
 -- The theorem: from fresh, whatever went before, a wakeup makes k pending, and entries follow that do not end it.
 
-module _ (t : List ℕ) (h : accepted t ≡ true) (k : ℕ) (before : List Entry) (x : Entry) (woken : becomesPending t k (stateAfter (fresh t) before) x ≡ true) where
+module _ (t : List ℕ) (h : accepted t ≡ true) (k : ℕ) (before : List Entry) (x : Entry)
+    (woken : becomesPending t k (stateAfter (fresh t) before) x ≡ true) where
   abbrev s₀ : List ℕ
   s₀ = stateAfter (fresh t) before
 
@@ -151,9 +159,11 @@ module _ (t : List ℕ) (h : accepted t ≡ true) (k : ℕ) (before : List Entry
     k-there : k < sources t
     k-there = source-there t k s₀ x here woken
 
-    run : (ys zs : List Entry) → xs ≡ ys ++ zs → notEnded k ys ≡ true → tickCount ys < timeout t k → PendingAt (timeout t k) (tickCount ys) (word (stateAfter (x .state) ys) (sourceIndex t k))
+    run : (ys zs : List Entry) → xs ≡ ys ++ zs → notEnded k ys ≡ true → tickCount ys < timeout t k
+        → PendingAt (timeout t k) (tickCount ys) (word (stateAfter (x .state) ys) (sourceIndex t k))
     run ys zs parts unended early =
-        rw add-zero at (log-pending t h k k-there ys 0 (x .state) (log-parts t (x .state) ys zs (rw parts at rest) .0) (entry-fits t h s₀ x here fit₀) unended (rw add-zero early) (start-pending t h k s₀ fit₀ x here woken))
+        rw add-zero at (log-pending t h k k-there ys 0 (x .state) (log-parts t (x .state) ys zs (rw parts at rest) .0)
+        (entry-fits t h s₀ x here fit₀) unended (rw add-zero early) (start-pending t h k s₀ fit₀ x here woken))
 
     -- what k shows at the end
     shown-last : showsStatus t k (stateAfter (x .state) xs) ≡ statusIn t k (stateAfter (x .state) xs)
@@ -161,13 +171,15 @@ module _ (t : List ℕ) (h : accepted t ≡ true) (k : ℕ) (before : List Entry
     shown-last = rw (after-append (fresh t) before (x ∷ xs)) at (source-shows t h k k-there (before ++ x ∷ xs) log .value)
 
   -- before the T-th tick
-  pub source-between : (xs : List Entry) → Log t (fresh t) (before ++ x ∷ xs) → notEnded k xs ≡ true → tickCount xs < timeout t k → Waiting t k (tickCount xs) (stateAfter (x .state) xs)
+  pub source-between : (xs : List Entry) → Log t (fresh t) (before ++ x ∷ xs) → notEnded k xs ≡ true → tickCount xs < timeout t k
+      → Waiting t k (tickCount xs) (stateAfter (x .state) xs)
   source-between xs log unended early =
       let r = run xs log xs [] (sym (append-nil xs)) unended early in
       record { pending = λ z. (r .status, r .remaining, shown-last xs log ∙ r .status); expired = λ z. absurd (omega arith) }
 
   -- and after the next tick: pending still, or expired if it is the T-th
-  pub source-at-tick : (xs : List Entry) (d : Entry) → Log t (fresh t) (before ++ x ∷ (xs ++ d ∷ [])) → notEnded k xs ≡ true → tickCount xs < timeout t k → ticks d ≡ true → Waiting t k (suc (tickCount xs)) (d .state)
+  pub source-at-tick : (xs : List Entry) (d : Entry) → Log t (fresh t) (before ++ x ∷ (xs ++ d ∷ [])) → notEnded k xs ≡ true → tickCount xs < timeout t k
+      → ticks d ≡ true → Waiting t k (suc (tickCount xs)) (d .state)
   unfolding stateAfter
   source-at-tick xs d log unended early is =
       let ys = xs ++ d ∷ [] in
