@@ -1,12 +1,12 @@
 -- One-step laws: each says of one definition what the marked run does not meet, so that an edit of it is refused. Assumes nothing.
 use Prim.Native.Nat.{ℕ, _+_, _<_, min}
-use mathlib.Core.Path.{_≡_}
+use mathlib.Core.Path.{_≡_, refl}
 use mathlib.Core.Bool.{Bool, true, false}
-use mathlib.Core.List.{List}
+use mathlib.Core.List.{List, [], _∷_}
 use native.Mathlib.Omega.{arith}
 use borrow.Author.Tests.{lt-leb, ne-eqb, eqb-true}
 use Rattle.rulebook.specs.Table.{threshold, l2, networkOwner, itemKind, itemA, itemAsk, platform}
-use Rattle.rulebook.specs.Reasons.{itemOwned}
+use Rattle.rulebook.specs.Reasons.{itemOwned, Link, ofTable, ofWords, reasons}
 use lib.Dec.{eqb}
 use Rattle.rulebook.specs.State.{ownerOf, stateRecover, statusPending}
 use Rattle.rulebook.specs.Lists.{networkIn}
@@ -41,3 +41,15 @@ asks-own t o i h ne k = eqb-true (networkOwner t (itemA t i)) o (rw (k, ne-eqb o
 pub sent-by-owner : (t : List ℕ) (e : ℕ) → sentByOwner t e ≡ true → eqb (eventKind e) eventTick ≡ false → eventOwner e ≡ ownerOf t (named e)
 unfolding sentByOwner
 sent-by-owner t e h k = eqb-true (eventOwner e) (ownerOf t (named e)) (rw k at h)
+
+-- each rule has its own number, in document 01's order; that the rules themselves stand in that order is `Rules`' (laws/proofs/Acceptance)
+abbrev numberOf : Link → ℕ
+numberOf (ofTable k rule) = k
+numberOf (ofWords k rule) = k
+
+abbrev numbersOf : List Link → List ℕ
+numbersOf [] = []
+numbersOf (link ∷ links) = numberOf link ∷ numbersOf links
+
+pub reasons-in-order : numbersOf reasons ≡ 1 ∷ 2 ∷ 3 ∷ 4 ∷ 5 ∷ 6 ∷ 7 ∷ 8 ∷ 9 ∷ []
+reasons-in-order = refl
