@@ -1,14 +1,14 @@
 -- Which ports are arbitrated: one port, the marked ports, none. Assumes nothing.
 use Prim.Native.Nat.{ℕ, zero, suc, _+_, _<_, _≤_}
 use mathlib.Core.Path.{_≡_, refl, sym, ap, fun-ext, _∙_}
-use mathlib.Core.Bool.{Bool, false, cond, _&&_, and-false}
+use mathlib.Core.Bool.{Bool, false, cond, and-false}
 use mathlib.Core.List.{List}
 use native.Mathlib.Omega.{arith}
 use lib.ListN.{length, set, length-set, replicate}
 use lib.Seq.{getD-set-other}
 use lib.Dec.{eqb, ltb}
 use borrow.Author.Tests.{eq-eqb, ne-eqb, eqb-true, eqb-false, ltb-true, ltb-false, le-ltb}
-use Rattle.rulebook.specs.Words.{word, field, any, each}
+use Rattle.rulebook.specs.Words.{any, each}
 use Rattle.rulebook.specs.Table.{ports, rules, left, right, ruleExpression}
 use Rattle.rulebook.specs.Expressions.{deepest, operator, expressionMentions, mentions}
 use Rattle.rulebook.specs.Lists.{start}

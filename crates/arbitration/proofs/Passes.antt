@@ -9,12 +9,11 @@ use native.Mathlib.Nat.{sub-zero}
 use lib.ListN.{length, set, replicate}
 use lib.Seq.{set-out, getD-set-same, getD-set-other}
 use lib.Dec.{eqb}
-use borrow.Author.Tests.{eq-eqb, ne-eqb, eqb-true, eqb-false, not-true, not-false}
-use Rattle.rulebook.specs.Words.{word, field, any, each}
-use Rattle.rulebook.specs.Table.{rules, ruleWord, nestedOnly, ruleExpression, noList, triggered}
-use Rattle.rulebook.specs.Expressions.{deepest, mentions}
-use Rattle.rulebook.specs.Lists.{start, unready, resultIn, previousIn, listFor, choice, choiceIn, setResult}
-use Rattle.rulebook.specs.Arbitration.{unmarkPort, unmarkPorts, evaluated, storeResult, storeResults, chooses, chosen, order, runChosen, decide, arbitrate}
+use borrow.Author.Tests.{ne-eqb, eqb-true, eqb-false}
+use Rattle.rulebook.specs.Words.{word, any, each}
+use Rattle.rulebook.specs.Table.{rules, noList, triggered}
+use Rattle.rulebook.specs.Lists.{start, resultIn, previousIn, listFor, choice, choiceIn}
+use Rattle.rulebook.specs.Arbitration.{unmarkPorts, evaluated, storeResult, storeResults, chooses, chosen, order, runChosen, decide, arbitrate}
 use Rattle.words.specs.Flags.{flagged}
 use Rattle.words.proofs.Fill.{none-of-zeros}
 use Rattle.walks.proofs.Walks.{any-end}

@@ -13,7 +13,7 @@ use Rattle.rulebook.specs.Lists.{Run, traceWord, setPort, networkIn, setNetwork
 use Rattle.rulebook.specs.Arbitration.{arbitrate}
 use Rattle.rulebook.specs.Events.{request, statusIn, setSource, moveSource, wake, validate, clear, shown, moveNetwork, takes, busOff}
 use Rattle.rulebook.specs.Events.{tickNetwork, remainingIn, tickSource, tickTimer, tickThings, arbitrateMarked, tick, happen}
-use Rattle.rulebook.specs.Step.{Result, step}
+use Rattle.rulebook.specs.Step.{step}
 use Rattle.rulebook.proofs.Width.{port-word, rule-word, network-word, source-word, trace-word}
 use Rattle.laws.specs.Facts.{Facts}
 use Rattle.laws.proofs.Tests.{split, and-left, and-right}

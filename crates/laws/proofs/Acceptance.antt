@@ -12,8 +12,8 @@ use lib.Dec.{ltb, eqb}
 use borrow.Author.Tests.{ltb-true, ltb-false, lt-ltb, eqb-true, eqb-false, not-false}
 use Rattle.rulebook.specs.Words.{first}
 use Rattle.rulebook.specs.Table.{Part, part}
-use Rattle.rulebook.specs.Reasons.{Verdict, verdict, breaks, lowest, Link, ofTable, ofWords, reasons, orNext, firstOf, check, accepted}
-use Rattle.laws.specs.Acceptance.{Everywhere, Rules, reasonOf, broken, GivenBy, here, later, Given}
+use Rattle.rulebook.specs.Reasons.{Verdict, verdict, breaks, lowest, Link, ofTable, ofWords, reasonOf, reasons, orNext, firstOf, check, accepted}
+use Rattle.laws.specs.Acceptance.{Everywhere, Rules, broken, GivenBy, here, later, Given}
 use Rattle.laws.proofs.Tests.{split, clash, and-both, and-left, and-right}
 use Rattle.laws.proofs.Walks.{first-holds, first-before}
 
@@ -25,7 +25,7 @@ place-of e = ap (λ (w : Verdict). w .place) e
 
 -- One rule: it holds and is broken nowhere, or it fails at the lowest word that breaks it.
 
-abbrev pub Holds : List ℕ → Link → Type 0
+abbrev Holds : List ℕ → Link → Type 0
 Holds t (ofTable k rule) = rule t ≡ true
 Holds t (ofWords k rule) = Everywhere rule t
 

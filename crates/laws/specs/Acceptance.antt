@@ -8,7 +8,7 @@ use lib.ListN.{length}
 use lib.Dec.{ltb, eqb}
 use Rattle.rulebook.specs.Table.{Part, part}
 use Rattle.rulebook.specs.Reasons.{hasHeader, knownEdition, countsInside, exactLength, ownFields, names, nesting, owners, affordable, breaks}
-use Rattle.rulebook.specs.Reasons.{Link, ofTable, ofWords, reasons}
+use Rattle.rulebook.specs.Reasons.{Link, ofTable, ofWords, reasonOf, reasons}
 
 -- every word of the table keeps a rule
 abbrev pub Everywhere : (List ℕ → Part → Bool) → List ℕ → Type 0
@@ -24,10 +24,6 @@ pub record Rules (t : List ℕ) : Type 0 where
   pub nested : Everywhere nesting t
   pub owned : Everywhere owners t
   pub cost : affordable t ≡ true
-
-abbrev pub reasonOf : Link → ℕ
-reasonOf (ofTable k rule) = k
-reasonOf (ofWords k rule) = k
 
 -- Word i breaks a rule. A rule of the whole table is broken, if at all, at place 0.
 unfoldable pub broken : Link → List ℕ → ℕ → Bool

@@ -6,7 +6,7 @@ use mathlib.Core.List.{List, [], _∷_}
 use native.Mathlib.Omega.{arith}
 use borrow.Author.Tests.{lt-leb, ne-eqb, eqb-true}
 use Rattle.rulebook.specs.Table.{threshold, l2, networkOwner, itemKind, itemA, itemAsk, platform}
-use Rattle.rulebook.specs.Reasons.{itemOwned, Link, ofTable, ofWords, reasons}
+use Rattle.rulebook.specs.Reasons.{itemOwned, Link, reasonOf, reasons}
 use lib.Dec.{eqb}
 use Rattle.rulebook.specs.State.{ownerOf, stateRecover, statusPending}
 use Rattle.rulebook.specs.Lists.{networkIn}
@@ -43,13 +43,9 @@ unfolding sentByOwner
 sent-by-owner t e h k = eqb-true (eventOwner e) (ownerOf t (named e)) (rw k at h)
 
 -- each rule has its own number, in document 01's order; that the rules themselves stand in that order is `Rules`' (laws/proofs/Acceptance)
-abbrev numberOf : Link → ℕ
-numberOf (ofTable k rule) = k
-numberOf (ofWords k rule) = k
-
 abbrev numbersOf : List Link → List ℕ
 numbersOf [] = []
-numbersOf (link ∷ links) = numberOf link ∷ numbersOf links
+numbersOf (link ∷ links) = reasonOf link ∷ numbersOf links
 
 pub reasons-in-order : numbersOf reasons ≡ 1 ∷ 2 ∷ 3 ∷ 4 ∷ 5 ∷ 6 ∷ 7 ∷ 8 ∷ 9 ∷ []
 reasons-in-order = refl

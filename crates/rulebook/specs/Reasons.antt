@@ -244,6 +244,10 @@ pub data Link : Type 0 where
   ofTable : ℕ → (List ℕ → Bool) → Link
   ofWords : ℕ → (List ℕ → Part → Bool) → Link
 
+abbrev pub reasonOf : Link → ℕ
+reasonOf (ofTable k rule) = k
+reasonOf (ofWords k rule) = k
+
 -- "Table reasons, in order"
 abbrev pub reasons : List Link
 reasons =

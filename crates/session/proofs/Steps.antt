@@ -1,7 +1,7 @@
 -- An event that answers 1 to 3 do not refuse: what its call needs, how much it prints, and that the next one is not refused by them
 -- either. Assumes nothing.
 use Prim.Native.Nat.{ℕ, _+_, _*_, _<_, _≤_}
-use mathlib.Core.Path.{_≡_, refl, sym, ap, _∙_}
+use mathlib.Core.Path.{_≡_, refl, sym, _∙_}
 use mathlib.Core.Bool.{true, false}
 use mathlib.Core.List.{List}
 use native.Mathlib.Omega.{arith}
@@ -12,7 +12,7 @@ use borrow.Author.Tests.{le-ltb, lt-ltb, le-leb, leb-false, leb-true, eqb-true}
 use Rattle.rulebook.specs.Reasons.{bound, accepted}
 use Rattle.rulebook.specs.State.{fits}
 use Rattle.rulebook.specs.Events.{happen}
-use Rattle.rulebook.specs.Step.{Result, refusedState, refusedCall, firstFault, refusedEvent, conclude, step, handle}
+use Rattle.rulebook.specs.Step.{refusedState, refusedCall, firstFault, refusedEvent, conclude, step, handle}
 use Rattle.laws.specs.Callable.{Callable}
 use Rattle.laws.proofs.Tests.{split}
 use Rattle.laws.proofs.Facts.{facts}

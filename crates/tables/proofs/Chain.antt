@@ -7,7 +7,7 @@ use mathlib.Core.List.{List, [], _∷_}
 use native.Mathlib.Omega.{arith}
 use lib.Dec.{leb, eqb}
 use lib.ListN.{length}
-use borrow.Author.Tests.{lt-ltb, le-ltb, lt-leb, le-leb, leb-true, not-false}
+use borrow.Author.Tests.{lt-leb, le-leb, leb-true, not-false}
 use Rattle.rulebook.specs.Words.{between}
 use Rattle.rulebook.specs.Table.{Part, ports, networks, sources, expressions, rules, lists, items, listsFrom, tableLength, atList, part}
 use Rattle.rulebook.specs.Expressions.{deepest}

@@ -8,7 +8,7 @@ use lib.ListN.{length, set, length-append}
 use borrow.Author.Tests.{le-leb, lt-leb}
 use Rattle.text.specs.Lines.{hexDigit, digits}
 use Rattle.text.specs.Puts.{lay, Put}
-use Rattle.text.proofs.Digits.{below, length-digits}
+use Rattle.text.proofs.Digits.{length-digits}
 use Rattle.text.proofs.Lay.{lay-none, lay-back}
 
 module _ (line out : List ℕ) (at : ℕ) where
@@ -35,9 +35,6 @@ module _ (line out : List ℕ) (at next : ℕ) (after : List ℕ) (put : Put lin
   refused h =
       let q = lt-leb (at + length line) (length out) h in
       (rw q at (put .place), rw q at (put .bytes))
-
-  pub unwritten : next ≡ at → 0 < length line → length out < at + length line
-  unwritten e some = below (length out) (at + length line) (λ h. h) (λ h. absurd (omega (arith, laid h .0)))
 
 -- a loop that stores the digits of n from the last to the first
 

@@ -5,8 +5,8 @@ use mathlib.Core.Bool.{Bool, true, false, cond}
 use mathlib.Core.List.{List}
 use native.Mathlib.Omega.{arith}
 use lib.Dec.{ltb, eqb}
-use borrow.Author.Tests.{lt-ltb, le-ltb, eq-eqb, ne-eqb}
-use Rattle.rulebook.specs.Table.{Part, portsFrom, networksFrom, sourcesFrom, expressionsFrom, rulesFrom, listsFrom, itemsFrom}
+use borrow.Author.Tests.{lt-ltb, eq-eqb, ne-eqb}
+use Rattle.rulebook.specs.Table.{Part, portsFrom, networksFrom, sourcesFrom, expressionsFrom, rulesFrom, listsFrom}
 use Rattle.rulebook.specs.Table.{inHeader, atPort, atNetwork, atWaits, atSource, atExpression, atRule, atList, atItem, part}
 use Rattle.rulebook.specs.Words.{digit}
 use Rattle.laws.proofs.Parts.{in-header, in-ports, in-networks, in-sources, in-expressions, in-rules, in-lists, in-items}
