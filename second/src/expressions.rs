@@ -28,7 +28,8 @@ pub fn mentions(table: &Table, number: usize, wanted: &dyn Fn(usize) -> bool) ->
     }
 }
 
-/// What an expression gives where the ports have these values.
+/// What an expression gives where the ports have these values. Both sides are
+/// always evaluated, so that programs that skip one can be judged by it.
 pub fn evaluate(table: &Table, number: usize, value: &dyn Fn(usize) -> u32) -> bool {
     let argument = |number: u32| evaluate(table, number as usize, value);
     match table.expression(number) {
@@ -42,10 +43,10 @@ pub fn evaluate(table: &Table, number: usize, value: &dyn Fn(usize) -> u32) -> b
             }
         }
         Expression::Operator(operator) => match operator.kind {
-            expression::AND => argument(operator.left) && argument(operator.right),
-            expression::OR => argument(operator.left) || argument(operator.right),
+            expression::AND => argument(operator.left) & argument(operator.right),
+            expression::OR => argument(operator.left) | argument(operator.right),
             expression::XOR => argument(operator.left) != argument(operator.right),
-            expression::NAND => !(argument(operator.left) && argument(operator.right)),
+            expression::NAND => !(argument(operator.left) & argument(operator.right)),
             _ => !argument(operator.left),
         },
     }
