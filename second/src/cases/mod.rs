@@ -7,6 +7,7 @@ pub mod refused;
 pub mod sequences;
 pub mod states;
 pub mod tables;
+pub mod wide;
 
 use draft::{Draft, SEVEN};
 use prng::Prng;
@@ -14,6 +15,7 @@ use refused::Refused;
 use sequences::sequence;
 use states::{MISFITS, Misfit, fit_state, fresh_state, unfit_state};
 use tables::{PADDING, Plan, fill_items, grow, pad};
+use wide::widen;
 
 use crate::check;
 use crate::words::*;
@@ -58,6 +60,7 @@ enum Shape {
     Limits,
     Dearest,
     Brimful,
+    Wide,
     SevenDeep,
     EightDeep,
     NotReached,
@@ -71,13 +74,14 @@ enum Shape {
 }
 
 /// The shapes come round in this order, so that every seed meets all of them.
-const ROUND: [Shape; 40] = {
+const ROUND: [Shape; 44] = {
     use Shape::*;
     [
-        Small, Rich, Refused, Small, NotReached, Unfit, Small, Refused, SevenDeep, Small, Rich,
-        TwoFaults, Small, BitsFlipped, Refused, Small, NotReached, Unfit, Rich, EightDeep, Small,
-        NamesTurned, Dearest, Small, Raw, Rich, Refused, Unfit, Small, NotReached, Hostile, Small,
-        Refused, Limits, Rich, Small, Brimful, NamesTurned, Unfit, NotReached,
+        Small, Rich, Refused, Small, NotReached, Unfit, Small, Refused, SevenDeep, Wide, Small,
+        Rich, TwoFaults, Small, BitsFlipped, Refused, Small, NotReached, Unfit, Rich, Wide,
+        EightDeep, Small, NamesTurned, Dearest, Small, Raw, Rich, Refused, Unfit, Small, Wide,
+        NotReached, Hostile, Small, Refused, Limits, Rich, Small, Brimful, NamesTurned, Unfit,
+        NotReached, Wide,
     ]
 };
 
@@ -110,6 +114,7 @@ fn make(rng: &mut Prng, shape: Shape, round: usize) -> Made {
         Shape::Limits => at_limits(rng),
         Shape::Dearest => dearest(rng),
         Shape::Brimful => brimful(rng),
+        Shape::Wide => wide(rng),
         Shape::SevenDeep => {
             let base = small(rng);
             let draft = refused::row(rng, &base, SEVEN as usize);
@@ -168,11 +173,24 @@ fn room(rng: &mut Prng, b: usize) -> usize {
 
 /// A case on an accepted table from a state that fits.
 fn accepted(rng: &mut Prng, draft: &Draft, state: Vec<u32>, fresh: bool, length: usize) -> Made {
+    let events = sequence(rng, draft, length, 6);
+    taking(rng, draft, state, fresh, events)
+}
+
+/// The same with the events given, each with its answer; only two where the room is too small.
+fn taking(
+    rng: &mut Prng,
+    draft: &Draft,
+    state: Vec<u32>,
+    fresh: bool,
+    mut events: Vec<(u32, u32)>,
+) -> Made {
     let b = draft.b();
     let room = room(rng, b);
-    let length = if room < b { 2 } else { length };
-    let (events, answers): (Vec<u32>, Vec<u32>) =
-        sequence(rng, draft, length, 6).into_iter().unzip();
+    if room < b {
+        events.truncate(2);
+    }
+    let (events, answers): (Vec<u32>, Vec<u32>) = events.into_iter().unzip();
     let answers = answers.into_iter().map(|answer| if room < b { 3 } else { answer }).collect();
     Made {
         case: Case { table: draft.words(), state, room, events },
@@ -215,6 +233,15 @@ fn brimful(rng: &mut Prng) -> Made {
     };
     pad(rng, &mut draft, 4096, 1);
     accepted(rng, &draft, fresh_state(&draft), true, 4)
+}
+
+/// Wide expressions on a small table, mostly from a fresh state.
+fn wide(rng: &mut Prng) -> Made {
+    let base = small(rng);
+    let (draft, events) = widen(rng, base);
+    let fresh = rng.chance(80);
+    let state = if fresh { fresh_state(&draft) } else { fit_state(rng, &draft) };
+    taking(rng, &draft, state, fresh, events)
 }
 
 fn unfit(rng: &mut Prng) -> Made {

@@ -14,6 +14,8 @@ pub enum Row {
     EventTaken(u32),
     ItemRun(u32),
     Evaluated(u32),
+    Settled(u32),
+    NotSettled(u32),
     NetworkTurn(u32, u32),
     BusOffIgnored(u32),
     SourceTurn(u32, u32),
@@ -43,9 +45,11 @@ pub const NETWORK_SHOWN: &str = "countdown checked: network shows full";
 pub const NETWORK_SETTLED: &str = "countdown checked: network settled";
 pub const SOURCE_EXPIRED: &str = "countdown checked: source expires";
 pub const SOURCE_ENDED: &str = "countdown ended by its own operator";
+pub const UNREADY_BY_SKIPPED: &str = "rule unready only by a port on a skipped side";
+pub const EVALUATED_BY_SKIPPED: &str = "rule evaluated only by a mention on a skipped side";
 pub const STRUCK_OUT: &str = "strangers' taken events struck out";
 
-const SPECIAL: [&str; 23] = [
+const SPECIAL: [&str; 25] = [
     TWO_CHOSEN,
     CHOSEN_AND_NAMED,
     DEPTH_7_EXPRESSION,
@@ -68,6 +72,8 @@ const SPECIAL: [&str; 23] = [
     NETWORK_SETTLED,
     SOURCE_EXPIRED,
     SOURCE_ENDED,
+    UNREADY_BY_SKIPPED,
+    EVALUATED_BY_SKIPPED,
     STRUCK_OUT,
 ];
 
@@ -136,6 +142,8 @@ impl fmt::Display for Row {
             Row::EventTaken(kind) => format!("event taken: {}", EVENTS[kind as usize]),
             Row::ItemRun(kind) => format!("item run: {}", ITEMS[kind as usize]),
             Row::Evaluated(kind) => format!("evaluated: {}", EXPRESSIONS[kind as usize]),
+            Row::Settled(kind) => format!("settled by left: {}", EXPRESSIONS[kind as usize]),
+            Row::NotSettled(kind) => format!("not settled by left: {}", EXPRESSIONS[kind as usize]),
             Row::NetworkTurn(from, to) => format!("network: {}", turn(&NETWORK_STATES, from, to)),
             Row::BusOffIgnored(state) => {
                 format!("bus-off ignored in {}", NETWORK_STATES[state as usize])
@@ -164,6 +172,7 @@ impl Default for Coverage {
 impl Coverage {
     /// Every row there must be, met by none yet.
     pub fn new() -> Self {
+        let settling = [expression::AND, expression::OR, expression::NAND];
         let ignoring = [network::NONE, network::SILENT, network::RECOVER];
         let rows = (0..=9)
             .map(Row::Reason)
@@ -171,6 +180,8 @@ impl Coverage {
             .chain((0..=6).map(Row::EventTaken))
             .chain((0..=6).map(Row::ItemRun))
             .chain((0..=8).map(Row::Evaluated))
+            .chain(settling.map(Row::Settled))
+            .chain(settling.map(Row::NotSettled))
             .chain(NETWORK_TURNS.map(|(from, to)| Row::NetworkTurn(from, to)))
             .chain(ignoring.map(Row::BusOffIgnored))
             .chain(SOURCE_TURNS.map(|(from, to)| Row::SourceTurn(from, to)))

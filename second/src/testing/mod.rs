@@ -6,6 +6,7 @@ mod fixed;
 mod log;
 mod properties;
 mod recorded;
+mod skipping;
 mod traces;
 
 use std::panic::catch_unwind;
@@ -15,7 +16,7 @@ use coverage::Coverage;
 
 /// Each seed's first cases are run.
 const SEEDS: [u64; 4] = [1, 2026, 0xC0FFEE, 0x5EED_5EED_5EED_5EED];
-const CASES_EACH: usize = 4000;
+const CASES_EACH: usize = 4400;
 
 #[derive(Default)]
 struct Tally {

@@ -3,7 +3,8 @@
 use super::coverage::{self, Met, Row};
 use super::demand3;
 use super::log::{Entry, hold, run};
-use super::traces::{self, items_run, started};
+use super::skipping::Skipping;
+use super::traces::{self, evaluated, items_run, started};
 use crate::cases::draft::{Depth, Draft, SEVEN};
 use crate::cases::states::fresh_state;
 use crate::cases::{Case, Made};
@@ -96,6 +97,7 @@ fn try_log(
     b: usize,
     met: &mut Met,
 ) -> Result<(), String> {
+    let skipping = Skipping::over(draft);
     for (number, entry) in log.iter().enumerate() {
         hold(entry.answer <= 6, || format!("event {number} answered {}", entry.answer))?;
         if entry.answer != 0 {
@@ -109,6 +111,7 @@ fn try_log(
         })?;
         traces::try_trace(draft, entry).map_err(|what| format!("event {number}: {what}"))?;
         meet(draft, entry, b, met);
+        skipping.meet(entry, met).map_err(|what| format!("event {number}: {what}"))?;
     }
     Ok(())
 }
@@ -133,7 +136,9 @@ fn meet(draft: &Draft, entry: &Entry, b: usize, met: &mut Met) {
         };
         met.insert(Row::Special(special));
     }
-    meet_evaluated(draft, entry, met);
+    for rule in evaluated(draft, entry) {
+        meet_expression(draft, draft.rules[rule].expression as usize, met);
+    }
     meet_turns(draft, entry, met);
 }
 
@@ -152,18 +157,6 @@ fn meet_lists(draft: &Draft, entry: &Entry, met: &mut Met) {
     let times = |lists: &[usize], list: usize| lists.iter().filter(|&&l| l == list).count();
     if named.iter().any(|&list| times(&starts, list) > times(&named, list)) {
         met.insert(Row::Special(coverage::CHOSEN_AND_NAMED));
-    }
-}
-
-/// A rule was certainly evaluated if its stored result changed or a rule item says so.
-fn meet_evaluated(draft: &Draft, entry: &Entry, met: &mut Met) {
-    let first = draft.ports.len();
-    let changed = |&rule: &usize| entry.before[first + rule] != entry.after[first + rule];
-    let words = entry.trace.iter().map(|&word| TraceWord::of(word));
-    let by_item = words.filter(|word| word.kind == item::RULE && word.b != UNDEFINED);
-    let rules = (0..draft.rules.len()).filter(changed).chain(by_item.map(|w| w.a as usize));
-    for rule in rules {
-        meet_expression(draft, draft.rules[rule].expression as usize, met);
     }
 }
 

@@ -17,6 +17,20 @@ pub fn items_run<'a>(draft: &'a Draft, entry: &Entry) -> Vec<&'a Item> {
     started(entry).into_iter().flat_map(|list| &draft.items[draft.lists[list].items()]).collect()
 }
 
+/// The words that rule items wrote.
+pub fn rule_items(entry: &Entry) -> impl Iterator<Item = TraceWord> {
+    let words = entry.trace.iter().map(|&word| TraceWord::of(word));
+    words.filter(|word| word.kind == item::RULE)
+}
+
+/// A rule was certainly evaluated if its stored result changed or a rule item says so.
+pub fn evaluated(draft: &Draft, entry: &Entry) -> Vec<usize> {
+    let first = draft.ports.len();
+    let changed = |&rule: &usize| entry.before[first + rule] != entry.after[first + rule];
+    let by_item = rule_items(entry).filter(|word| word.b != UNDEFINED);
+    (0..draft.rules.len()).filter(changed).chain(by_item.map(|w| w.a as usize)).collect()
+}
+
 /// The trace consists of whole lists; and where no rule item leaves a choice,
 /// every word and the order of the chosen lists follow from the table.
 pub fn try_trace(draft: &Draft, entry: &Entry) -> Result<(), String> {

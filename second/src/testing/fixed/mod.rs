@@ -20,6 +20,7 @@ macro_rules! fixed_cases {
 mod arbitration;
 mod demand3;
 mod events;
+mod expressions;
 mod lists;
 mod marked;
 mod names;
@@ -49,6 +50,7 @@ pub fn all() -> Vec<(&'static str, fn())> {
         networks::CASES,
         timers::CASES,
         arbitration::CASES,
+        expressions::CASES,
         lists::CASES,
         program::CASES,
         streams::CASES,

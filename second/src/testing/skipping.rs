@@ -1,0 +1,198 @@
+//! Expressions read as a program reads them that skips the right side of an
+//! AND, OR or NAND once the left side settles it: what it passes over, and that
+//! it gives the same.
+
+use super::coverage::{EVALUATED_BY_SKIPPED, Met, Row, UNREADY_BY_SKIPPED};
+use super::log::{Entry, hold};
+use super::traces::{evaluated, rule_items};
+use crate::cases::draft::Draft;
+use crate::events::shown;
+use crate::words::*;
+
+/// Ports as bits, for there are at most 64.
+type Ports = u64;
+
+/// One reading of an expression where the ports are as in a state.
+struct Reading<'a> {
+    draft: &'a Draft,
+    state: &'a [u32],
+    /// The ports it read.
+    read: Ports,
+    /// How its operators of the three kinds were settled.
+    rows: Vec<Row>,
+}
+
+impl<'a> Reading<'a> {
+    fn of(draft: &'a Draft, state: &'a [u32], expression: usize) -> (bool, Self) {
+        let mut reading = Reading { draft, state, read: 0, rows: vec![] };
+        let gives = reading.gives(expression as u32);
+        (gives, reading)
+    }
+
+    fn gives(&mut self, number: u32) -> bool {
+        match self.draft.expressions[number as usize] {
+            Expression::Condition(condition) => self.holds(condition),
+            Expression::Operator(operator) => {
+                let left = self.gives(operator.left);
+                match operator.kind {
+                    expression::NOT => !left,
+                    expression::XOR => left ^ self.gives(operator.right),
+                    _ => self.decides(operator, left) ^ (operator.kind == expression::NAND),
+                }
+            }
+        }
+    }
+
+    fn holds(&mut self, condition: Condition) -> bool {
+        let port = condition.port as usize;
+        self.read |= 1 << port;
+        let value = PortState::of(self.state[port]).value;
+        match condition.kind {
+            expression::EQUAL => value == condition.value,
+            expression::NOT_EQUAL => value != condition.value,
+            expression::SET => value == 1,
+            _ => value == 0,
+        }
+    }
+
+    /// The side that decides an AND, an OR, or the AND in a NAND.
+    fn decides(&mut self, operator: Operator, left: bool) -> bool {
+        if left != (operator.kind == expression::OR) {
+            self.rows.push(Row::NotSettled(operator.kind));
+            return self.gives(operator.right);
+        }
+        // Counted only where the right side would have turned the result.
+        let (right, _) = Reading::of(self.draft, self.state, operator.right as usize);
+        if right != left {
+            self.rows.push(Row::Settled(operator.kind));
+        }
+        left
+    }
+}
+
+/// An accepted table with the ports that each rule mentions, skipped or not.
+pub struct Skipping<'a> {
+    draft: &'a Draft,
+    mentions: Vec<Ports>,
+}
+
+impl<'a> Skipping<'a> {
+    pub fn over(draft: &'a Draft) -> Self {
+        let mut known = vec![None; draft.expressions.len()];
+        let rules = draft.rules.iter();
+        let mentions =
+            rules.map(|rule| mentioned(draft, rule.expression as usize, &mut known)).collect();
+        Skipping { draft, mentions }
+    }
+
+    pub fn meet(&self, entry: &Entry, met: &mut Met) -> Result<(), String> {
+        // Where no list wrote a port, it has the value that was read.
+        let written = written(entry);
+        for rule in evaluated(self.draft, entry) {
+            if self.mentions[rule] & written == 0 {
+                self.meet_evaluated(entry, rule, met)?;
+            }
+        }
+        if !met.contains(&Row::Special(UNREADY_BY_SKIPPED)) {
+            let found = (0..self.mentions.len())
+                .any(|rule| self.mentions[rule] & written == 0 && self.unready(entry, rule));
+            met.extend(found.then_some(Row::Special(UNREADY_BY_SKIPPED)));
+        }
+        Ok(())
+    }
+
+    fn reading(&self, entry: &'a Entry, rule: usize) -> (bool, Reading<'a>) {
+        Reading::of(self.draft, &entry.after, self.draft.rules[rule].expression as usize)
+    }
+
+    /// The rule was certainly evaluated.
+    fn meet_evaluated(&self, entry: &Entry, rule: usize, met: &mut Met) -> Result<(), String> {
+        let (gives, reading) = self.reading(entry, rule);
+        let stored = RuleState::of(entry.after[self.draft.ports.len() + rule]).last;
+        hold(stored == gives as u32, || {
+            format!("rule {rule} has {stored} where skipping gives {gives}")
+        })?;
+        let by_item = rule_items(entry).any(|word| word.a as usize == rule);
+        if !by_item && reading.read & arbitrated(self.draft, entry) == 0 {
+            met.insert(Row::Special(EVALUATED_BY_SKIPPED));
+        }
+        met.extend(reading.rows);
+        Ok(())
+    }
+
+    /// The rule's turn came, but a port is undefined, and only such ports are
+    /// as are passed over.
+    fn unready(&self, entry: &Entry, rule: usize) -> bool {
+        let undefined = undefined(self.draft, entry);
+        let due = self.draft.rules[rule].nested_only == 0
+            && self.mentions[rule] & arbitrated(self.draft, entry) != 0;
+        let named = || rule_items(entry).any(|word| word.a as usize == rule);
+        self.mentions[rule] & undefined != 0
+            && (due || named())
+            && self.reading(entry, rule).1.read & undefined == 0
+    }
+}
+
+fn mentioned(draft: &Draft, number: usize, known: &mut [Option<Ports>]) -> Ports {
+    if let Some(ports) = known[number] {
+        return ports;
+    }
+    let ports = match draft.expressions[number] {
+        Expression::Condition(condition) => 1 << condition.port,
+        operator => operator.arguments().fold(0, |ports, a| ports | mentioned(draft, a, known)),
+    };
+    known[number] = Some(ports);
+    ports
+}
+
+fn ports_where(draft: &Draft, wanted: impl Fn(usize) -> bool) -> Ports {
+    (0..draft.ports.len()).filter(|&port| wanted(port)).fold(0, |ports, port| ports | 1 << port)
+}
+
+fn undefined(draft: &Draft, entry: &Entry) -> Ports {
+    ports_where(draft, |port| PortState::of(entry.after[port]).defined == 0)
+}
+
+/// Ports that an item cleared, started or stopped.
+fn written(entry: &Entry) -> Ports {
+    let words = entry.trace.iter().map(|&word| TraceWord::of(word));
+    let writing = words.filter(|word| (item::CLEAR_EVENT..=item::STOP_TIMER).contains(&word.kind));
+    writing.fold(0, |ports, word| ports | 1 << word.a)
+}
+
+/// The ports a taken event arbitrated, by the words before and after it: lists
+/// turn no network and no source.
+fn arbitrated(draft: &Draft, entry: &Entry) -> Ports {
+    match entry.event.kind {
+        event::MODE_REQUEST | event::EVENT_REQUEST => {
+            let immediate = draft.ports[entry.event.index as usize].deferred == 0;
+            if immediate { 1 << entry.event.index } else { 0 }
+        }
+        event::TICK => {
+            let marked = ports_where(draft, |port| {
+                let word = PortState::of(entry.before[port]);
+                let timer = draft.ports[port].kind == port::TIMER;
+                let expires = timer && word.value == timer::STARTED && word.remaining == 1;
+                word.marked == 1 || expires
+            });
+            marked | turned(draft, entry)
+        }
+        _ => 0,
+    }
+}
+
+/// The ports of networks and sources that show something else than before.
+fn turned(draft: &Draft, entry: &Entry) -> Ports {
+    let (before, after) = (&entry.before, &entry.after);
+    let network = |number: &usize| {
+        let shows = |state: &[u32]| shown(draft.network_in(state, *number).state);
+        shows(before) != shows(after)
+    };
+    let source = |number: &usize| {
+        let status = |state: &[u32]| draft.source_in(state, *number).status;
+        status(before) != status(after)
+    };
+    let networks = (0..draft.networks.len()).filter(network).map(|n| draft.networks[n].0.port);
+    let sources = (0..draft.sources.len()).filter(source).map(|s| draft.sources[s].port);
+    networks.chain(sources).fold(0, |ports, port| ports | 1 << port)
+}
