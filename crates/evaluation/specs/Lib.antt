@@ -1,2 +1,3 @@
 -- What the contracts of the evaluation cite beside the rulebook.
 pub mod Met
+pub mod Skipping

@@ -1,12 +1,14 @@
 // Evaluation of expressions and of rules, by the port words of a state. Evaluation and the test for undefined
 // ports go down into the left and then the right argument, with one level less each time.
 ghost use mathlib.Core.Path.{_≡_};
+ghost use Rattle.rulebook.specs.Words.{any};
 ghost use Rattle.rulebook.specs.Table.{expressionsFrom};
 ghost use Rattle.rulebook.specs.Expressions.{mentions, joined as joinedOf, holds as holdsOf};
 ghost use Rattle.rulebook.specs.Lists.{valueIn, undefinedIn, unready as unreadyOf, resultIn, listFor, choice as choiceOf};
 ghost use Rattle.words.specs.Field.{Field};
 ghost use Rattle.words.specs.Sections.{Laid};
-ghost use Rattle.evaluation.specs.Met.{met};
+ghost use Rattle.evaluation.specs.Met.{met, conditionWord, wordMet};
+ghost use Rattle.evaluation.specs.Skipping.{settled as settledOf, StartsAt, HoldsIn, MentionsIn};
 use words::numbers::CONDITION_EQUAL;
 use words::numbers::CONDITION_NOT_EQUAL;
 use words::numbers::CONDITION_SET;
@@ -16,7 +18,6 @@ use words::numbers::OPERATOR_NOT;
 use words::numbers::OPERATOR_OR;
 use words::numbers::OPERATOR_XOR;
 use words::sections::Layout;
-use words::sections::expression_word;
 use words::sections::list_at;
 use words::sections::rule_at;
 use words::state;
@@ -42,11 +43,12 @@ fn undefined_in(s: &[u32], p: u32) -> bool
 fn condition_met(kind: u32, value: u32, named: u32) -> bool
     ensures { λ r. ⌜ r ≡ met kind value named ⌝ }
 {
+    let equal = value == named;
     if kind == CONDITION_EQUAL {
-        return value == named;
+        return equal;
     }
     if kind == CONDITION_NOT_EQUAL {
-        return value != named;
+        return !equal;
     }
     if kind == CONDITION_SET {
         return value == 1;
@@ -73,27 +75,89 @@ fn joined(kind: u32, a: bool, b: bool) -> bool
     !a
 }
 
+// Whether its left side settles an operator of this kind: true an OR, false an AND or a NAND, neither an XOR.
+fn settled(kind: u32, left: bool) -> bool
+    ensures { λ r. ⌜ r ≡ settledOf kind left ⌝ }
+{
+    if kind == OPERATOR_XOR {
+        return false;
+    }
+    if kind == OPERATOR_OR {
+        return left;
+    }
+    !left
+}
+
+// Whether a word is a condition's.
+fn is_condition(w: u32) -> bool
+    ensures { λ r. ⌜ r ≡ conditionWord w ⌝ }
+{
+    let kind = table::expression_kind(w);
+    !((OPERATOR_AND <= kind) & (kind <= OPERATOR_NOT))
+}
+
+// Whether the condition that a word is holds by the values of the port words.
+fn word_met(values: &[u32], w: u32) -> bool
+    ensures { λ r. ⌜ r ≡ wordMet (valueIn (now (values .entry))) w ⌝ }
+{
+    let value = value_in(values, table::condition_port(w));
+    condition_met(table::expression_kind(w), value, table::condition_value(w))
+}
+
+// Where the part of a table that starts at `from` starts: at its end where the table is not as long.
+fn start(t: &[u32], from: usize) -> usize
+    ensures { λ r. ⌜ StartsAt (now (t .entry)) from r ⌝ }
+{
+    if from < t.len() {
+        return from;
+    }
+    t.len()
+}
+
 // Whether expression e, down to so many levels, holds by the values of the port words.
 pub fn holds(t: &[u32], from: usize, values: &[u32], e: u32, levels: u32) -> bool
     requires { ⌜ from ≡ expressionsFrom (now t) ⌝ }
     ensures { λ r. ⌜ r ≡ holdsOf levels (now (t .entry)) (valueIn (now (values .entry))) e ⌝ }
 {
+    let first = start(t, from);
+    holds_in(&t[first..], values, e, levels)
+}
+
+// The same by the part x of a table that starts with its expressions. The right side is read only if the left one leaves it open.
+fn holds_in(x: &[u32], values: &[u32], e: u32, levels: u32) -> bool
+    ensures { λ r. ⌜ HoldsIn (now (x .entry)) (valueIn (now (values .entry))) e levels r ⌝ }
+{
     if levels == 0 {
         return false;
     }
-    let w = expression_word(t, from, e);
-    let kind = table::expression_kind(w);
-    let condition = !((OPERATOR_AND <= kind) & (kind <= OPERATOR_NOT));
-    if condition {
-        let value = value_in(values, table::condition_port(w));
-        return condition_met(kind, value, table::condition_value(w));
+    let w = word(x, e as usize);
+    if is_condition(w) {
+        return word_met(values, w);
     }
-    let a = holds(t, from, values, table::left(w), levels - 1);
+    let kind = table::expression_kind(w);
+    let a = argument_holds(x, values, table::left(w), levels - 1);
     if kind == OPERATOR_NOT {
         return !a;
     }
-    let b = holds(t, from, values, table::right(w), levels - 1);
+    if settled(kind, a) {
+        return joined(kind, a, false);
+    }
+    let b = argument_holds(x, values, table::right(w), levels - 1);
     joined(kind, a, b)
+}
+
+// The same of an argument. Half the words of a whole tree are conditions, and they are looked at here without a further call.
+fn argument_holds(x: &[u32], values: &[u32], e: u32, levels: u32) -> bool
+    ensures { λ r. ⌜ HoldsIn (now (x .entry)) (valueIn (now (values .entry))) e levels r ⌝ }
+{
+    if levels == 0 {
+        return false;
+    }
+    let w = word(x, e as usize);
+    if is_condition(w) {
+        return word_met(values, w);
+    }
+    holds_in(x, values, e, levels)
 }
 
 // Whether expression e, down to so many levels, mentions a port that is undefined.
@@ -101,30 +165,71 @@ fn mentions_undefined(t: &[u32], from: usize, s: &[u32], e: u32, levels: u32) ->
     requires { ⌜ from ≡ expressionsFrom (now t) ⌝ }
     ensures { λ r. ⌜ r ≡ mentions levels (now (t .entry)) (undefinedIn (now (s .entry))) e ⌝ }
 {
+    let first = start(t, from);
+    mentions_in(&t[first..], s, e, levels)
+}
+
+// The same by the part x of a table that starts with its expressions. Both sides are read, for document 01 asks for each port.
+fn mentions_in(x: &[u32], s: &[u32], e: u32, levels: u32) -> bool
+    ensures { λ r. ⌜ MentionsIn (now (x .entry)) (undefinedIn (now (s .entry))) e levels r ⌝ }
+{
     if levels == 0 {
         return false;
     }
-    let w = expression_word(t, from, e);
-    let kind = table::expression_kind(w);
-    let condition = !((OPERATOR_AND <= kind) & (kind <= OPERATOR_NOT));
-    if condition {
+    let w = word(x, e as usize);
+    if is_condition(w) {
         return undefined_in(s, table::condition_port(w));
     }
-    if mentions_undefined(t, from, s, table::left(w), levels - 1) {
+    if argument_mentions(x, s, table::left(w), levels - 1) {
         return true;
     }
+    let kind = table::expression_kind(w);
     if kind == OPERATOR_NOT {
         return false;
     }
-    mentions_undefined(t, from, s, table::right(w), levels - 1)
+    argument_mentions(x, s, table::right(w), levels - 1)
 }
 
-// Whether rule r mentions an undefined port.
+// The same of an argument.
+fn argument_mentions(x: &[u32], s: &[u32], e: u32, levels: u32) -> bool
+    ensures { λ r. ⌜ MentionsIn (now (x .entry)) (undefinedIn (now (s .entry))) e levels r ⌝ }
+{
+    if levels == 0 {
+        return false;
+    }
+    let w = word(x, e as usize);
+    if is_condition(w) {
+        return undefined_in(s, table::condition_port(w));
+    }
+    mentions_in(x, s, e, levels)
+}
+
+// Whether any of so many ports is undefined.
+fn any_undefined(s: &[u32], ports: u32) -> bool
+    ensures { λ r. ⌜ r ≡ any 0 ports (undefinedIn (now (s .entry))) ⌝ }
+{
+    let mut p: u32 = 0;
+    while p < ports {
+        if undefined_in(s, p) {
+            return true;
+        }
+        p += 1;
+    }
+    false
+}
+
+// Whether rule r mentions an undefined port. The rules of an accepted table mention none but its ports: where these are all
+// defined, no expression is read.
 pub fn unready(t: &[u32], h: Layout, s: &[u32], r: u32) -> bool
     requires { ⌜ Laid (now t) h ⌝ }
     ensures { λ b. ⌜ b ≡ unreadyOf (now (t .entry)) (now (s .entry)) r ⌝ }
 {
     let rule = rule_at(t, h, r);
+    if h.accepted & (rule.expression < h.expressions) {
+        if !any_undefined(s, h.ports) {
+            return false;
+        }
+    }
     mentions_undefined(t, h.expression0, s, rule.expression, 7)
 }
 

@@ -4,6 +4,7 @@ pub mod Walks
 pub mod Acceptance
 pub mod Parts
 pub mod Facts
+pub mod Expressions
 pub mod Fields
 pub mod Items
 pub mod Cases

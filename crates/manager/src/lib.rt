@@ -63,6 +63,6 @@ pub fn take_event(t: &[u32], s: &mut [u32], trace: &mut [u32], e: u32) -> Answer
     let Check::Passed = room else {
         return Answer::ShortTrace;
     };
-    let h = words::sections::read_layout(t);
+    let h = words::sections::read_accepted(t);
     events::handle(t, h, e, s, trace)
 }

@@ -16,7 +16,7 @@ use text::number::past;
 use text::output::put_decimal_line;
 use text::output::put_words;
 use words::sections::Layout;
-use words::sections::read_layout;
+use words::sections::read_accepted;
 
 // The most bytes that one event prints: its answer, 360 state words and 4,096 trace words.
 pub const MOST: usize = 40106;
@@ -142,7 +142,7 @@ pub fn take_events(
             bytes: 0,
         };
     }
-    let h = read_layout(t);
+    let h = read_accepted(t);
     let total = past(word_count(bytes), from);
     let mut i = 0;
     let mut at = 0;

@@ -1,40 +1,26 @@
 -- What a rule does depends only on the ports that it mentions; a rule of o or of the platform mentions no stranger's port. So in
 -- states that o cannot tell apart such a rule is evaluated alike, gives the same result and starts the same list. Assumes nothing.
-use mathlib.Core.Path.{_≡_, refl, _∙_, ap}
+use mathlib.Core.Path.{_≡_, refl, _∙_}
 use mathlib.Core.Bool.{Bool, true, false, _&&_, not, and-false}
 use mathlib.Core.List.{List}
 use Prim.Native.Nat.{ℕ, zero, suc, _<_}
 use lib.Dec.{eqb}
-use borrow.Author.Tests.{ltb-true, eqb-true, not-true}
+use borrow.Author.Tests.{eqb-true, not-true}
 use Rattle.rulebook.specs.Words.{word}
 use Rattle.rulebook.specs.Table.{ports, expressions, rules, portOwner, expressionKind, conditionPort, left, right, ruleOwner, ruleExpression, platform}
 use Rattle.rulebook.specs.Table.{stranger}
 use Rattle.rulebook.specs.Expressions.{deepest, operator, isNot, expressionMentions, mentions, condition, joined, expressionHolds, holds}
 use Rattle.rulebook.specs.State.{ruleIndex}
-use Rattle.rulebook.specs.Reasons.{expressionNames, strangersPort, ruleOwned}
+use Rattle.rulebook.specs.Reasons.{strangersPort, ruleOwned}
 use Rattle.rulebook.specs.Lists.{valueIn, undefinedIn, unready, resultIn, choiceIn}
 use Rattle.rulebook.specs.Arbitration.{evaluated}
 use Rattle.laws.specs.Facts.{Facts}
-use Rattle.laws.proofs.Tests.{split, clash, part-of, implies-elim, and-both, or-none}
+use Rattle.laws.proofs.Expressions.{left-there, right-there, port-named}
+use Rattle.laws.proofs.Tests.{split, clash, part-of, or-none}
 use Rattle.stranger.specs.View.{SameView}
 use Rattle.stranger.proofs.View.{port-word, rule-word}
 
 -- The expressions in which no port of q's is mentioned, down to their conditions.
-
-module _ (t : List ℕ) (f : Facts t) (e : ℕ) (b : e < expressions t) where
-  left-there : operator t e ≡ true → left t e < expressions t
-  unfolding expressionNames
-  left-there h = ltb-true _ _ (implies-elim (operator t e) _ (part-of _ (λ d. rw (expressionNames, d) at (f .expression e b .0))) h)
-
-  right-there : operator t e ≡ true → isNot t e ≡ false → right t e < expressions t
-  unfolding expressionNames
-  right-there h n =
-      ltb-true _ _ (implies-elim (operator t e && not (isNot t e)) _ (part-of _ (λ d. rw (expressionNames, d, and-false) at (f .expression e b .0)))
-      (and-both _ _ h (ap not n)))
-
-  port-named : operator t e ≡ false → conditionPort t e < ports t
-  unfolding expressionNames
-  port-named h = ltb-true _ _ (implies-elim (not (operator t e)) _ (part-of _ (λ d. rw (expressionNames, d, and-false) at (f .expression e b .0))) (ap not h))
 
 pub record Unmentioned (t : List ℕ) (q : ℕ → Bool) (P : ℕ → ℕ → Type 0) : Type 0 where
   pub none : (e : ℕ) → P zero e

@@ -1,9 +1,12 @@
--- What a layout says of a table: its counts, with the bounds that their widths give, and the places of its sections.
+-- What a layout says of a table: its counts, with the bounds that their widths give, the places of its sections, and that it is
+-- accepted, where that is known.
 use Prim.Native.Nat.{ℕ, _<_}
 use mathlib.Core.Path.{_≡_}
+use mathlib.Core.Bool.{true}
 use mathlib.Core.List.{List}
 use lib.ListN.{length}
 use Rattle.rulebook.specs.Table
+use Rattle.rulebook.specs.Reasons.{accepted}
 use Rattle.words.specs.Field.{Field}
 use Rattle.words.specs.declared.sections.Layout.{Layout}
 use Rattle.words.specs.declared.sections.Port.{Port}
@@ -30,6 +33,7 @@ pub record Laid (t : List ℕ) (h : Layout) : Type 0 where
   pub list0 : h .list0 ≡ Table.listsFrom t
   pub item0 : h .item0 ≡ Table.itemsFrom t
   pub length : h .length ≡ Table.tableLength t
+  pub accepted : h .accepted ≡ true → accepted t ≡ true
 
 -- a table that is as long as its header asks for
 pub record Whole (t : List ℕ) (h : Layout) : Type 0 where

@@ -1,12 +1,16 @@
 // The header, read once: how many there are of each thing, and where each section starts. Handed on by value.
 ghost use mathlib.Core.Path.{_≡_};
 ghost use Rattle.rulebook.specs.Table.{expressionsFrom, portWord, networkWord, waitsWord, sourceWord, expressionWord, ruleWord, listWord, itemWord};
+ghost use mathlib.Core.Bool.{true};
+ghost use Rattle.rulebook.specs.Reasons.{accepted};
 ghost use Rattle.words.specs.Sections.{Laid, PortAt, NetworkAt, WaitsAt, SourceAt, ExpressionAt, RuleAt, ListAt, ItemAt};
 use crate::table;
 use crate::word;
 
-// The counts; the place of each section's first word, `port0` being 3 always; the length that the header asks for.
+// The counts; the place of each section's first word, `port0` being 3 always; the length that the header asks for; and whether the
+// table is known to be accepted.
 pub struct Layout {
+    pub accepted: bool,
     pub ports: u32,
     pub networks: u32,
     pub sources: u32,
@@ -44,6 +48,7 @@ pub fn read_layout(t: &[u32]) -> Layout
     let item0 = list0 + lists as usize;
     let length = item0 + items as usize;
     Layout {
+        accepted: false,
         ports,
         networks,
         sources,
@@ -59,6 +64,17 @@ pub fn read_layout(t: &[u32]) -> Layout
         item0,
         length,
     }
+}
+
+// The layout of a table that is known to be accepted, which it then says.
+pub fn read_accepted(t: &[u32]) -> Layout
+    requires { ⌜ accepted (now t) ≡ true ⌝ }
+    ensures { λ r. ⌜ Laid (now (t .entry)) r ⌝ }
+    ensures { λ r. ⌜ r .accepted ≡ true ⌝ }
+{
+    let mut h = read_layout(t);
+    h.accepted = true;
+    h
 }
 
 // The word of each thing, by its number. A number past the section's end reads what stands there, as in the rulebook.

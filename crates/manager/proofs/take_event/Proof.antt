@@ -26,14 +26,17 @@ after-passed-if2-from-enum-told4 c = c .before .before
 abbrev after-passed-if : tie.After-enum-told4 → tie.After-passed-if
 after-passed-if c = after-passed-if-from-passed-if2 (after-passed-if2-from-enum-told4 c)
 
-abbrev after-read-layout : tie.After-handle-arg2 → tie.After-read-layout
-after-read-layout c = c .before .before
+abbrev after-read-accepted : tie.After-handle-arg2 → tie.After-read-accepted
+after-read-accepted c = c .before .before
+
+abbrev after-passed-if2-from-enum-told3 : tie.After-enum-told3 → tie.After-passed-if2
+after-passed-if2-from-enum-told3 c = c .before .before
 
 abbrev after-enum-told3 : tie.After-handle-arg2 → tie.After-enum-told3
-after-enum-told3 c = after-read-layout c .before
+after-enum-told3 c = after-read-accepted c .before
 
 abbrev after-passed-if2 : tie.After-handle-arg2 → tie.After-passed-if2
-after-passed-if2 c = after-enum-told3 c .before .before
+after-passed-if2 c = after-passed-if2-from-enum-told3 (after-enum-told3 c)
 
 abbrev after-passed-if-from-handle-arg2 : tie.After-handle-arg2 → tie.After-passed-if
 after-passed-if-from-handle-arg2 c = after-passed-if-from-passed-if2 (after-passed-if2 c)
@@ -69,13 +72,18 @@ returns-3 c =
     ∙ ap passes (after-passed-if2-from-enum-told4 c .before .enum-told .given .1))
     (sym (after-passed-if2-from-enum-told4 c .passed-if2 .ensures) ∙ ap passes (c .enum-told4 .given .1))
 
+read-accepted-requires : tie.Need-read-accepted-requires
+read-accepted-requires c κs =
+    let at-passed = after-passed-if-from-passed-if2 (after-passed-if2-from-enum-told3 c) in
+    is-accepted _ _ _ (after-checked at-passed .checked .given .1) (after-check at-passed .check .ensures)
+
 handle-requires : tie.Need-handle-requires
 handle-requires c κs = record {
-  laid = after-read-layout c .read-layout .ensures;
+  laid = after-read-accepted c .read-accepted .ensures .0;
   few = few-rules _ _
       (is-accepted _ _ _ (after-checked (after-passed-if-from-handle-arg2 c) .checked .given .1)
       (after-check (after-passed-if-from-handle-arg2 c) .check .ensures))
-      (after-read-layout c .read-layout .ensures .rules .value);
+      (after-read-accepted c .read-accepted .ensures .0 .rules .value);
   safe = safe _ _ _ _ _
       (finding-bound _ _ _ (after-checked (after-passed-if-from-handle-arg2 c) .checked .given .1) (after-check (after-passed-if-from-handle-arg2 c) .check .ensures)
       (is-accepted _ _ _ (after-checked (after-passed-if-from-handle-arg2 c) .checked .given .1)
@@ -119,7 +127,7 @@ take-event-spec =
     (λ c. search needs)
     (λ c. search needs)
     returns-3
-    (λ c κs. search needs)
+    read-accepted-requires
     handle-requires
     (λ c. search needs)
     (λ c. search needs)

@@ -22,17 +22,17 @@ abbrev μ-loop : tie.MeasureT-loop
 abbrev after-slice-known2 : tie.After-ready Inv-loop μ-loop → tie.After-slice-known2 Inv-loop μ-loop
 after-slice-known2 c = c .before .before .before .before
 
-abbrev after-ready : tie.After-read-layout Inv-loop μ-loop → tie.After-ready Inv-loop μ-loop
+abbrev after-ready : tie.After-read-accepted Inv-loop μ-loop → tie.After-ready Inv-loop μ-loop
 after-ready c = c .before .before
 
 abbrev after-word-count : tie.At-loop Inv-loop μ-loop → tie.After-word-count Inv-loop μ-loop
 after-word-count c = c .before .before
 
-abbrev after-read-layout : tie.At-loop Inv-loop μ-loop → tie.After-read-layout Inv-loop μ-loop
-after-read-layout c = after-word-count c .before
+abbrev after-read-accepted : tie.At-loop Inv-loop μ-loop → tie.After-read-accepted Inv-loop μ-loop
+after-read-accepted c = after-word-count c .before
 
 abbrev start : tie.At-loop Inv-loop μ-loop → tie.Start Inv-loop μ-loop
-start c = after-slice-known2 (after-ready (after-read-layout c)) .before .before .before
+start c = after-slice-known2 (after-ready (after-read-accepted c)) .before .before .before
 
 abbrev at-loop-from-past2 : tie.After-past2 Inv-loop μ-loop → tie.At-loop Inv-loop μ-loop
 at-loop-from-past2 c = c .before .before
@@ -61,6 +61,9 @@ at-loop c = at-loop-from-past2 (after-past2 (after-take-one-arg3 c))
 returns : tie.Need-returns Inv-loop μ-loop
 returns c = none-offered _ _ _ _ _ _ (sym (c .before .ready .ensures) ∙ not-true _ (c .if1 .taken))
 
+read-accepted-requires : tie.Need-read-accepted-requires Inv-loop μ-loop
+read-accepted-requires c κs = ready-from _ _ _ (sym (c .before .ready .ensures) ∙ not-false _ (c .if1 .left)) .table
+
 loop-holds : tie.Need-loop-holds Inv-loop μ-loop
 loop-holds c = begin _ _ _ _ _ (ready-from _ _ _ (sym (after-ready (c .before .before) .ready .ensures) ∙ not-false _ (c .before .before .before .if1 .left)))
 
@@ -68,13 +71,13 @@ take-one-requires : tie.Need-take-one-requires Inv-loop μ-loop
 take-one-requires c κs =
     let l = at-loop-from-past2 (after-past2 c) .loop in
     let free = leb-true _ (after-past2 c .past2 .result) (then2 c .if2 .taken) in
-    (after-read-layout (at-loop-from-past2 (after-past2 c)) .read-layout .ensures, l .inv .ready, omega (arith, after-past2 c .past2 .ensures))
+    (after-read-accepted (at-loop-from-past2 (after-past2 c)) .read-accepted .ensures .0, l .inv .ready, omega (arith, after-past2 c .past2 .ensures))
 
 loop-again : tie.Need-loop-again Inv-loop μ-loop
 loop-again c =
     let a = start (at-loop c) .args in
     let l = at-loop c .loop in
-    let ok = sym (after-ready (after-read-layout (at-loop c)) .ready .ensures) ∙ not-false _ (after-read-layout (at-loop c) .before .if1 .left) in
+    let ok = sym (after-ready (after-read-accepted (at-loop c)) .ready .ensures) ∙ not-false _ (after-read-accepted (at-loop c) .before .if1 .left) in
     let long = offered-long (a .t .now) (a .s .now) (a .trace .now) (a .bytes .now) (a .from) ok in
     let free = leb-true _ (after-past2 (after-take-one-arg3 c) .past2 .result) (then2 (after-take-one-arg3 c) .if2 .taken) in
     next _ _ _ _ _ _ _ _ _ _ (l .inv) _ _ _ _ _ (omega (arith, at-loop c .before .past .ensures, after-word-count (at-loop c) .word-count .ensures))
@@ -110,7 +113,7 @@ same-length-7 c = c .before .loop .inv .outLong
 returns-3 : tie.Need-returns-3 Inv-loop μ-loop
 returns-3 c =
     let a = start (c .before) .args in
-    let ok = sym (after-ready (after-read-layout (c .before)) .ready .ensures) ∙ not-false _ (after-read-layout (c .before) .before .if1 .left) in
+    let ok = sym (after-ready (after-read-accepted (c .before)) .ready .ensures) ∙ not-false _ (after-read-accepted (c .before) .before .if1 .left) in
     let long = offered-long (a .t .now) (a .s .now) (a .trace .now) (a .bytes .now) (a .from) ok in
     end _ _ _ _ _ _ _ _ _ _ (c .before .loop .inv) _ refl refl
     (λ h. absurd (omega (arith, c .before .before .past .ensures, after-word-count (c .before) .word-count .ensures)))
@@ -124,7 +127,7 @@ take-events-spec =
     (λ c κs. search needs)
     (λ c. search needs)
     returns
-    (λ c κs. search needs)
+    read-accepted-requires
     (λ c κs. search needs)
     (λ c κs. search needs)
     loop-holds

