@@ -56,16 +56,20 @@ module _ (t : List ℕ) (e d w : ℕ) (more : d ≡ 0 → ⊥) (hw : w ≡ expre
   level : d ≡ suc (d - 1)
   level = omega arith
 
+  abbrev test : Bool
+  test = leb 4 (field 0 4 w) && leb (field 0 4 w) 8
+
   -- the exits of the code, where l is the left argument and r the right one
   pub condition-holds : conditionWord w ≡ true → wordMet v w ≡ holds d t v e
   unfolding operator
   condition-holds h =
-      sym (holds-level t v e d (d - 1) level ∙ holds-condition t v (holds (d - 1) t v) e (rw hw at (not-true (leb 4 (field 0 4 w) && leb (field 0 4 w) 8) h)) ∙ condition-met t v e ∙ rw hw)
+      sym
+      (holds-level t v e d (d - 1) level ∙ holds-condition t v (holds (d - 1) t v) e (rw hw at (not-true test h)) ∙ condition-met t v e ∙ rw hw)
 
   joined-holds : conditionWord w ≡ false
       → holds d t v e ≡ joined (field 0 4 w) (holds (d - 1) t v (field 4 14 w)) (holds (d - 1) t v (field 18 14 w))
   unfolding operator
-  joined-holds h = rw hw (holds-level t v e d (d - 1) level ∙ holds-operator t v (holds (d - 1) t v) e (rw hw at (not-false (leb 4 (field 0 4 w) && leb (field 0 4 w) 8) h)))
+  joined-holds h = rw hw (holds-level t v e d (d - 1) level ∙ holds-operator t v (holds (d - 1) t v) e (rw hw at (not-false test h)))
 
   module _ (k l : ℕ) (a : Bool) (op : conditionWord w ≡ false) (hk : k ≡ field 0 4 w) (hl : l ≡ field 4 14 w) (ha : a ≡ holds (d - 1) t v l) where
     left-held : holds d t v e ≡ joined k a (holds (d - 1) t v (field 18 14 w))
@@ -98,4 +102,6 @@ pub all-defined : (t s : List ℕ) (r e n : ℕ) → accepted t ≡ true → e �
     → any 0 n (undefinedIn s) ≡ false → false ≡ unready t s r
 unfolding unready
 all-defined t s r e n ok he there hn none =
-    rw (← he) (sym (mentions-none t (facts t ok) (undefinedIn s) (λ p b. any-at (undefinedIn s) 0 n p none (omega arith) (omega (arith, b, hn))) deepest e there))
+    let defined : (p : ℕ) → p < ports t → undefinedIn s p ≡ false =
+    λ p b. any-at (undefinedIn s) 0 n p none (omega arith) (omega (arith, b, hn)) in
+    rw (← he) (sym (mentions-none t (facts t ok) (undefinedIn s) defined deepest e there))

@@ -86,7 +86,8 @@ module _ (n : ℕ) where
   argument-start c = c .before .before .before .before
 
   abbrev after-word :
-      mentions-in-lts.After-left mentions-in-calls mentions-in-at mentions-in.Post → mentions-in-lts.After-word mentions-in-calls mentions-in-at mentions-in.Post
+      mentions-in-lts.After-left mentions-in-calls mentions-in-at mentions-in.Post →
+      mentions-in-lts.After-word mentions-in-calls mentions-in-at mentions-in.Post
   after-word c = c .before .before .before
 
   abbrev start :
