@@ -1,13 +1,15 @@
 -- A settled operator's right side decides nothing; that of an operator that is not settled turns its result. Assumes nothing.
 use Prim.Native.Nat.{ℕ}
-use mathlib.Core.Path.{_≡_, refl, sym}
+use mathlib.Core.Path.{_≡_, refl, sym, _∙_}
 use mathlib.Core.Bool.{Bool, true, false, _&&_, _||_, not, xor, false≢true}
+use mathlib.Core.List.{List, _∷_}
 use lib.Dec.{eqb}
 use borrow.Author.Tests.{eqb-true}
+use Rattle.rulebook.specs.Words.{digit}
 use Rattle.rulebook.specs.Table.{operatorAnd, operatorOr, operatorXor, operatorNand}
 use Rattle.rulebook.specs.Expressions.{joined}
 use Rattle.laws.proofs.Tests.{split}
-use Rattle.evaluation.specs.Skipping.{settled}
+use Rattle.evaluation.specs.Skipping.{settled, Section, HoldsIn, MentionsIn}
 
 and-alike : (a b c : Bool) → not a ≡ true → (a && b) ≡ (a && c)
 and-alike true b c h = absurd (false≢true h)
@@ -50,3 +52,18 @@ pub nand-open : (a : Bool) → settled operatorNand a ≡ false → joined opera
 unfolding joined
 nand-open true h = refl
 nand-open false h = absurd (false≢true (sym h))
+
+-- Every list of words is the section of some table, so two results of a part of a table are equal.
+
+abbrev under : List ℕ → List ℕ
+under x = 0 ∷ 0 ∷ 0 ∷ x
+
+section-of : (x : List ℕ) → Section (under x) x
+unfolding digit
+section-of x = refl
+
+pub one-held : (x : List ℕ) (v : ℕ → ℕ) (e d : ℕ) (b c : Bool) → HoldsIn x v e d b → HoldsIn x v e d c → b ≡ c
+one-held x v e d b c h k = h (under x) (section-of x) ∙ sym (k (under x) (section-of x))
+
+pub one-mentioned : (x : List ℕ) (q : ℕ → Bool) (e d : ℕ) (b c : Bool) → MentionsIn x q e d b → MentionsIn x q e d c → b ≡ c
+one-mentioned x q e d b c h k = h (under x) (section-of x) ∙ sym (k (under x) (section-of x))
