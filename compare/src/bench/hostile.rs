@@ -3,21 +3,28 @@
 use second::cases::draft::Draft;
 use second::words::*;
 
+use super::wide::{self, LEAVES, tree};
+
 /// A list's most items, and the most lists.
 const FULL: usize = 255;
 
 /// A table that is slow, and an event that is slow on it if it is accepted.
 pub struct Hostile {
-    pub name: &'static str,
+    pub name: String,
     pub draft: Draft,
     pub event: u32,
 }
 
 pub fn all() -> Vec<Hostile> {
-    let plain = |name, draft| Hostile { name, draft, event: 0 };
+    let plain = |name: &str, draft| Hostile { name: name.into(), draft, event: 0 };
     let request = Event { kind: event::MODE_REQUEST, index: 1, ..Default::default() }.word();
-    let asked = |name, draft| Hostile { name, draft, event: request };
-    vec![
+    let asked = |name, draft| Hostile { event: request, ..plain(name, draft) };
+    let wide = wide::ALL.into_iter().map(|wide| {
+        let draft = wide.draft();
+        let (name, event) = (format!("4,080 rule items, {}", wide.name), wide::request(&draft));
+        Hostile { name, event, draft: rule_items(same_rules(draft)) }
+    });
+    let mut all = vec![
         plain("lists 7 deep, deepest first", levels(7, Order::DeepFirst, false)),
         plain("lists 7 deep, deepest last", levels(7, Order::DeepLast, false)),
         plain("rules 7 deep, deepest first", levels(7, Order::DeepFirst, true)),
@@ -33,8 +40,13 @@ pub fn all() -> Vec<Hostile> {
         plain("expressions, the last 8 deep", expressions(8)),
         plain("expressions, and rules beside a row of seven", both()),
         asked("255 lists chosen at once, last one first", chosen()),
-        asked("4,080 rule items of expressions 7 deep", rule_items()),
-    ]
+        asked("4,080 rule items of expressions 7 deep", rule_items(expressions(7))),
+        asked("4,080 rule items, no branch shared", rule_items(unshared())),
+        asked("4,080 rule items, a port undefined", rule_items(undefined(expressions(7)))),
+        asked("4,080 rule items, both of these", rule_items(undefined(unshared()))),
+    ];
+    all.extend(wide);
+    all
 }
 
 #[derive(Clone, Copy, PartialEq, Eq)]
@@ -199,18 +211,46 @@ fn chosen() -> Draft {
     draft
 }
 
-/// One event starts 16 lists of 255 rule items each, and each item visits the
-/// whole of its rule's expression: the most that a run can evaluate, for a
-/// rule item without lists costs one trace word.
-fn rule_items() -> Draft {
-    const LISTS: u32 = 16;
+/// As `expressions`, in whole trees of 127 words each that share no branch: as
+/// many as there can be.
+fn unshared() -> Draft {
     let mut draft = expressions(7);
+    let condition = |leaf| Condition { port: (leaf == LEAVES - 1) as u32, ..Default::default() };
+    let roots = [0, 1, 2, 3].map(|number| number * (2 * LEAVES - 1));
+    let trees = roots.map(|root| tree(root, expression::XOR, condition));
+    draft.expressions = trees.concat();
+    for (rule, root) in draft.rules.iter_mut().zip(roots.into_iter().cycle()) {
+        rule.expression = root;
+    }
+    draft
+}
+
+/// With as many ports as there can be. The last has no value at first and is
+/// never asked for one, and no rule mentions it; so that some port is undefined
+/// says nothing of a rule.
+fn undefined(mut draft: Draft) -> Draft {
+    draft.ports.resize(63, draft.ports[0]);
+    draft.ports.push(Port::default());
+    draft
+}
+
+/// As many rules as there can be, each as the only one there is.
+fn same_rules(mut draft: Draft) -> Draft {
+    draft.rules.resize(256, draft.rules[0]);
+    draft
+}
+
+/// One event starts 16 lists of 255 rule items each, and each item visits its
+/// rule's expression, the whole of it where that is a tree of XOR: the most that
+/// a run can evaluate, for a rule item without lists costs one trace word.
+fn rule_items(mut draft: Draft) -> Draft {
+    const LISTS: u32 = 16;
     // The first rules start the lists, the others are in the lists' items.
     let item = |i| Item { kind: item::RULE, a: LISTS + i % (256 - LISTS), b: 0 };
     draft.items = (0..FULL as u32).map(item).collect();
     draft.lists = vec![List { first: 0, count: 255, ..Default::default() }; LISTS as usize];
-    for list in 0..LISTS {
-        draft.rules[list as usize] = rule(12 + list, list, list);
+    for (list, rule) in (0..LISTS).zip(&mut draft.rules) {
+        (rule.true_list, rule.false_list) = (list, list);
     }
     draft
 }

@@ -1,26 +1,29 @@
-//! `compare bench`: the proved event call beside the yardstick's and the second
-//! program's, in one run. What is timed is compared first.
+//! `compare bench`: the proved event call beside another commit's, the
+//! yardstick's and the second program's, in one run. What is timed is compared
+//! first.
 
+mod before;
 mod clock;
 mod hostile;
 mod programs;
 mod sized;
 #[cfg(test)]
 mod tests;
+mod times;
 mod timing;
+mod wide;
 
 use std::fs;
 use std::hint::black_box;
 use std::path::Path;
 
-use second::cases::Case;
 use second::program::words;
 
-use crate::differ::{Difference, compare};
-use crate::subject::{Proved, Subject};
 pub use clock::Clock;
+use hostile::Hostile;
 pub use programs::programs;
-use timing::best;
+use times::Times;
+use timing::{Work, best};
 
 /// Hostile tables stay under 2 ms a call.
 const MOST: f64 = 2_000_000.0;
@@ -43,11 +46,14 @@ pub fn example(name: &str) -> Option<[Vec<u32>; 2]> {
 }
 
 pub fn bench() -> Result<(), String> {
-    println!("ns per event, best of five; trace words per event; p/y and p/s are proved/yardstick");
-    println!("and proved/second");
+    println!("ns per event, best of five, the sides in turn; trace words per event; before is the");
     println!(
-        "{:<44}{:>6}{:>6}{:>8}{:>10}{:>10}{:>10}{:>7}{:>7}",
-        "", "words", "B", "trace", "proved", "yardstick", "second", "p/y", "p/s"
+        "proved code of the commit that tools/bench was given; p/b, p/y and p/s are the proved"
+    );
+    println!("code's time by before's, the yardstick's and the second program's");
+    println!(
+        "{:<44}{:>6}{:>6}{:>8}{:>10}{:>10}{:>10}{:>10}{:>7}{:>7}{:>7}",
+        "", "words", "B", "trace", "before", "proved", "yardstick", "second", "p/b", "p/y", "p/s"
     );
     row("marked table, its run", &MARKED, &marked_run())?;
     match example("truck") {
@@ -62,66 +68,18 @@ pub fn bench() -> Result<(), String> {
     for blocks in [3, 9, 29, 85] {
         row(&format!("{blocks} blocks"), &sized::sized(blocks).words(), &sized::events())?;
     }
+    println!("a rule on 64 conditions joined seven deep, and a request that has it evaluated");
+    for wide in wide::ALL {
+        let draft = wide.draft();
+        let name = format!("64 conditions, {}", wide.name);
+        row(&name, &draft.words(), &[wide::request(&draft)])?;
+    }
     hostile_tables()
 }
 
-/// Nanoseconds per event of each call, and how many trace words a run writes.
-struct Times {
-    proved: f64,
-    /// No time where it computes something else, but what that is.
-    yardstick: Result<f64, Difference>,
-    second: f64,
-    written: usize,
-}
-
-impl Times {
-    /// Of a run from a fresh state, again and again. The proved code and the
-    /// clock are first held against the second program on this very run.
-    fn of(clock: &impl Subject, table: &[u32], events: &[u32]) -> Result<Self, Difference> {
-        let mut state = vec![0; herringcart::state_words(table)];
-        second::fresh(table, &mut state);
-        let (room, table, events) = (second::check(table).b, table.to_vec(), events.to_vec());
-        let case = Case { table, state, room, events };
-        compare(&Proved, &case)?;
-        let yardstick = compare(clock, &case);
-        let (second, written) = timed(&case, |t, s, r, e| second::step(t, s, r, e).count);
-        let (proved, _) = timed(&case, |t, s, r, e| Proved.step(t, s, r, e).count);
-        let yardstick =
-            yardstick.map(|()| timed(&case, |t, s, r, e| clock.step(t, s, r, e).count).0);
-        Ok(Times { proved, yardstick, second, written })
-    }
-
-    /// The yardstick's time, in so many of the unit's nanoseconds, and the
-    /// proved code's by it; and what is said below the line where there is none.
-    fn by_yardstick(&self, unit: f64, digits: usize) -> (String, String, String) {
-        match &self.yardstick {
-            Ok(time) => {
-                let ratio = self.proved / time;
-                (format!("{:.digits$}", time / unit), format!("{ratio:.2}"), String::new())
-            }
-            Err(difference) => {
-                let why = format!(
-                    "\n  yardstick: no time, it computes something else: {}",
-                    difference.what
-                );
-                ("-".into(), "-".into(), why)
-            }
-        }
-    }
-}
-
-/// Nanoseconds per event of a call that gives its count, and the counts' sum.
-fn timed(case: &Case, call: impl Fn(&[u32], &mut [u32], &mut [u32], u32) -> usize) -> (f64, usize) {
-    let (mut state, mut trace) = (case.state.clone(), vec![0; case.room]);
-    let mut written = 0;
-    let time = best(|| {
-        state.copy_from_slice(&case.state);
-        let table = black_box(&case.table[..]);
-        let take = |&event| call(table, &mut state, &mut trace, event);
-        written = case.events.iter().map(take).sum();
-        case.events.len()
-    });
-    (time, written)
+fn times(name: &str, table: &[u32], events: &[u32]) -> Result<Times, String> {
+    Times::of(before::LINKED.as_ref(), &Clock, table, events)
+        .map_err(|what| format!("{name}: {what}"))
 }
 
 /// One line of an accepted table.
@@ -130,45 +88,58 @@ fn row(name: &str, table: &[u32], events: &[u32]) -> Result<(), String> {
     if check.reason != 0 {
         return Err(format!("{name}: {check:?}"));
     }
-    let times = Times::of(&Clock, table, events).map_err(|what| format!("{name}: {what}"))?;
-    let (yardstick, by_yardstick, why) = times.by_yardstick(1.0, 0);
+    let times = times(name, table, events)?;
+    let [before, by_before, why] = times.beside(&times.before, 1.0, 0);
+    let [yardstick, by_yardstick, why_too] = times.beside(&times.yardstick, 1.0, 0);
     let Times { proved, second, written, .. } = times;
     let (words, b, trace) = (table.len(), check.b, written as f64 / events.len() as f64);
     let by_second = proved / second;
     println!(
-        "{name:<44}{words:>6}{b:>6}{trace:>8.1}{proved:>10.0}{yardstick:>10}{second:>10.0}\
-         {by_yardstick:>7}{by_second:>7.2}{why}"
+        "{name:<44}{words:>6}{b:>6}{trace:>8.1}{before:>10}{proved:>10.0}{yardstick:>10}\
+         {second:>10.0}{by_before:>7}{by_yardstick:>7}{by_second:>7.2}{why}{why_too}"
     );
     Ok(())
 }
 
 /// The tables made to be slow, by the proved check and by event.
 fn hostile_tables() -> Result<(), String> {
-    println!("hostile tables: microseconds a call, best of five");
+    println!("hostile tables: microseconds a call, best of five, the sides in turn");
     println!(
-        "{:<44}{:>6}{:>7}{:>10}{:>10}{:>10}{:>10}{:>7}",
-        "", "words", "reason", "check", "event", "yardstick", "second", "p/y"
+        "{:<44}{:>6}{:>7}{:>10}{:>10}{:>10}{:>10}{:>10}{:>7}{:>7}",
+        "", "words", "reason", "check", "before", "event", "yardstick", "second", "p/b", "p/y"
     );
-    let mut slowest: f64 = 0.0;
+    let (mut slowest, mut accepted): (f64, _) = (0.0, (0.0, String::new()));
     for hostile in hostile::all() {
-        let (name, words) = (hostile.name, hostile.draft.words());
-        let times = Times::of(&Clock, &words, &[hostile.event])
-            .map_err(|what| format!("{name}: {what}"))?;
-        let check = best(|| {
-            black_box(herringcart::check_table(black_box(&words)));
-            1
-        });
-        let (yardstick, ratio, why) = times.by_yardstick(1000.0, 1);
-        let [checked, event, second] = [check, times.proved, times.second].map(|ns| ns / 1000.0);
-        let (length, reason) = (words.len(), second::check(&words).reason);
-        let proved = check.max(times.proved);
-        let flag = if proved > MOST { " OVER" } else { "" };
-        println!(
-            "{name:<44}{length:>6}{reason:>7}{checked:>10.1}{event:>10.1}{yardstick:>10}{second:>10.1}\
-             {ratio:>7}{flag}{why}"
-        );
-        slowest = slowest.max(proved);
+        let (reason, time) = hostile_row(&hostile)?;
+        slowest = slowest.max(time);
+        if reason == 0 && time > accepted.0 {
+            accepted = (time, hostile.name);
+        }
     }
     println!("slowest proved call: {:.1} us; OVER is above 2 ms", slowest / 1000.0);
+    println!("slowest accepted table: {:.1} us, {}", accepted.0 / 1000.0, accepted.1);
     Ok(())
+}
+
+/// One line of a table made to be slow: its reason, and the slower of the proved
+/// check and event.
+fn hostile_row(hostile: &Hostile) -> Result<(u32, f64), String> {
+    let (name, words) = (&hostile.name, hostile.draft.words());
+    let times = times(name, &words, &[hostile.event])?;
+    let mut check: Work = Box::new(|| {
+        black_box(herringcart::check_table(black_box(&words)));
+        1
+    });
+    let [check] = best([Some(&mut check)]);
+    let [before, by_before, why] = times.beside(&times.before, 1000.0, 1);
+    let [yardstick, by_yardstick, why_too] = times.beside(&times.yardstick, 1000.0, 1);
+    let [checked, event, second] = [check, times.proved, times.second].map(|ns| ns / 1000.0);
+    let (length, reason) = (words.len(), second::check(&words).reason);
+    let proved = check.max(times.proved);
+    let flag = if proved > MOST { " OVER" } else { "" };
+    println!(
+        "{name:<44}{length:>6}{reason:>7}{checked:>10.1}{before:>10}{event:>10.1}{yardstick:>10}\
+         {second:>10.1}{by_before:>7}{by_yardstick:>7}{flag}{why}{why_too}"
+    );
+    Ok((reason, proved))
 }

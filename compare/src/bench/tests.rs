@@ -1,9 +1,13 @@
-//! A time is of the same computation, or there is none. The yardstick itself is
-//! not asked: the proved code with a fault stands in for it.
+//! A time is of the same computation, or there is none; and the tables are what
+//! their rows say. The yardstick and another commit's code are not asked: the
+//! proved code with a fault stands in for them.
 
 use herringcart::{Answer, Check};
+use second::cases::draft::Draft;
+use second::words::*;
 
 use super::*;
+use crate::subject::{Proved, Subject};
 
 /// Has another place for a refused table and another answer for a bus-off.
 struct Other;
@@ -20,11 +24,15 @@ impl Subject for Other {
     }
 }
 
-/// What is said where there is no time, else nothing.
+/// What is said where there is no time, else nothing: of the yardstick, and of
+/// the code before in the same words.
 fn said(table: &[u32], events: &[u32]) -> String {
-    let times = Times::of(&Other, table, events).expect("the proved code is right");
-    let (time, ratio, why) = times.by_yardstick(1.0, 0);
+    let times = Times::of(Some(&Other), &Other, table, events).expect("the proved code is right");
+    let [time, ratio, why] = times.beside(&times.yardstick, 1.0, 0);
     assert_eq!((time == "-", ratio == "-"), (!why.is_empty(), !why.is_empty()));
+    let before = times.beside(&times.before, 1.0, 0);
+    assert_eq!((&before[0] == "-", &before[1] == "-"), (time == "-", ratio == "-"));
+    assert_eq!(before[2], why.replace("yardstick", "before"));
     why
 }
 
@@ -42,4 +50,152 @@ fn a_clock_that_refuses_a_table_otherwise_has_no_time() {
     let refused: Vec<_> = tables.filter(|words| second::check(words).reason != 0).collect();
     let why = said(&refused[0], &[0]);
     assert!(why.ends_with("computes something else: check: reason, place, B"), "{why}");
+}
+
+#[test]
+fn without_a_commit_there_is_no_time_before_and_nothing_is_said() {
+    let times = Times::of(None::<&Proved>, &Proved, &MARKED, &marked_run()).expect("right");
+    assert_eq!(times.beside(&times.before, 1.0, 0), ["-", "-", ""]);
+    assert!(times.yardstick.is_ok());
+}
+
+/// The state and trace after an event on a fresh state of an accepted table.
+fn after(draft: &Draft, event: u32) -> (Vec<u32>, Vec<u32>) {
+    let words = draft.words();
+    let check = herringcart::check_table(&words);
+    assert!(check.accepted(), "{check:?}");
+    let mut state = vec![0; herringcart::state_words(&words)];
+    assert_eq!(herringcart::make_fresh(&words, &mut state), 0);
+    let mut trace = vec![0; check.bound as usize];
+    let answer = herringcart::take_event(&words, &mut state, &mut trace, event);
+    assert!(answer.done(), "{answer:?}");
+    trace.truncate(answer.count);
+    (state, trace)
+}
+
+/// The value of an expression on a fresh state, and the words that are visited
+/// where the right side is passed over once the left one has settled it.
+fn visited(draft: &Draft, number: usize) -> (bool, usize) {
+    let (kind, left, right) = match draft.expressions[number] {
+        Expression::Condition(condition) => {
+            let initial = draft.ports[condition.port as usize].initial;
+            return (initial == condition.value, 1);
+        }
+        Expression::Operator(Operator { kind, left, right }) => (kind, left, right),
+    };
+    let (left, visits) = visited(draft, left as usize);
+    if left == (kind == expression::OR) && kind != expression::XOR {
+        return (left, visits + 1);
+    }
+    let (right, more) = visited(draft, right as usize);
+    (if kind == expression::XOR { left != right } else { right }, visits + more + 1)
+}
+
+#[test]
+fn the_condition_that_a_wide_row_names_decides_it_alone() {
+    for wide in wide::ALL {
+        let draft = wide.draft();
+        let result = |draft: &Draft| {
+            let (state, trace) = after(draft, wide::request(draft));
+            assert_eq!(trace, []);
+            RuleState::of(state[draft.ports.len()]).last
+        };
+        let given = result(&draft);
+        assert_eq!(given, (wide.joined == expression::OR) as u32, "{}", wide.name);
+        for leaf in 0..wide::LEAVES {
+            let mut turned = draft.clone();
+            turned.ports[leaf as usize].initial ^= 1;
+            let turns = result(&turned) != given;
+            assert_eq!(turns, leaf == wide.decides, "{}: condition {leaf}", wide.name);
+        }
+        // Down to the first leaf, or all of the tree.
+        let visits = if wide.decides == 0 { 7 } else { 127 };
+        assert_eq!(visited(&draft, 0), (given == 1, visits), "{}", wide.name);
+    }
+}
+
+#[test]
+fn a_wide_row_s_event_turns_nothing() {
+    for wide in wide::ALL {
+        let draft = wide.draft();
+        let event = wide::request(&draft);
+        let (mut state, _) = after(&draft, event);
+        let first = state.clone();
+        assert!(Proved.step(&draft.words(), &mut state, &mut [], event).done());
+        assert_eq!(state, first, "{}", wide.name);
+        let value = |port: usize| PortState::of(state[port]).value;
+        assert!((0..draft.ports.len()).all(|port| value(port) == draft.ports[port].initial));
+    }
+}
+
+/// The hostile rows of 4,080 rule items.
+fn of_rule_items() -> Vec<Hostile> {
+    let all = hostile::all().into_iter();
+    all.filter(|hostile| hostile.name.starts_with("4,080 rule items")).collect()
+}
+
+#[test]
+fn each_of_4080_rule_items_is_reached_and_evaluated() {
+    assert_eq!(of_rule_items().len(), 8);
+    for Hostile { name, draft, event } in of_rule_items() {
+        let (_, trace) = after(&draft, event);
+        let mut expected = vec![];
+        for (a, list) in (0..).zip(&draft.lists) {
+            expected.push(TraceWord { kind: LIST_START, a, ..Default::default() }.word());
+            for item in &draft.items[list.items()] {
+                let expression = draft.rules[item.a as usize].expression as usize;
+                let b = visited(&draft, expression).0 as u32;
+                expected.push(TraceWord { kind: item::RULE, a: item.a, b, owner: 0 }.word());
+            }
+        }
+        assert_eq!(expected.len(), 16 + 4080);
+        assert_eq!(trace, expected, "{name}");
+    }
+}
+
+#[test]
+fn rule_items_visit_as_many_words_as_their_row_says() {
+    for Hostile { name, draft, .. } in of_rule_items() {
+        let visits = if name.contains("first") { 7 } else { 127 };
+        let roots = draft.rules.iter().map(|rule| rule.expression as usize);
+        assert!(roots.into_iter().all(|root| visited(&draft, root).1 == visits), "{name}");
+    }
+}
+
+/// The expression words below a root, itself included, each as often as it is met.
+fn below(draft: &Draft, root: usize) -> Vec<usize> {
+    let arguments = draft.expressions[root].arguments();
+    [root].into_iter().chain(arguments.flat_map(|next| below(draft, next))).collect()
+}
+
+/// Those of the hostile rows of 4,080 rule items whose names end so.
+fn ending(names: [&str; 2]) -> Vec<Hostile> {
+    let ends = |row: &Hostile| names.iter().any(|name| row.name.ends_with(name));
+    let rows: Vec<_> = of_rule_items().into_iter().filter(ends).collect();
+    assert_eq!(rows.len(), 2);
+    rows
+}
+
+#[test]
+fn trees_that_share_no_branch_share_no_word() {
+    for Hostile { name, draft, .. } in ending(["no branch shared", "both of these"]) {
+        let mut roots: Vec<_> = draft.rules.iter().map(|rule| rule.expression as usize).collect();
+        roots.sort();
+        roots.dedup();
+        let mut words: Vec<_> = roots.iter().flat_map(|&root| below(&draft, root)).collect();
+        words.sort();
+        assert_eq!((roots.len(), words), (4, (0..4 * 127).collect()), "{name}");
+    }
+}
+
+#[test]
+fn the_undefined_port_stays_so_and_no_rule_mentions_it() {
+    for Hostile { name, draft, event } in ending(["a port undefined", "both of these"]) {
+        let (state, _) = after(&draft, event);
+        let undefined = |&port: &usize| PortState::of(state[port]).defined == 0;
+        let ports: Vec<_> = (0..draft.ports.len()).filter(undefined).collect();
+        assert_eq!(ports, [63], "{name}");
+        let mentioned = |rule: &Rule| draft.mentioned(rule.expression as usize);
+        assert!(!draft.rules.iter().flat_map(mentioned).any(|port| port == 63), "{name}");
+    }
 }

@@ -7,14 +7,25 @@ use std::time::{Duration, Instant};
 const REPEATS: usize = 5;
 const LEAST: Duration = Duration::from_millis(15);
 
-/// Nanoseconds for one of the calls that `work` makes and counts.
-pub fn best(mut work: impl FnMut() -> usize) -> f64 {
-    // The first run warms the caches and is not counted.
-    black_box(work());
-    (0..REPEATS).map(|_| once(&mut work)).fold(f64::INFINITY, f64::min)
+/// Makes calls and counts them.
+pub type Work<'a> = Box<dyn FnMut() -> usize + 'a>;
+
+/// Nanoseconds for one of the calls that each makes; without end for none. They
+/// take turns, so that a machine that grows slower does so for all alike.
+pub fn best<const SIDES: usize>(mut works: [Option<&mut Work>; SIDES]) -> [f64; SIDES] {
+    let mut least = [f64::INFINITY; SIDES];
+    for _ in 0..REPEATS {
+        for (work, least) in works.iter_mut().zip(&mut least) {
+            let Some(work) = work else { continue };
+            // The first run of a turn warms the caches and is not counted.
+            black_box(work());
+            *least = least.min(once(work));
+        }
+    }
+    least
 }
 
-fn once(work: &mut impl FnMut() -> usize) -> f64 {
+fn once(work: &mut Work) -> f64 {
     let (start, mut calls) = (Instant::now(), 0);
     loop {
         calls += black_box(work());
