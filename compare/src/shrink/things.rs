@@ -54,37 +54,60 @@ fn remove(draft: &mut Draft, section: Section, at: usize) {
 }
 
 /// A name of a later thing than the one taken out is one less.
+fn moved_up(name: u32, at: usize) -> u32 {
+    if name as usize > at { name - 1 } else { name }
+}
+
 fn move_up(name: &mut u32, at: usize) {
-    if *name as usize > at {
-        *name -= 1;
-    }
+    *name = moved_up(*name, at);
 }
 
 fn move_items(draft: &mut Draft, kinds: &[u32], at: usize) {
     draft.items.iter_mut().filter(|i| kinds.contains(&i.kind)).for_each(|i| move_up(&mut i.a, at));
 }
 
+/// A condition on the port that is taken out is on the first one that is left,
+/// for it would else name nothing, or a port that its kind does not fit.
 fn remove_port(draft: &mut Draft, at: usize) {
     draft.ports.remove(at);
+    let event = draft.ports.first().is_some_and(|port| port.kind == port::EVENT);
+    let kind = if event { expression::SET } else { expression::EQUAL };
     draft.networks.iter_mut().for_each(|(network, _)| move_up(&mut network.port, at));
     draft.sources.iter_mut().for_each(|source| move_up(&mut source.port, at));
     for expression in &mut draft.expressions {
-        if let Expression::Condition(condition) = expression {
-            move_up(&mut condition.port, at);
+        match expression {
+            Expression::Condition(condition) if condition.port as usize == at => {
+                *condition = Condition { kind, ..Default::default() };
+            }
+            Expression::Condition(condition) => move_up(&mut condition.port, at),
+            Expression::Operator(_) => {}
         }
     }
     move_items(draft, &[item::CLEAR_EVENT, item::START_TIMER, item::STOP_TIMER], at);
 }
 
+/// Whatever names the expression that is taken out names its left argument
+/// instead, or another condition.
 fn remove_expression(draft: &mut Draft, at: usize) {
-    draft.expressions.remove(at);
+    let is_condition = |e: &Expression| matches!(e, Expression::Condition(_));
+    let heir = match draft.expressions.remove(at) {
+        Expression::Operator(operator) => moved_up(operator.left, at),
+        Expression::Condition(_) => {
+            draft.expressions.iter().position(is_condition).unwrap_or(at) as u32
+        }
+    };
+    let rename = |name: &mut u32| {
+        *name = if *name as usize == at { heir } else { moved_up(*name, at) };
+    };
     for expression in &mut draft.expressions {
         if let Expression::Operator(operator) = expression {
-            move_up(&mut operator.left, at);
-            move_up(&mut operator.right, at);
+            rename(&mut operator.left);
+            if operator.kind != expression::NOT {
+                rename(&mut operator.right);
+            }
         }
     }
-    draft.rules.iter_mut().for_each(|rule| move_up(&mut rule.expression, at));
+    draft.rules.iter_mut().for_each(|rule| rename(&mut rule.expression));
 }
 
 /// A rule loses the list that is taken out.
