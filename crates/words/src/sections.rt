@@ -7,10 +7,9 @@ ghost use Rattle.words.specs.Sections.{Laid, PortAt, NetworkAt, WaitsAt,
 use crate::table;
 use crate::word;
 
-// The counts; the place of each section's first word, `port0` being 3 always; the length that the header asks for; and whether the
-// table is known to be accepted.
+// The counts; whether the table is known to be accepted; the place of each section's first word, `port0` being 3 always; the length that
+// the header asks for.
 pub struct Layout {
-    pub accepted: bool,
     pub ports: u32,
     pub networks: u32,
     pub sources: u32,
@@ -18,6 +17,7 @@ pub struct Layout {
     pub rules: u32,
     pub lists: u32,
     pub items: u32,
+    pub accepted: bool,
     pub network0: usize,
     pub source0: usize,
     pub expression0: usize,
@@ -48,7 +48,6 @@ pub fn read_layout(t: &[u32]) -> Layout
     let item0 = list0 + lists as usize;
     let length = item0 + items as usize;
     Layout {
-        accepted: false,
         ports,
         networks,
         sources,
@@ -56,6 +55,7 @@ pub fn read_layout(t: &[u32]) -> Layout
         rules,
         lists,
         items,
+        accepted: false,
         network0,
         source0,
         expression0,
