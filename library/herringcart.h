@@ -29,7 +29,7 @@
  * What a call costs: all but herringcart_state_words check the whole table each time, for nothing is kept. Measured
  * on an Arm Neoverse V1 an event takes some 16 ns for each word of the table (docs/BENCHMARKS.md): 0.2 us with 12 words,
  * 48 us with 2,892. Tables made to be slow to check take up to 0.9 ms a call. The slowest that are known run 4,080 rule items
- * in one event: 1.9 ms, and 3.1 ms while a port is undefined. Whoever has a deadline measures with the table that is to be deployed.
+ * in one event: 1.8 ms, and 3.1 ms while a port is undefined. Whoever has a deadline measures with the table that is to be deployed.
  */
 #ifndef HERRINGCART_H
 #define HERRINGCART_H
