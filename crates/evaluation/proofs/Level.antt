@@ -1,24 +1,18 @@
 -- One level of an evaluation, by what the code reads of the expression's word; and what a rule chooses. Assumes nothing.
-use Prim.Native.Nat.{ℕ, suc, _-_, _<_}
+use Prim.Native.Nat.{ℕ, suc, _-_}
 use mathlib.Core.Path.{_≡_, refl, ap, sym, _∙_}
-use mathlib.Core.Bool.{Bool, true, false, _&&_, _||_, not}
+use mathlib.Core.Bool.{Bool, true, false, _||_, not}
 use mathlib.Core.List.{List}
 use native.Mathlib.Omega.{arith}
-use lib.Dec.{leb, eqb}
-use lib.ListN.{length, take, drop, length-drop}
-use lib.Seq.{take-all, getD-drop}
+use lib.Dec.{eqb}
 use borrow.Author.Tests.{not-true, not-false}
-use Rattle.rulebook.specs.Words.{word, any, field}
-use Rattle.rulebook.specs.Table.{ports, expressions, ruleExpression, expressionsFrom, expressionWord, expressionKind, left, right, noList, triggered}
+use Rattle.rulebook.specs.Words.{between, field}
+use Rattle.rulebook.specs.Table.{expressionWord, expressionKind, left, right, noList, triggered, operatorAnd, operatorNot}
 use Rattle.rulebook.specs.Expressions as Expressions
-use Rattle.rulebook.specs.Reasons.{accepted}
-use Rattle.rulebook.specs.Expressions.{deepest, operator, joined, expressionHolds, holds}
-use Rattle.rulebook.specs.Lists.{undefinedIn, unready, listFor, choice}
-use Rattle.laws.proofs.Facts.{facts}
-use Rattle.laws.proofs.Expressions.{mentions-none}
-use Rattle.laws.proofs.Walks.{any-at}
+use Rattle.rulebook.specs.Expressions.{operator, joined, expressionHolds, holds}
+use Rattle.rulebook.specs.Lists.{listFor, choice}
 use Rattle.evaluation.specs.Met.{conditionWord, wordMet}
-use Rattle.evaluation.specs.Skipping.{settled, StartsAt, Section}
+use Rattle.evaluation.specs.Skipping.{settled}
 use Rattle.evaluation.proofs.Skipping.{settled-alike}
 
 holds-condition : (t : List ℕ) (v : ℕ → ℕ) (below : ℕ → Bool) (e : ℕ) → operator t e ≡ false → expressionHolds t v below e ≡ Expressions.condition t v e
@@ -42,34 +36,25 @@ condition-met : (t : List ℕ) (v : ℕ → ℕ) (e : ℕ) → Expressions.condi
 unfolding Expressions.condition
 condition-met t v e = refl
 
-pub section-part : (t : List ℕ) (from i : ℕ) → from ≡ expressionsFrom t → StartsAt t from i → Section t (take (length t - i) (drop i t))
-section-part t from i h at =
-    take-all (length t - i) (drop i t) (let e : length (drop i t) ≡ length t - i = length-drop i t in omega arith)
-    ∙ at .part ∙ ap (λ (n : ℕ). drop n t) h
-
--- what is read of a table's section is the expression's word
-pub section-word : (t x : List ℕ) (e w : ℕ) → Section t x → w ≡ word x e → w ≡ expressionWord t e
-section-word t x e w h hw = hw ∙ ap (λ (ws : List ℕ). word ws e) h ∙ getD-drop (expressionsFrom t) t e 0
-
 -- expression e has the word w, and there is a level left
 module _ (t : List ℕ) (e d w : ℕ) (more : d ≡ 0 → ⊥) (hw : w ≡ expressionWord t e) (v : ℕ → ℕ) where
   level : d ≡ suc (d - 1)
   level = omega arith
 
-  abbrev test : Bool
-  test = leb 4 (field 0 4 w) && leb (field 0 4 w) 8
+  abbrev operates : Bool
+  operates = between operatorAnd operatorNot (field 0 4 w)
 
   -- the exits of the code, where l is the left argument and r the right one
   pub condition-holds : conditionWord w ≡ true → wordMet v w ≡ holds d t v e
   unfolding operator
   condition-holds h =
       sym
-      (holds-level t v e d (d - 1) level ∙ holds-condition t v (holds (d - 1) t v) e (rw hw at (not-true test h)) ∙ condition-met t v e ∙ rw hw)
+      (holds-level t v e d (d - 1) level ∙ holds-condition t v (holds (d - 1) t v) e (rw hw at (not-true operates h)) ∙ condition-met t v e ∙ rw hw)
 
   joined-holds : conditionWord w ≡ false
       → holds d t v e ≡ joined (field 0 4 w) (holds (d - 1) t v (field 4 14 w)) (holds (d - 1) t v (field 18 14 w))
   unfolding operator
-  joined-holds h = rw hw (holds-level t v e d (d - 1) level ∙ holds-operator t v (holds (d - 1) t v) e (rw hw at (not-false test h)))
+  joined-holds h = rw hw (holds-level t v e d (d - 1) level ∙ holds-operator t v (holds (d - 1) t v) e (rw hw at (not-false operates h)))
 
   module _ (k l : ℕ) (a : Bool) (op : conditionWord w ≡ false) (hk : k ≡ field 0 4 w) (hl : l ≡ field 4 14 w) (ha : a ≡ holds (d - 1) t v l) where
     left-held : holds d t v e ≡ joined k a (holds (d - 1) t v (field 18 14 w))
@@ -96,12 +81,3 @@ module _ (t : List ℕ) (r previous result l g : ℕ) (hl : l ≡ listFor t r re
   pub choice-none : (eqb g 0 || not (eqb result previous)) ≡ false → noList ≡ choice t r previous result
   unfolding choice
   choice-none h = rw (rw is-triggered at h)
-
--- the rules of an accepted table mention none but its ports
-pub all-defined : (t s : List ℕ) (r e n : ℕ) → accepted t ≡ true → e ≡ ruleExpression t r → e < expressions t → n ≡ ports t
-    → any 0 n (undefinedIn s) ≡ false → false ≡ unready t s r
-unfolding unready
-all-defined t s r e n ok he there hn none =
-    let defined : (p : ℕ) → p < ports t → undefinedIn s p ≡ false =
-    λ p b. any-at (undefinedIn s) 0 n p none (omega arith) (omega (arith, b, hn)) in
-    rw (← he) (sym (mentions-none t (facts t ok) (undefinedIn s) defined deepest e there))

@@ -1,3 +1,5 @@
--- Laws of one level of an evaluation, as the code goes through it.
+-- Laws of an evaluation, as the code goes through it.
 pub mod Skipping
+pub mod Section
 pub mod Level
+pub mod Ready

@@ -8,7 +8,8 @@ ghost use Rattle.rulebook.specs.Lists.{valueIn, undefinedIn, unready as unready
 ghost use Rattle.words.specs.Field.{Field};
 ghost use Rattle.words.specs.Sections.{Laid};
 ghost use Rattle.evaluation.specs.Met.{met, conditionWord, wordMet};
-ghost use Rattle.evaluation.specs.Skipping.{settled as settledOf, StartsAt, HoldsIn, MentionsIn};
+ghost use Rattle.evaluation.specs.Section.{StartsAt, HoldsIn, MentionsIn};
+ghost use Rattle.evaluation.specs.Skipping.{settled as settledOf};
 use words::numbers::CONDITION_EQUAL;
 use words::numbers::CONDITION_NOT_EQUAL;
 use words::numbers::CONDITION_SET;

@@ -7,7 +7,8 @@ use native.Mathlib.Omega.{arith}
 use borrow.Fn.Kinds.{In}
 use borrow.Fn.PlainCycle.{Measures, is, falls, and}
 use Rattle.rulebook.specs.Expressions as Expressions
-use Rattle.evaluation.proofs.Level.{section-word, condition-holds, not-holds, settled-holds, both-hold}
+use Rattle.evaluation.proofs.Section.{section-word}
+use Rattle.evaluation.proofs.Level.{condition-holds, not-holds, settled-holds, both-hold}
 use Rattle.evaluation.proofs.argument_holds.Reads as argument-holds
 use Rattle.evaluation.proofs.argument_holds.Kinds as argument-holds-kinds
 use Rattle.evaluation.proofs.+argument_holds+holds_in.Lts-argument_holds as argument-holds-lts

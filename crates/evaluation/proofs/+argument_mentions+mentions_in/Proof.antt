@@ -8,7 +8,7 @@ use borrow.Fn.PlainCycle.{Measures, is, falls, and}
 use Rattle.rulebook.specs.Expressions as Expressions
 use Rattle.rulebook.specs.Lists.{undefinedIn}
 use Rattle.expression.proofs.Level.{mention-condition, mention-left, mention-not, mention-right}
-use Rattle.evaluation.proofs.Level.{section-word}
+use Rattle.evaluation.proofs.Section.{section-word}
 use Rattle.evaluation.proofs.argument_mentions.Reads as argument-mentions
 use Rattle.evaluation.proofs.argument_mentions.Kinds as argument-mentions-kinds
 use Rattle.evaluation.proofs.+argument_mentions+mentions_in.Lts-argument_mentions as argument-mentions-lts

@@ -1,6 +1,6 @@
 -- `evaluation::holds` meets its contract: what its section gives is what the table gives. Assumes nothing.
 use borrow.Author.Needs.{needs}
-use Rattle.evaluation.proofs.Level.{section-part}
+use Rattle.evaluation.proofs.Section.{section-part}
 use Rattle.evaluation.proofs.holds.Statement.{statement}
 use Rattle.evaluation.proofs.holds.Tie as tie
 

@@ -1,6 +1,6 @@
 -- `evaluation::mentions_undefined` meets its contract: what its section mentions is what the table mentions. Assumes nothing.
 use borrow.Author.Needs.{needs}
-use Rattle.evaluation.proofs.Level.{section-part}
+use Rattle.evaluation.proofs.Section.{section-part}
 use Rattle.evaluation.proofs.mentions_undefined.Statement.{statement}
 use Rattle.evaluation.proofs.mentions_undefined.Tie as tie
 

@@ -7,7 +7,7 @@ use borrow.Author.Needs.{needs}
 use borrow.Author.Tests.{not-true, ltb-true}
 use Rattle.rulebook.specs.Lists.{unready}
 use Rattle.laws.proofs.Tests.{and-left, and-right}
-use Rattle.evaluation.proofs.Level.{all-defined}
+use Rattle.evaluation.proofs.Ready.{all-defined}
 use Rattle.evaluation.proofs.unready.Statement.{statement}
 use Rattle.evaluation.proofs.unready.Tie as tie
 
