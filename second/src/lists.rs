@@ -75,9 +75,11 @@ impl Run<'_> {
         match item.kind {
             item::LIST => return self.run_list(named, levels_left - 1),
             item::RULE => return self.run_rule(named, owner, levels_left),
+            // Q-2: "From now on a clear marks the port, deferred or immediate, even if
+            // it was clear already, for the next tick unless arbitrated sooner."
             item::CLEAR_EVENT => {
                 let port = self.state.port(named);
-                self.state.set_port(named, PortState { value: 0, ..port });
+                self.state.set_port(named, PortState { marked: 1, value: 0, ..port });
             }
             item::START_TIMER => {
                 self.turn_timer(named, timer::STARTED, self.table.port(named).reload)

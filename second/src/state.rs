@@ -62,13 +62,15 @@ impl<'a> State<'a> {
 fn port_fits(port: Port, state: PortState) -> bool {
     let started = port.kind == port::TIMER && state.value == timer::STARTED;
     let undefined_fits = port.kind == port::MODE && state.value == 0 && state.marked == 0;
+    // "So the state rule that immediate ports are unmarked holds only for mode ports."
+    let unmarked = port.kind == port::MODE && port.deferred == 0;
     let value_fits = match port.kind {
         port::EVENT => state.value <= 1,
         port::TIMER => state.value <= timer::EXPIRED,
         _ => true,
     };
     state.zero == 0
-        && (port.deferred == 1 || state.marked == 0)
+        && (!unmarked || state.marked == 0)
         && (state.defined == 1 || undefined_fits)
         && value_fits
         && remaining_fits(started.then_some(port.reload), state.remaining)

@@ -1,10 +1,14 @@
 //! A table before it is packed, and what its maker knows of its nesting.
 
+use super::prng::Prng;
 use crate::words::*;
 
 /// How deep a good table may nest: the maker's own number, so that a wrong one
 /// in the rules shows.
 pub const SEVEN: u32 = 7;
+
+/// Few priorities, so that equal ones are common.
+pub const PRIORITIES: [u32; 5] = [0, 1, 1, 7, 255];
 
 #[derive(Clone, Default, Debug)]
 pub struct Draft {
@@ -37,6 +41,38 @@ impl Draft {
             lists: all(Section::Lists).map(|l| table.list(l)).collect(),
             items: all(Section::Items).map(|i| table.item(i)).collect(),
         }
+    }
+
+    /// The platform, anyone, or mostly one who has a port already.
+    pub fn some_owner(&self, rng: &mut Prng) -> u32 {
+        match rng.below(5) {
+            0 => PLATFORM,
+            1 => rng.within(1, 15),
+            _ => rng.pick_any(&self.ports).map_or(PLATFORM, |port| port.owner),
+        }
+    }
+
+    /// The number of an expression; equal ones share a word.
+    pub fn add_expression(&mut self, expression: Expression) -> u32 {
+        let same = self.expressions.iter().position(|&other| other == expression);
+        same.unwrap_or_else(|| {
+            self.expressions.push(expression);
+            self.expressions.len() - 1
+        }) as u32
+    }
+
+    pub fn add_rule(&mut self, rule: Rule) -> u32 {
+        self.rules.push(rule);
+        self.rules.len() as u32 - 1
+    }
+
+    /// A list with items of its own, its priority one of a few.
+    pub fn add_list(&mut self, rng: &mut Prng, owner: u32, triggered: bool, items: &[Item]) -> u32 {
+        let (first, count) = (self.items.len() as u32, items.len() as u32);
+        let (triggered, priority) = (triggered as u32, rng.pick(&PRIORITIES));
+        self.items.extend(items);
+        self.lists.push(List { owner, triggered, priority, first, count });
+        self.lists.len() as u32 - 1
     }
 
     /// A network's word in a state of this table.

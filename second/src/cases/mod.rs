@@ -1,6 +1,7 @@
 //! Generated cases: the same for the same seed, and what their making says of
 //! their outcome.
 
+pub mod cleared;
 pub mod draft;
 pub mod prng;
 pub mod refused;
@@ -9,6 +10,7 @@ pub mod states;
 pub mod tables;
 pub mod wide;
 
+use cleared::clearing;
 use draft::{Draft, SEVEN};
 use prng::Prng;
 use refused::Refused;
@@ -61,6 +63,7 @@ enum Shape {
     Dearest,
     Brimful,
     Wide,
+    Cleared,
     SevenDeep,
     EightDeep,
     NotReached,
@@ -77,10 +80,10 @@ enum Shape {
 const ROUND: [Shape; 44] = {
     use Shape::*;
     [
-        Small, Rich, Refused, Small, NotReached, Unfit, Small, Refused, SevenDeep, Wide, Small,
+        Small, Rich, Refused, Cleared, NotReached, Unfit, Small, Refused, SevenDeep, Wide, Small,
         Rich, TwoFaults, Small, BitsFlipped, Refused, Small, NotReached, Unfit, Rich, Wide,
-        EightDeep, Small, NamesTurned, Dearest, Small, Raw, Rich, Refused, Unfit, Small, Wide,
-        NotReached, Hostile, Small, Refused, Limits, Rich, Small, Brimful, NamesTurned, Unfit,
+        EightDeep, Small, NamesTurned, Dearest, Cleared, Raw, Rich, Refused, Unfit, Small, Wide,
+        NotReached, Hostile, Cleared, Refused, Limits, Rich, Small, Brimful, NamesTurned, Unfit,
         NotReached, Wide,
     ]
 };
@@ -115,6 +118,7 @@ fn make(rng: &mut Prng, shape: Shape, round: usize) -> Made {
         Shape::Dearest => dearest(rng),
         Shape::Brimful => brimful(rng),
         Shape::Wide => wide(rng),
+        Shape::Cleared => cleared(rng),
         Shape::SevenDeep => {
             let base = small(rng);
             let draft = refused::row(rng, &base, SEVEN as usize);
@@ -239,13 +243,26 @@ fn brimful(rng: &mut Prng) -> Made {
 fn wide(rng: &mut Prng) -> Made {
     let base = small(rng);
     let (draft, events) = widen(rng, base);
+    from_mostly_fresh(rng, &draft, events)
+}
+
+/// Cleared events on a small table or alone, mostly from a fresh state.
+fn cleared(rng: &mut Prng) -> Made {
+    let base = if rng.chance(50) { small(rng) } else { Draft::default() };
+    let (draft, events) = clearing(rng, base);
+    from_mostly_fresh(rng, &draft, events)
+}
+
+fn from_mostly_fresh(rng: &mut Prng, draft: &Draft, events: Vec<(u32, u32)>) -> Made {
     let fresh = rng.chance(80);
-    let state = if fresh { fresh_state(&draft) } else { fit_state(rng, &draft) };
-    taking(rng, &draft, state, fresh, events)
+    let state = if fresh { fresh_state(draft) } else { fit_state(rng, draft) };
+    taking(rng, draft, state, fresh, events)
 }
 
 fn unfit(rng: &mut Prng) -> Made {
-    let misfit = rng.pick(&MISFITS);
+    // Q-2 parts immediate mode ports from immediate events, so the mark is often the misfit.
+    let mark = rng.chance(10);
+    let misfit = if mark { Misfit::ImmediateModeMarked } else { rng.pick(&MISFITS) };
     let (draft, state) = loop {
         let plan = Plan::rich(rng);
         let draft = grow(rng, plan);

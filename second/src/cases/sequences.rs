@@ -46,6 +46,17 @@ pub fn sequence(
         .collect()
 }
 
+/// Events that are taken, with a few of any kind strewn in.
+pub fn strewn(rng: &mut Prng, draft: &Draft, taken: &[Event]) -> Vec<(u32, u32)> {
+    let strays = 1 + rng.below(4);
+    let strays = sequence(rng, draft, strays, 6);
+    let mut all: Vec<(u32, u32)> = taken.iter().map(|event| (event.word(), 0)).collect();
+    for stray in strays {
+        all.insert(rng.below(all.len() + 1), stray);
+    }
+    all
+}
+
 fn numbers<T>(things: &[T]) -> Vec<usize> {
     (0..things.len()).collect()
 }

@@ -61,7 +61,9 @@ fn fit_port(rng: &mut Prng, port: Port) -> PortState {
     };
     let started = port.kind == port::TIMER && value == timer::STARTED;
     let remaining = if started { rng.within(1, port.reload) } else { 0 };
-    let marked = port.deferred * rng.within(0, 1);
+    // a clear marks an immediate event too; an immediate mode port is never marked.
+    let may_be_marked = port.deferred == 1 || port.kind == port::EVENT;
+    let marked = if may_be_marked { rng.within(0, 1) } else { 0 };
     PortState { defined: 1, marked, value, zero: 0, remaining }
 }
 
@@ -96,7 +98,7 @@ pub enum Misfit {
     RuleZeroField,
     NetworkZeroField,
     SourceZeroField,
-    ImmediateMarked,
+    ImmediateModeMarked,
     UndefinedEvent,
     UndefinedTimer,
     UndefinedWithValue,
@@ -124,7 +126,7 @@ pub const MISFITS: [Misfit; 25] = [
     Misfit::RuleZeroField,
     Misfit::NetworkZeroField,
     Misfit::SourceZeroField,
-    Misfit::ImmediateMarked,
+    Misfit::ImmediateModeMarked,
     Misfit::UndefinedEvent,
     Misfit::UndefinedTimer,
     Misfit::UndefinedWithValue,
@@ -188,7 +190,7 @@ fn outside(rng: &mut Prng, most: u32) -> u32 {
 fn spoil_port(rng: &mut Prng, draft: &Draft, parts: &mut Parts, misfit: Misfit) -> Option<()> {
     let wanted = |port: &Port| match misfit {
         Misfit::PortZeroField | Misfit::NotStartedRemaining => true,
-        Misfit::ImmediateMarked => port.deferred == 0,
+        Misfit::ImmediateModeMarked => port.kind == port::MODE && port.deferred == 0,
         Misfit::UndefinedEvent | Misfit::EventValue => port.kind == port::EVENT,
         Misfit::UndefinedTimer | Misfit::TimerValue | Misfit::StartedRemaining => {
             port.kind == port::TIMER
@@ -203,7 +205,7 @@ fn spoil_port(rng: &mut Prng, draft: &Draft, parts: &mut Parts, misfit: Misfit) 
     let defined = PortState { defined: 1, ..Default::default() };
     parts.ports[number] = match misfit {
         Misfit::PortZeroField => PortState { zero: bit(rng, 6), ..old },
-        Misfit::ImmediateMarked => PortState { defined: 1, marked: 1, ..old },
+        Misfit::ImmediateModeMarked => PortState { defined: 1, marked: 1, ..old },
         Misfit::UndefinedEvent | Misfit::UndefinedTimer => PortState::default(),
         Misfit::UndefinedWithValue => PortState { value: rng.within(1, 255), ..Default::default() },
         Misfit::UndefinedMarked => PortState { marked: 1, ..Default::default() },

@@ -1,7 +1,7 @@
 //! Tables that stand by the way they are made: every name is drawn from what
 //! it may name, nesting and cost are kept within bounds as they grow.
 
-use super::draft::{Draft, SEVEN};
+use super::draft::{Draft, PRIORITIES, SEVEN};
 use super::prng::Prng;
 use crate::words::*;
 
@@ -275,8 +275,7 @@ impl Grower<'_> {
         self.draft.lists.push(List {
             owner,
             triggered: self.rng.within(0, 1),
-            // Few priorities, so that equal ones are common.
-            priority: self.rng.pick(&[0, 1, 1, 7, 255]),
+            priority: self.rng.pick(&PRIORITIES),
             first: items.start as u32,
             count: items.len() as u32,
         });

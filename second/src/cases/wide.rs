@@ -4,7 +4,7 @@
 
 use super::draft::{Draft, SEVEN};
 use super::prng::Prng;
-use super::sequences::sequence;
+use super::sequences::strewn;
 use super::states::fresh_state;
 use super::tables::renumbered;
 use crate::words::*;
@@ -50,11 +50,7 @@ struct Weaver<'a> {
 /// The good table with wide rules of one owner besides, and events for them
 /// with the answers that table and event alone give.
 pub fn widen(rng: &mut Prng, good: Draft) -> (Draft, Vec<(u32, u32)>) {
-    let owner = match rng.below(5) {
-        0 => PLATFORM,
-        1 => rng.within(1, 15),
-        _ => good.ports[rng.below(good.ports.len())].owner,
-    };
+    let owner = good.some_owner(rng);
     let legal = |port: &Port| port.owner == owner || port.owner == PLATFORM;
     let defined = |port: &Port| port.has_initial == 1 || port.kind != port::MODE;
     let started = (0..good.ports.len())
@@ -170,7 +166,7 @@ impl Weaver<'_> {
             let skipped = wish.skipped || left_settles;
             self.weave(right_depth, Wish { gives: right_gives, skipped, ..wish })
         };
-        self.add_expression(Expression::Operator(Operator { kind, left, right }))
+        self.draft.add_expression(Expression::Operator(Operator { kind, left, right }))
     }
 
     /// A kind, and what its sides must give for it to give what is wished. A
@@ -228,26 +224,14 @@ impl Weaver<'_> {
             (if wish.gives { expression::NOT_EQUAL } else { expression::EQUAL }, other)
         };
         let port = port as u32;
-        self.add_expression(Expression::Condition(Condition { kind, port, value, zero: 0 }))
-    }
-
-    /// Equal expressions share a word.
-    fn add_expression(&mut self, expression: Expression) -> u32 {
-        let expressions = &mut self.draft.expressions;
-        let same = expressions.iter().position(|&other| other == expression);
-        same.unwrap_or_else(|| {
-            expressions.push(expression);
-            expressions.len() - 1
-        }) as u32
+        self.draft.add_expression(Expression::Condition(Condition { kind, port, value, zero: 0 }))
     }
 
     /// A rule with a list of its own for each result, mostly conditional.
     fn add_rule(&mut self, expression: u32, nested_only: u32) -> u32 {
         let (true_list, false_list) = (self.own_list(), self.own_list());
         let (owner, first) = (self.owner, self.rng.within(0, UNDEFINED));
-        let rule = Rule { owner, first, nested_only, expression, true_list, false_list };
-        self.draft.rules.push(rule);
-        self.draft.rules.len() as u32 - 1
+        self.draft.add_rule(Rule { owner, first, nested_only, expression, true_list, false_list })
     }
 
     fn own_list(&mut self) -> u32 {
@@ -256,16 +240,8 @@ impl Weaver<'_> {
         }
         let b = self.rng.within(0, 65535);
         let call = Item { kind: item::OUTSIDE_CALL, a: 0, b };
-        let triggered = self.rng.chance(25) as u32;
-        self.add_list(triggered, &[call])
-    }
-
-    fn add_list(&mut self, triggered: u32, items: &[Item]) -> u32 {
-        let (first, count) = (self.draft.items.len() as u32, items.len() as u32);
-        let priority = self.rng.pick(&[0, 1, 1, 7, 255]);
-        self.draft.items.extend(items);
-        self.draft.lists.push(List { owner: self.owner, triggered, priority, first, count });
-        self.draft.lists.len() as u32 - 1
+        let triggered = self.rng.chance(25);
+        self.draft.add_list(self.rng, self.owner, triggered, &[call])
     }
 
     /// A rule that `go` makes true, whatever the scene, with a list of rule items.
@@ -278,13 +254,13 @@ impl Weaver<'_> {
         if items.is_empty() {
             items.push(rule_item(&rules[0]));
         }
-        let list = self.add_list(0, &items);
+        let list = self.draft.add_list(self.rng, self.owner, false, &items);
         let kind = expression::NOT_EQUAL;
         let condition = Condition { kind, port: self.go as u32, value: 200, zero: 0 };
-        let expression = self.add_expression(Expression::Condition(condition));
+        let expression = self.draft.add_expression(Expression::Condition(condition));
         let (owner, false_list) = (self.owner, NO_LIST);
         let starter = Rule { owner, expression, true_list: list, false_list, ..Default::default() };
-        self.draft.rules.push(starter);
+        self.draft.add_rule(starter);
     }
 
     /// One scene after another; the hidden ports stay undefined for a while.
@@ -307,13 +283,7 @@ impl Weaver<'_> {
                 events.push(Event::default());
             }
         }
-        let strays = 1 + self.rng.below(4);
-        let strays = sequence(self.rng, &self.draft, strays, 6);
-        let mut all: Vec<(u32, u32)> = events.iter().map(|event| (event.word(), 0)).collect();
-        for stray in strays {
-            all.insert(self.rng.below(all.len() + 1), stray);
-        }
-        all
+        strewn(self.rng, &self.draft, &events)
     }
 
     /// None for an event that is never sent.

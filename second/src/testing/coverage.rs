@@ -16,6 +16,10 @@ pub enum Row {
     Evaluated(u32),
     Settled(u32),
     NotSettled(u32),
+    /// The event's value before; whether its port is deferred.
+    Clear(u32, u32),
+    /// Whether the cleared event's port is deferred.
+    ChosenByClear(u32),
     NetworkTurn(u32, u32),
     BusOffIgnored(u32),
     SourceTurn(u32, u32),
@@ -47,9 +51,13 @@ pub const SOURCE_EXPIRED: &str = "countdown checked: source expires";
 pub const SOURCE_ENDED: &str = "countdown ended by its own operator";
 pub const UNREADY_BY_SKIPPED: &str = "rule unready only by a port on a skipped side";
 pub const EVALUATED_BY_SKIPPED: &str = "rule evaluated only by a mention on a skipped side";
+pub const CLEARED_IN_OWN_REQUEST: &str = "clear in the port's own arbitration: request";
+pub const CLEARED_IN_OWN_TICK: &str = "clear in the port's own arbitration: tick";
+pub const MARK_TAKEN_AWAY: &str = "tick passes over an event whose request took its mark away";
+pub const FITS_MARKED_IMMEDIATE: &str = "state fits: immediate event marked";
 pub const STRUCK_OUT: &str = "strangers' taken events struck out";
 
-const SPECIAL: [&str; 25] = [
+const SPECIAL: [&str; 29] = [
     TWO_CHOSEN,
     CHOSEN_AND_NAMED,
     DEPTH_7_EXPRESSION,
@@ -74,6 +82,10 @@ const SPECIAL: [&str; 25] = [
     SOURCE_ENDED,
     UNREADY_BY_SKIPPED,
     EVALUATED_BY_SKIPPED,
+    CLEARED_IN_OWN_REQUEST,
+    CLEARED_IN_OWN_TICK,
+    MARK_TAKEN_AWAY,
+    FITS_MARKED_IMMEDIATE,
     STRUCK_OUT,
 ];
 
@@ -118,6 +130,8 @@ const ITEMS: [&str; 7] =
     ["outside call", "clear event", "start timer", "stop timer", "network request", "list", "rule"];
 const EXPRESSIONS: [&str; 9] =
     ["equal", "not equal", "set", "cleared", "AND", "OR", "XOR", "NAND", "NOT"];
+const EVENT_VALUES: [&str; 2] = ["clear", "set"];
+const PORTS: [&str; 2] = ["immediate", "deferred"];
 const NETWORK_STATES: [&str; 5] = ["none", "silent", "check", "full", "recover"];
 const STATUSES: [&str; 4] = ["none", "pending", "validated", "expired"];
 
@@ -144,6 +158,13 @@ impl fmt::Display for Row {
             Row::Evaluated(kind) => format!("evaluated: {}", EXPRESSIONS[kind as usize]),
             Row::Settled(kind) => format!("settled by left: {}", EXPRESSIONS[kind as usize]),
             Row::NotSettled(kind) => format!("not settled by left: {}", EXPRESSIONS[kind as usize]),
+            Row::Clear(value, deferred) => {
+                let (event, port) = (EVENT_VALUES[value as usize], PORTS[deferred as usize]);
+                format!("clear marks: {event} event, {port} port")
+            }
+            Row::ChosenByClear(deferred) => {
+                format!("list chosen at a tick only by a clear: {} port", PORTS[deferred as usize])
+            }
             Row::NetworkTurn(from, to) => format!("network: {}", turn(&NETWORK_STATES, from, to)),
             Row::BusOffIgnored(state) => {
                 format!("bus-off ignored in {}", NETWORK_STATES[state as usize])
@@ -182,6 +203,8 @@ impl Coverage {
             .chain((0..=8).map(Row::Evaluated))
             .chain(settling.map(Row::Settled))
             .chain(settling.map(Row::NotSettled))
+            .chain([(0, 0), (0, 1), (1, 0), (1, 1)].map(|(value, port)| Row::Clear(value, port)))
+            .chain((0..=1).map(Row::ChosenByClear))
             .chain(NETWORK_TURNS.map(|(from, to)| Row::NetworkTurn(from, to)))
             .chain(ignoring.map(Row::BusOffIgnored))
             .chain(SOURCE_TURNS.map(|(from, to)| Row::SourceTurn(from, to)))

@@ -1,9 +1,12 @@
 //! Everything that `test` runs.
 
+mod choices;
+mod clears;
 pub mod coverage;
 mod demand3;
 mod fixed;
 mod log;
+mod ports;
 mod properties;
 mod recorded;
 mod skipping;

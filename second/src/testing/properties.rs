@@ -1,10 +1,11 @@
 //! What must hold of every generated case, and what it met.
 
+use super::clears::Clears;
 use super::coverage::{self, Met, Row};
-use super::demand3;
 use super::log::{Entry, hold, run};
 use super::skipping::Skipping;
 use super::traces::{self, evaluated, items_run, started};
+use super::{demand3, ports};
 use crate::cases::draft::{Depth, Draft, SEVEN};
 use crate::cases::states::fresh_state;
 use crate::cases::{Case, Made};
@@ -40,6 +41,9 @@ pub fn try_case(made: &Made) -> Result<Met, String> {
     }
     if checked.reason == 0 {
         let draft = read(&case.table);
+        if known.fit && marked_immediate_event(&draft, &case.state) {
+            met.insert(Row::Special(coverage::FITS_MARKED_IMMEDIATE));
+        }
         try_table(&draft, checked.b, &mut met)?;
         try_log(case, &draft, &log, checked.b, &mut met)?;
         if known.fresh && case.room >= checked.b {
@@ -52,6 +56,13 @@ pub fn try_case(made: &Made) -> Result<Met, String> {
 
 fn read(words: &[u32]) -> Draft {
     Draft::of(&Table::of(words).expect("an accepted table has its header"))
+}
+
+/// Q-2 lets such a state fit.
+fn marked_immediate_event(draft: &Draft, state: &[u32]) -> bool {
+    let immediate = |port: &Port| port.kind == port::EVENT && port.deferred == 0;
+    let mut ports = draft.ports.iter().zip(state);
+    ports.any(|(port, &word)| immediate(port) && PortState::of(word).marked == 1)
 }
 
 fn try_fresh(case: &Case, reason: u32) -> Result<(), String> {
@@ -97,7 +108,9 @@ fn try_log(
     b: usize,
     met: &mut Met,
 ) -> Result<(), String> {
-    let skipping = Skipping::over(draft);
+    let mentions = &ports::mentions(draft);
+    let skipping = Skipping { draft, mentions };
+    let mut clears = Clears::over(draft, mentions);
     for (number, entry) in log.iter().enumerate() {
         hold(entry.answer <= 6, || format!("event {number} answered {}", entry.answer))?;
         if entry.answer != 0 {
@@ -111,7 +124,8 @@ fn try_log(
         })?;
         traces::try_trace(draft, entry).map_err(|what| format!("event {number}: {what}"))?;
         meet(draft, entry, b, met);
-        skipping.meet(entry, met).map_err(|what| format!("event {number}: {what}"))?;
+        let tried = skipping.meet(entry, met).and_then(|()| clears.follow(entry, met));
+        tried.map_err(|what| format!("event {number}: {what}"))?;
     }
     Ok(())
 }

@@ -4,13 +4,15 @@
 
 use super::coverage::{EVALUATED_BY_SKIPPED, Met, Row, UNREADY_BY_SKIPPED};
 use super::log::{Entry, hold};
+use super::ports::{Ports, arbitrated, undefined, written};
 use super::traces::{evaluated, rule_items};
 use crate::cases::draft::Draft;
-use crate::events::shown;
 use crate::words::*;
 
-/// Ports as bits, for there are at most 64.
-type Ports = u64;
+/// What an expression gives where the ports are as in a state.
+pub fn gives(draft: &Draft, state: &[u32], expression: u32) -> bool {
+    Reading::of(draft, state, expression as usize).0
+}
 
 /// One reading of an expression where the ports are as in a state.
 struct Reading<'a> {
@@ -72,19 +74,11 @@ impl<'a> Reading<'a> {
 
 /// An accepted table with the ports that each rule mentions, skipped or not.
 pub struct Skipping<'a> {
-    draft: &'a Draft,
-    mentions: Vec<Ports>,
+    pub draft: &'a Draft,
+    pub mentions: &'a [Ports],
 }
 
 impl<'a> Skipping<'a> {
-    pub fn over(draft: &'a Draft) -> Self {
-        let mut known = vec![None; draft.expressions.len()];
-        let rules = draft.rules.iter();
-        let mentions =
-            rules.map(|rule| mentioned(draft, rule.expression as usize, &mut known)).collect();
-        Skipping { draft, mentions }
-    }
-
     pub fn meet(&self, entry: &Entry, met: &mut Met) -> Result<(), String> {
         // Where no list wrote a port, it has the value that was read.
         let written = written(entry);
@@ -131,68 +125,4 @@ impl<'a> Skipping<'a> {
             && (due || named())
             && self.reading(entry, rule).1.read & undefined == 0
     }
-}
-
-fn mentioned(draft: &Draft, number: usize, known: &mut [Option<Ports>]) -> Ports {
-    if let Some(ports) = known[number] {
-        return ports;
-    }
-    let ports = match draft.expressions[number] {
-        Expression::Condition(condition) => 1 << condition.port,
-        operator => operator.arguments().fold(0, |ports, a| ports | mentioned(draft, a, known)),
-    };
-    known[number] = Some(ports);
-    ports
-}
-
-fn ports_where(draft: &Draft, wanted: impl Fn(usize) -> bool) -> Ports {
-    (0..draft.ports.len()).filter(|&port| wanted(port)).fold(0, |ports, port| ports | 1 << port)
-}
-
-fn undefined(draft: &Draft, entry: &Entry) -> Ports {
-    ports_where(draft, |port| PortState::of(entry.after[port]).defined == 0)
-}
-
-/// Ports that an item cleared, started or stopped.
-fn written(entry: &Entry) -> Ports {
-    let words = entry.trace.iter().map(|&word| TraceWord::of(word));
-    let writing = words.filter(|word| (item::CLEAR_EVENT..=item::STOP_TIMER).contains(&word.kind));
-    writing.fold(0, |ports, word| ports | 1 << word.a)
-}
-
-/// The ports a taken event arbitrated, by the words before and after it: lists
-/// turn no network and no source.
-fn arbitrated(draft: &Draft, entry: &Entry) -> Ports {
-    match entry.event.kind {
-        event::MODE_REQUEST | event::EVENT_REQUEST => {
-            let immediate = draft.ports[entry.event.index as usize].deferred == 0;
-            if immediate { 1 << entry.event.index } else { 0 }
-        }
-        event::TICK => {
-            let marked = ports_where(draft, |port| {
-                let word = PortState::of(entry.before[port]);
-                let timer = draft.ports[port].kind == port::TIMER;
-                let expires = timer && word.value == timer::STARTED && word.remaining == 1;
-                word.marked == 1 || expires
-            });
-            marked | turned(draft, entry)
-        }
-        _ => 0,
-    }
-}
-
-/// The ports of networks and sources that show something else than before.
-fn turned(draft: &Draft, entry: &Entry) -> Ports {
-    let (before, after) = (&entry.before, &entry.after);
-    let network = |number: &usize| {
-        let shows = |state: &[u32]| shown(draft.network_in(state, *number).state);
-        shows(before) != shows(after)
-    };
-    let source = |number: &usize| {
-        let status = |state: &[u32]| draft.source_in(state, *number).status;
-        status(before) != status(after)
-    };
-    let networks = (0..draft.networks.len()).filter(network).map(|n| draft.networks[n].0.port);
-    let sources = (0..draft.sources.len()).filter(source).map(|s| draft.sources[s].port);
-    networks.chain(sources).fold(0, |ports, port| ports | 1 << port)
 }

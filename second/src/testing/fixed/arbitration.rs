@@ -167,13 +167,7 @@ fixed_cases! {
                 CONDITIONAL,
             );
             assert_eq!(Play::fresh(&table).take(send(EVENT_REQUEST, 1, 0)), when_set);
-            // A cleared event that is marked, which only a deferred one can be.
-            let table = ruled(
-                [deferred(event(1)), event(1)],
-                &[condition(kind, 0, 0)],
-                rule(1, 0, 0, 1),
-                CONDITIONAL,
-            );
+            // A cleared event that is marked is arbitrated at the tick.
             let mut play = Play::of(&table, &[0xC000_0000, 0x8000_0000, 0]);
             assert_eq!(play.take(TICK), when_cleared);
         }
@@ -284,6 +278,6 @@ fixed_cases! {
         play.take(send(EVENT_REQUEST, 1, 1));
         let ran = play.take(request(1, 0, 5));
         assert_eq!(ran, [0xF100_0000, 0x1101_0000, 0xF101_0000, 0x0100_0008]);
-        assert_eq!(play.state, [0x8140_0000, 0x8000_0000, 0x4000_0000, 0x4000_0000]);
+        assert_eq!(play.state, [0x8140_0000, 0xC000_0000, 0x4000_0000, 0x4000_0000]);
     }
 }

@@ -109,6 +109,33 @@ fixed_cases! {
         assert_eq!(play.state[13], 0xC000_0000);
     }
 
+    /// "Demand 3's ticks are as before."
+    fn event_cleared_at_every_tick_leaves_the_ticks_as_they_are() {
+        for port in [event(1), deferred(event(1))] {
+            let table = table(
+                &[port, deferred(mode(1)), deferred(mode(1))],
+                &[network(1, 1)],
+                &[source(1, 2, 4)],
+                &[cleared(0)],
+                &[rule(1, 0, 0, NONE)],
+                &[list(1, 0, 1)],
+                &[item(1, 0)],
+            );
+            let state = [0xC000_0000, 0xC0C0_0000, 0xC040_0000, 0, 0xA008_0003, 0x4000_0004];
+            let mut play = Play::of(&table, &state);
+            let mut seen = vec![];
+            for _ in 0..8 {
+                assert_eq!(play.take(TICK), [0xF100_0000, 0x1100_0000]);
+                seen.push([play.state[4], play.state[5]]);
+            }
+            assert_eq!(seen[1], [0xA008_0001, 0x4000_0002]);
+            assert_eq!(seen[2], [0x9008_0005, 0x4000_0001]);
+            assert_eq!(seen[3], [0x9008_0004, 0xC000_0000]);
+            assert_eq!(seen[6], [0x9008_0001, 0xC000_0000]);
+            assert_eq!(seen[7], [0x9800_0000, 0xC000_0000]);
+        }
+    }
+
     fn with_a_strangers_events_struck_out_the_ticks_are_the_same() {
         let (mut with, mut without) = (recovering(9), recovering(9));
         with.take(send(WAKEUP, 1, 0));

@@ -6,13 +6,19 @@ use crate::state::State;
 
 /// A request of 5 on port 0 starts list 0, whatever else there is. Port 1 is as
 /// given. Rule 0 starts list 0; the rules given come after it.
-fn starting(port_1: u32, expressions: &[u32], rules: &[u32], lists: &[u32], items: &[u32]) -> Play {
+pub fn starting(
+    port_1: u32,
+    expressions: &[u32],
+    rules: &[u32],
+    lists: &[u32],
+    items: &[u32],
+) -> Play {
     let expressions = [&[equal(0, 5)], expressions].concat();
     let rules = [&[rule(1, 0, 0, NONE)], rules].concat();
     Play::fresh(&plain(&[mode(1), port_1], &expressions, &rules, lists, items))
 }
 
-const GO: u32 = 0x1100_0500;
+pub const GO: u32 = 0x1100_0500;
 
 /// Rule 1, nested-only, on port 1 being 3, started by list 0; it starts lists 1
 /// (true) and 2 (false), which call 8 and 9.
@@ -74,10 +80,10 @@ fixed_cases! {
         assert_eq!(play.state, [0x8140_0000, 0x8080_0000, 0x4000_0000, 0x2008_0002]);
     }
 
-    fn clear_sets_the_event_to_0_and_marks_nothing() {
+    fn clear_sets_the_event_to_0_and_marks_it() {
         let mut play = starting(deferred(event(1)), &[], &[], &[list(1, 0, 1)], &[item(1, 1)]);
         assert_eq!(play.take(GO), [0xF100_0000, 0x1101_0000]);
-        assert_eq!(play.state[1], 0x8000_0000);
+        assert_eq!(play.state[1], 0xC000_0000);
         // Nor does it take a mark away.
         play.take(send(EVENT_REQUEST, 1, 1));
         assert_eq!(play.state[1], 0xC040_0000);

@@ -1,5 +1,5 @@
 //! Fixed cases: each a few words long, its outcome worked out by hand from
-//! document 01 and named after the sentence or reading it tells apart.
+//! documents 01 and 02 and named after the sentence or reading it tells apart.
 //!
 //! Expected words stand in hex, so that no layout is judged by itself:
 //! - port state: 80000000 defined, 40000000 marked, value times 00400000, remaining;
@@ -18,6 +18,7 @@ macro_rules! fixed_cases {
 }
 
 mod arbitration;
+mod clears;
 mod demand3;
 mod events;
 mod expressions;
@@ -52,6 +53,7 @@ pub fn all() -> Vec<(&'static str, fn())> {
         arbitration::CASES,
         expressions::CASES,
         lists::CASES,
+        clears::CASES,
         program::CASES,
         streams::CASES,
         demand3::CASES,
@@ -101,6 +103,10 @@ fn equal(port: u32, value: u32) -> u32 {
 
 fn set(port: u32) -> u32 {
     condition(expression::SET, port, 0)
+}
+
+fn cleared(port: u32) -> u32 {
+    condition(expression::CLEARED, port, 0)
 }
 
 fn operator(kind: u32, left: u32, right: u32) -> u32 {

@@ -69,16 +69,40 @@ fixed_cases! {
         unfit(8, &[0x0001_0000, 0x2000_0000]);
     }
 
-    fn fit_immediate_ports_are_unmarked() {
-        unfit(0, &[0xC000_0000]);
-        unfit(3, &[0xC000_0000]);
+    fn fit_immediate_ports_are_unmarked_holds_for_mode_ports() {
+        unfit(0, &[0xC000_0000, 0xC140_0000]);
+        // One with an initial value is no better.
+        let table = with(&BASE, 3, initial(1, 7));
+        assert_eq!(check_state(&table, &with(&FRESH, 0, 0xC1C0_0000)), 2);
         fit(1, &[0xC000_0000]);
         fit(4, &[0xC000_0000]);
     }
 
+    fn fit_immediate_ports_are_unmarked_holds_only_for_mode_ports() {
+        fit(3, &[0xC000_0000, 0xC040_0000]);
+        // And every event is taken: the tick takes the mark away.
+        for (word, after) in [(0xC000_0000, 0x8000_0000), (0xC040_0000, 0x8040_0000)] {
+            let mut play = Play::of(&BASE, &with(&FRESH, 3, word));
+            play.take(TICK);
+            assert_eq!(play.state[3], after);
+        }
+    }
+
+    fn fit_deferred_events_may_be_marked() {
+        let table = with(&BASE, 6, deferred(event(1)));
+        for word in [0xC000_0000, 0xC040_0000] {
+            assert_eq!(check_state(&table, &with(&FRESH, 3, word)), 0);
+        }
+    }
+
+    fn fit_marked_events_are_judged_by_all_else() {
+        // A value above 1, something that remains, a zero field, not defined.
+        unfit(3, &[0xC080_0000, 0xC000_0001, 0xC001_0000, 0x4000_0000]);
+    }
+
     fn fit_undefined_port_is_an_unmarked_mode_port_of_0() {
         fit(1, &[0]);
-        unfit(0, &[0x0040_0000]);
+        unfit(0, &[0x0040_0000, 0x4000_0000]);
         unfit(1, &[0x4000_0000, 0x2000_0000]);
         unfit(3, &[0]);
         unfit(4, &[0]);
