@@ -5,10 +5,9 @@ use mathlib.Core.List.{List}
 use Prim.Native.Nat.{ℕ}
 use lib.Dec.{eqb}
 use borrow.Author.Tests.{eqb-true, eqb-false}
-use Rattle.rulebook.specs.Words.{word}
 use Rattle.rulebook.specs.Table.{reload, noList, itemKind, itemA, itemB, itemClear, itemStart, itemStop, itemAsk, itemList, itemRule, byItem}
 use Rattle.rulebook.specs.Expressions.{deepest}
-use Rattle.rulebook.specs.State.{markedOf, timerStopped, timerStarted, undefinedResult}
+use Rattle.rulebook.specs.State.{timerStopped, timerStarted, undefinedResult}
 use Rattle.rulebook.specs.Lists.{Run, emit, traceWord, setPort, networkIn, asking, setNetwork, effect, act, unready, choiceIn, judge, runChoice, runRule}
 use Rattle.rulebook.specs.Lists.{runItem, runList}
 use Rattle.rulebook.specs.Arbitration.{runIf}
@@ -76,7 +75,7 @@ if-not t c l x h = rw (h, runIf)
 
 -- what an item of kind 0 to 4 does, kind by kind
 pub effect-cases : (P : List ℕ → Type 0) (t : List ℕ) (i : ℕ) (s : List ℕ)
-    → (itemKind t i ≡ itemClear → P (setPort (itemA t i) (markedOf (word s (itemA t i))) 0 0 s))
+    → (itemKind t i ≡ itemClear → P (setPort (itemA t i) 1 0 0 s))
     → (itemKind t i ≡ itemStart → P (setPort (itemA t i) 1 timerStarted (reload t (itemA t i)) s))
     → (itemKind t i ≡ itemStop → P (setPort (itemA t i) 1 timerStopped 0 s))
     → (itemKind t i ≡ itemAsk → P (setNetwork t (itemA t i) (asking (itemB t i) (networkIn t (itemA t i) s)) s))

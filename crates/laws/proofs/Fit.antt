@@ -33,7 +33,7 @@ pub record PortOk (t : List ℕ) (p d m v r : ℕ) : Type 0 where
   pub marked₂ : m < 2
   pub value₈ : v < 256
   pub remaining₁₆ : r < 65536
-  pub immediate : deferred t p ≡ 0 → m ≡ 0
+  pub immediate : portKind t p ≡ portMode → deferred t p ≡ 0 → m ≡ 0
   pub undefined : d ≡ 0 → (portKind t p ≡ portMode) × (v ≡ 0) × (m ≡ 0)
   pub event : portKind t p ≡ portEvent → v ≤ 1
   pub timer : portKind t p ≡ portTimer → v ≤ timerExpired
@@ -55,8 +55,9 @@ port-ok t p w h =
       marked₂ = digit-small _ 2 w (omega arith);
       value₈ = digit-small _ 256 w (omega arith);
       remaining₁₆ = digit-small _ 65536 w (omega arith);
-      immediate = λ a. eqb-true _ _
-          (implies-elim (eqb (deferred t p) 0) (eqb (markedOf w) 0) (part-of _ (λ e. rw (portFits, e, and-false) at h)) (eq-eqb _ _ a));
+      immediate = λ a b. eqb-true _ _
+          (implies-elim (eqb (portKind t p) portMode && eqb (deferred t p) 0) (eqb (markedOf w) 0) (part-of _ (λ e. rw (portFits, e, and-false) at h))
+          (and-both _ _ (eq-eqb _ _ a) (eq-eqb _ _ b)));
       undefined = λ a. let z = implies-elim _ (eqb (portKind t p) portMode && eqb (valueOf w) 0 && eqb (markedOf w) 0) und (eq-eqb _ _ a) in (
         eqb-true _ _ (part-of _ (λ e. rw e at z)),
         eqb-true _ _ (part-of _ (λ e. rw (e, and-false) at z)),
@@ -76,7 +77,8 @@ unfolding portFits
 port-fits t p w z f =
     and-both _ _ (and-both _ _ (and-both _ _ (and-both _ _ (and-both _ _
     (eq-eqb _ _ z)
-    (implies-intro _ _ (λ h. eq-eqb _ _ (f .immediate (eqb-true _ _ h)))))
+    (implies-intro _ _ (λ h. eq-eqb _ _
+    (f .immediate (eqb-true _ _ (and-left _ (eqb (deferred t p) 0) h)) (eqb-true _ _ (and-right (eqb (portKind t p) portMode) _ h))))))
     (implies-intro _ _ (λ h. let u = f .undefined (eqb-true _ _ h) in and-both _ _ (and-both _ _ (eq-eqb _ _ (u .0)) (eq-eqb _ _ (u .1))) (eq-eqb _ _ (u .2)))))
     (implies-intro _ _ (λ h. le-leb _ _ (f .event (eqb-true _ _ h)))))
     (implies-intro _ _ (λ h. le-leb _ _ (f .timer (eqb-true _ _ h)))))

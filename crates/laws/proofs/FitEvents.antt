@@ -50,7 +50,7 @@ show-fits t s p v m v₈ h =
     let w = may-show t p m in
     port-put t s h p 1 1 v 0 (w .there)
     (plain-ok t p 1 v (λ e. let k : portKind t p ≡ portMode = w .mode in omega arith) (omega arith)
-    (λ e. let d : deferred t p ≡ 1 = w .late in absurd (omega arith)) v₈ (λ e. let k : portKind t p ≡ portMode = w .mode in absurd (omega arith)))
+    (λ k e. let d : deferred t p ≡ 1 = w .late in absurd (omega arith)) v₈ (λ e. let k : portKind t p ≡ portMode = w .mode in absurd (omega arith)))
 
 module _ (t : List ℕ) (f : Facts t) where
   -- Sources.
@@ -230,7 +230,7 @@ module _ (t : List ℕ) (f : Facts t) where
 
   -- the port of a request, written
   pub requested-fits : (p m v : ℕ) (s : List ℕ) → p < ports t → (portKind t p ≡ portTimer → ⊥) → v < 256 → (portKind t p ≡ portEvent → v ≤ 1) → m < 2
-      → (deferred t p ≡ 0 → m ≡ 0) → Fits t s → Fits t (setPort p m v 0 s)
+      → (portKind t p ≡ portMode → deferred t p ≡ 0 → m ≡ 0) → Fits t s → Fits t (setPort p m v 0 s)
   unfolding setPort
   requested-fits p m v s b nt v₈ ev m₂ imm h = port-put t s h p 1 m v 0 b (plain-ok t p m v nt m₂ imm v₈ ev)
 
@@ -242,8 +242,8 @@ module _ (t : List ℕ) (f : Facts t) where
   unfolding request
   request-cases P p v s b nt v₈ ev h late now =
       split (eqb (deferred t p) 1)
-      (λ e. let d : deferred t p ≡ 1 = eqb-true _ _ e in rw e (late (requested-fits p 1 v s b nt v₈ ev (omega arith) (λ z. absurd (omega arith)) h)))
-      (λ e. rw e (now (requested-fits p 0 v s b nt v₈ ev (omega arith) (λ z. refl) h)))
+      (λ e. let d : deferred t p ≡ 1 = eqb-true _ _ e in rw e (late (requested-fits p 1 v s b nt v₈ ev (omega arith) (λ z y. absurd (omega arith)) h)))
+      (λ e. rw e (now (requested-fits p 0 v s b nt v₈ ev (omega arith) (λ z y. refl) h)))
 
   request-fits : (p v : ℕ) (s : List ℕ) → p < ports t → (portKind t p ≡ portTimer → ⊥) → v < 256 → (portKind t p ≡ portEvent → v ≤ 1) → Fits t s
       → Fits t (request t p v s .state)

@@ -8,7 +8,7 @@ use lib.ListN.{set}
 use lib.Dec.{leb, eqb}
 use borrow.Author.Tests.{leb-true, eqb-true, eq-eqb}
 use Rattle.rulebook.specs.Words.{word}
-use Rattle.rulebook.specs.Table.{ports, networks, sources, rules, portKind, portEvent, portTimer, deferred, reload}
+use Rattle.rulebook.specs.Table.{ports, networks, sources, rules, portKind, portMode, portEvent, portTimer, deferred, reload}
 use Rattle.rulebook.specs.Reasons.{portFields}
 use Rattle.rulebook.specs.State.{ruleIndex, networkIndex, sourceIndex, definedOf, markedOf, valueOf, remainingOf, timerStopped, timerStarted, timerExpired}
 use Rattle.rulebook.specs.State.{Network, statusOf, packPort, packSource, thingFits, fits}
@@ -70,8 +70,8 @@ timer-reload t p h k =
     (cond-yes (eqb (portKind t p) portTimer) (leb 1 (reload t p)) (eqb (reload t p) 0) (part-of _ (λ e. rw (portFields, e, and-false) at h)) (eq-eqb _ _ k))
 
 -- a defined mode or event port
-pub plain-ok : (t : List ℕ) (p m v : ℕ) → (portKind t p ≡ portTimer → ⊥) → m < 2 → (deferred t p ≡ 0 → m ≡ 0) → v < 256 → (portKind t p ≡ portEvent → v ≤ 1)
-    → PortOk t p 1 m v 0
+pub plain-ok : (t : List ℕ) (p m v : ℕ) → (portKind t p ≡ portTimer → ⊥) → m < 2 → (portKind t p ≡ portMode → deferred t p ≡ 0 → m ≡ 0) → v < 256
+    → (portKind t p ≡ portEvent → v ≤ 1) → PortOk t p 1 m v 0
 plain-ok t p m v no-timer small imm v₈ ev =
     record {
       defined₂ = omega arith;
@@ -95,7 +95,7 @@ timer-ok t p m v r k d small v₂ r₁ on off =
       marked₂ = small;
       value₈ = omega arith;
       remaining₁₆ = omega arith;
-      immediate = λ e. absurd (omega arith);
+      immediate = λ e a. absurd (omega arith);
       undefined = λ e. absurd (omega arith);
       event = λ e. absurd (omega arith);
       timer = λ e. v₂;
@@ -109,8 +109,8 @@ pub fit-kept : (t : List ℕ) → Facts t → KeptByWrites t (Fits t)
 unfolding setPort
 fit-kept t f =
     record {
-      clear = λ p s b k h. let o = port-in t s h p b in
-          port-put t s h p 1 (markedOf (word s p)) 0 0 b (plain-ok t p _ 0 (λ e. omega arith) (o .marked₂) (o .immediate) (omega arith) (λ e. omega arith));
+      clear = λ p s b k h.
+          port-put t s h p 1 1 0 0 b (plain-ok t p 1 0 (λ e. omega arith) (omega arith) (λ e a. absurd (omega arith)) (omega arith) (λ e. omega arith));
       timerStart = λ p s b k h. port-put t s h p 1 1 timerStarted (reload t p) b
           (timer-ok t p 1 timerStarted (reload t p) k (timer-deferred t p (f .port p b) k) (omega arith) (omega arith) (omega arith)
           (λ e. timer-reload t p (f .port p b) k) (λ e. absurd (e refl)));
@@ -137,7 +137,7 @@ fit-kept t f =
             marked₂ = omega arith;
             value₈ = o .value₈;
             remaining₁₆ = o .remaining₁₆;
-            immediate = λ e. refl;
+            immediate = λ e a. refl;
             undefined = λ e. (o .undefined e .0, o .undefined e .1, refl);
             event = o .event;
             timer = o .timer;

@@ -21,3 +21,6 @@ pub mod FitEvents
 pub mod Steps
 pub mod Chains
 pub mod Chosen
+pub mod Marks
+pub mod Unmarked
+pub mod Cleared

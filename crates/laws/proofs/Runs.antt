@@ -10,7 +10,7 @@ use lib.Dec.{eqb}
 use Rattle.rulebook.specs.Words.{word}
 use Rattle.rulebook.specs.Table.{ports, networks, rules, lists, items, portKind, portEvent, portTimer, reload, noList, listOwner, firstItem, itemCount}
 use Rattle.rulebook.specs.Table.{itemKind, itemA, itemB, itemList, itemRule}
-use Rattle.rulebook.specs.State.{markedOf, timerStopped, timerStarted, undefinedResult}
+use Rattle.rulebook.specs.State.{timerStopped, timerStarted, undefinedResult}
 use Rattle.rulebook.specs.Lists.{Run, start, emit, tooDeep, traceWord, traceListStart, setPort, networkIn, asking, setNetwork, effect, act, unready, choiceIn}
 use Rattle.rulebook.specs.Lists.{choice, setResult, judge, runChoice, runRule, runItem, runItems, runList}
 use Rattle.rulebook.specs.Arbitration.{unmarked, unmarkPort, unmarkPorts, evaluated, storeResult, storeResults, chosen, order, runIf, runChosen, decide}
@@ -94,7 +94,7 @@ module _ (t : List ℕ) (f : Facts t) (Q : Run → Type 0) (k : KeptByActs t Q) 
 -- Statements of the state: what each kind of write keeps, an arbitration keeps.
 
 pub record KeptByWrites (t : List ℕ) (P : List ℕ → Type 0) : Type 0 where
-  pub clear : (p : ℕ) (s : List ℕ) → p < ports t → portKind t p ≡ portEvent → P s → P (setPort p (markedOf (word s p)) 0 0 s)
+  pub clear : (p : ℕ) (s : List ℕ) → p < ports t → portKind t p ≡ portEvent → P s → P (setPort p 1 0 0 s)
   pub timerStart : (p : ℕ) (s : List ℕ) → p < ports t → portKind t p ≡ portTimer → P s → P (setPort p 1 timerStarted (reload t p) s)
   pub stop : (p : ℕ) (s : List ℕ) → p < ports t → portKind t p ≡ portTimer → P s → P (setPort p 1 timerStopped 0 s)
   pub ask : (n mode : ℕ) (s : List ℕ) → n < networks t → mode ≤ 2 → P s → P (setNetwork t n (asking mode (networkIn t n s)) s)

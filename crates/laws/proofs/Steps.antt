@@ -151,7 +151,7 @@ fresh-port-fits t p h =
     split (eqb (hasInitial t p) 1)
     (λ a. let k = initial-mode t p h (eqb-true _ _ a) in
     rw a (port-packed t p 1 0 (initial t p) 0
-    (plain-ok t p 0 (initial t p) (λ z. omega arith) (omega arith) (λ z. refl) (digit-small _ 256 _ (omega arith)) (λ z. absurd (omega arith)))))
+    (plain-ok t p 0 (initial t p) (λ z. omega arith) (omega arith) (λ z y. refl) (digit-small _ 256 _ (omega arith)) (λ z. absurd (omega arith)))))
     (λ a. split (eqb (portKind t p) portMode)
     (λ b. let k = eqb-true _ _ b in
     rw (a, b) (port-packed t p 0 0 0 0
@@ -160,7 +160,7 @@ fresh-port-fits t p h =
       marked₂ = omega arith;
       value₈ = omega arith;
       remaining₁₆ = omega arith;
-      immediate = λ z. refl;
+      immediate = λ z y. refl;
       undefined = λ z. (k, refl, refl);
       event = λ z. omega arith;
       timer = λ z. omega arith;
@@ -170,7 +170,7 @@ fresh-port-fits t p h =
     (λ b. split (eqb (portKind t p) portTimer)
     (λ c. let k = eqb-true _ _ c in rw (a, b)
     (port-packed t p 1 0 0 0 (timer-ok t p 0 0 0 k (timer-deferred t p h k) (omega arith) (omega arith) (omega arith) (λ z. absurd (omega arith)) (λ z. refl))))
-    (λ c. rw (a, b) (port-packed t p 1 0 0 0 (plain-ok t p 0 0 (eqb-false _ _ c) (omega arith) (λ z. refl) (omega arith) (λ z. omega arith))))))
+    (λ c. rw (a, b) (port-packed t p 1 0 0 0 (plain-ok t p 0 0 (eqb-false _ _ c) (omega arith) (λ z y. refl) (omega arith) (λ z. omega arith))))))
 
 zero-network : (t : List ℕ) (n : ℕ) → networkFits t n 0 ≡ true
 unfolding networkFits digit

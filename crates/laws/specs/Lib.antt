@@ -4,3 +4,4 @@ pub mod Facts
 pub mod Sequence
 pub mod Chosen
 pub mod Callable
+pub mod Cleared

@@ -5,9 +5,7 @@ use mathlib.Core.List.{List, [], _∷_}
 use native.Mathlib.Omega.{arith}
 use lib.ListN.{length, drop, set}
 use borrow.Author.Tests.{eq-eqb, ne-eqb}
-use Rattle.rulebook.specs.Words.{word}
 use Rattle.rulebook.specs.Table.{reload, itemKind, itemA}
-use Rattle.rulebook.specs.State.{markedOf}
 use Rattle.rulebook.specs.Lists.{Run, start, emit, traceWord, traceListStart, setPort, networkIn, asking, setNetwork, resultIn, previousIn, choice}
 use Rattle.rulebook.specs.Lists.{choiceIn, setResult, effect, act, judge, runRule, runItem, runItems, runList}
 use Rattle.walks.proofs.Walks.{whole}
@@ -46,9 +44,9 @@ module _ (t : List ℕ) (i : ℕ) (x : Item) (is : ItemAt t i x) where
   k = x .kind
 
   module _ (s : List ℕ) where
-    pub clears : k ≡ 1 → (m : ℕ) → m ≡ markedOf (word s (x .a)) → setPort (x .a) m 0 0 s ≡ effect t i s
+    pub clears : k ≡ 1 → setPort (x .a) 1 0 0 s ≡ effect t i s
     unfolding effect
-    clears h m hm = rw (hm, names-it, eq-eqb (itemKind t i) 1 (sym kind-is ∙ h))
+    clears h = rw (names-it, eq-eqb (itemKind t i) 1 (sym kind-is ∙ h))
 
     pub starts : (k ≡ 1 → ⊥) → k ≡ 2 → (m : ℕ) → m ≡ reload t (x .a) → setPort (x .a) 1 1 m s ≡ effect t i s
     unfolding effect

@@ -76,8 +76,7 @@ fn effect(t: &[u32], h: Layout, i: u32, s: &mut [u32])
 {
     let item = sections::item_at(t, h, i);
     if item.kind == ITEM_CLEAR {
-        let port = state::port_in(s, item.a);
-        set_port(s, item.a, port.marked, 0, 0);
+        set_port(s, item.a, 1, 0, 0);
         return;
     }
     if item.kind == ITEM_START {

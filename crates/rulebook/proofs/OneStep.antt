@@ -1,15 +1,18 @@
 -- One-step laws: each says of one definition what the marked run does not meet, so that an edit of it is refused. Assumes nothing.
-use Prim.Native.Nat.{ℕ, _+_, _<_, min}
+use Prim.Native.Nat.{ℕ, zero, suc, _+_, _≤_, _<_, min}
 use mathlib.Core.Path.{_≡_, refl}
-use mathlib.Core.Bool.{Bool, true, false}
+use mathlib.Core.Bool.{Bool, true, false, and-false}
 use mathlib.Core.List.{List, [], _∷_}
 use native.Mathlib.Omega.{arith}
 use borrow.Author.Tests.{lt-leb, ne-eqb, eqb-true}
-use Rattle.rulebook.specs.Table.{threshold, l2, networkOwner, itemKind, itemA, itemAsk, platform}
+use lib.ListN.{length}
+use lib.Seq.{getD-set-same}
+use Rattle.rulebook.specs.Words.{digit, word}
+use Rattle.rulebook.specs.Table.{portKind, portMode, portEvent, deferred, threshold, l2, networkOwner, itemKind, itemA, itemClear, itemAsk, platform}
 use Rattle.rulebook.specs.Reasons.{itemOwned, Link, reasonOf, reasons}
 use lib.Dec.{eqb}
-use Rattle.rulebook.specs.State.{ownerOf, stateRecover, statusPending}
-use Rattle.rulebook.specs.Lists.{networkIn}
+use Rattle.rulebook.specs.State.{ownerOf, markedOf, stateRecover, statusPending, packPort, portFits}
+use Rattle.rulebook.specs.Lists.{networkIn, setPort, effect}
 use Rattle.rulebook.specs.Arbitration.{unmarkPort}
 use Rattle.rulebook.specs.Step.{named, sentByOwner}
 use Rattle.rulebook.specs.Events.{eventKind, eventOwner, eventTick, statusIn, wake, moved, moveNetwork, takes, wait, offBus, busOff}
@@ -23,6 +26,23 @@ wake-pending t k s h = rw h
 pub mark-stays : (q : ℕ → Bool) (p : ℕ) (s : List ℕ) → q p ≡ false → unmarkPort q p s ≡ s
 unfolding unmarkPort
 mark-stays q p s h = rw h
+
+-- Q-2: a clear marks, whatever the port's word was: deferred or immediate, set or clear already, marked or not
+pub clear-marks : (t : List ℕ) (i : ℕ) (s : List ℕ) → itemKind t i ≡ itemClear → itemA t i < length s → word (effect t i s) (itemA t i) ≡ packPort 1 1 0 0
+unfolding effect setPort
+clear-marks t i s k b = rw k (getD-set-same s (itemA t i) (packPort 1 1 0 0) 0 b)
+
+-- Q-2: "the state rule that immediate ports are unmarked holds only for mode ports". Of those it holds: a marked one does not fit.
+pub marked-mode-unfit : (t : List ℕ) (p w : ℕ) → portKind t p ≡ portMode → deferred t p ≡ 0 → markedOf w ≡ 1 → portFits t p w ≡ false
+unfolding portFits
+marked-mode-unfit t p w k d m = rw (k, d, m, and-false)
+
+-- Of events it does not: a marked one fits, deferred or immediate.
+pub marked-event-fits : (t : List ℕ) (p v : ℕ) → portKind t p ≡ portEvent → v ≤ 1 → portFits t p (packPort 1 1 v 0) ≡ true
+unfolding digit portFits packPort
+marked-event-fits t p zero k h = rw k
+marked-event-fits t p (suc zero) k h = rw k
+marked-event-fits t p (suc (suc v)) k h = absurd (omega arith)
 
 -- the counter is compared after 1 is added: at the threshold, one bus-off more loads the long wait
 pub wait-at-threshold : (t : List ℕ) (n : ℕ) (s : List ℕ) → takes (networkIn t n s) ≡ true → networkIn t n s .counter ≡ threshold t n → threshold t n < 255

@@ -9,7 +9,7 @@ use Rattle.rulebook.specs.Table.{reload, ruleExpression, trueList, false
 use Rattle.rulebook.specs.Table.{listOwner, triggered, firstItem, itemCount, itemKind, itemA, itemB}
 use Rattle.rulebook.specs.Table.{itemClear, itemStart, itemStop, itemAsk, itemRule, byItem}
 use Rattle.rulebook.specs.Expressions.{deepest, mentions, holds}
-use Rattle.rulebook.specs.State.{ruleIndex, networkIndex, definedOf, markedOf, valueOf, timerStopped, timerStarted}
+use Rattle.rulebook.specs.State.{ruleIndex, networkIndex, definedOf, valueOf, timerStopped, timerStarted}
 use Rattle.rulebook.specs.State.{resultOf, undefinedResult, Network, networkOf, packPort, packRule, packNetwork}
 
 -- A run so far, x below: the state, the trace words written, and whether a list would have started at an eighth level.
@@ -52,10 +52,11 @@ abbrev pub asking : ℕ → Network → Network
 asking mode c = record { asked = mode; state = c .state; counter = c .counter; remaining = c .remaining }
 
 -- What an item of kind 0 to 4 does to the state. "Start reloads and marks the timer, stop zeroes and marks it; a network request
--- only sets asked; clear sets the event to 0 and marks nothing." An outside call changes nothing.
+-- only sets asked; clear sets the event to 0", and Q-2: "a clear marks the port, deferred or immediate, even if it was clear
+-- already, for the next tick unless arbitrated sooner". An outside call changes nothing.
 unfoldable pub effect : List ℕ → ℕ → List ℕ → List ℕ
 effect t i s =
-    cond (eqb (itemKind t i) itemClear) (setPort (itemA t i) (markedOf (word s (itemA t i))) 0 0 s)
+    cond (eqb (itemKind t i) itemClear) (setPort (itemA t i) 1 0 0 s)
     (cond (eqb (itemKind t i) itemStart) (setPort (itemA t i) 1 timerStarted (reload t (itemA t i)) s)
     (cond (eqb (itemKind t i) itemStop) (setPort (itemA t i) 1 timerStopped 0 s)
     (cond (eqb (itemKind t i) itemAsk) (setNetwork t (itemA t i) (asking (itemB t i) (networkIn t (itemA t i) s)) s)

@@ -154,12 +154,13 @@ packSource status remaining = inField 0 2 status + inField 16 16 remaining
 
 -- "A state fits if its length and zero fields are right", and each word keeps the rules of its thing.
 
--- "immediate ports are unmarked; an undefined port is a mode port with value 0, unmarked; event values are 0 or 1; timer values 0
--- stopped, 1 started, 2 expired; remaining is 1 to reload in a started timer .. else 0"
+-- Q-2: "the state rule that immediate ports are unmarked holds only for mode ports"; then "an undefined port is a mode port with
+-- value 0, unmarked; event values are 0 or 1; timer values 0 stopped, 1 started, 2 expired; remaining is 1 to reload in a started
+-- timer .. else 0"
 unfoldable pub portFits : List ℕ → ℕ → ℕ → Bool
 portFits t p w =
     eqb (portZeroOf w) 0
-    && implies (eqb (deferred t p) 0) (eqb (markedOf w) 0)
+    && implies (eqb (portKind t p) portMode && eqb (deferred t p) 0) (eqb (markedOf w) 0)
     && implies (eqb (definedOf w) 0) (eqb (portKind t p) portMode && eqb (valueOf w) 0 && eqb (markedOf w) 0)
     && implies (eqb (portKind t p) portEvent) (leb (valueOf w) 1)
     && implies (eqb (portKind t p) portTimer) (leb (valueOf w) timerExpired)

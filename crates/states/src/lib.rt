@@ -33,7 +33,7 @@ fn port_fits(t: &[u32], p: u32, w: u32) -> bool
     let c = state::port_of(w);
     let started = (port.kind == PORT_TIMER) & (c.value == TIMER_STARTED);
     (zero == 0)
-        & (!(port.deferred == 0) | (c.marked == 0))
+        & (!((port.kind == PORT_MODE) & (port.deferred == 0)) | (c.marked == 0))
         & (!(c.defined == 0) | (port.kind == PORT_MODE) & (c.value == 0) & (c.marked == 0))
         & (!(port.kind == PORT_EVENT) | (c.value <= 1))
         & (!(port.kind == PORT_TIMER) | (c.value <= TIMER_EXPIRED))

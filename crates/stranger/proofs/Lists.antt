@@ -102,7 +102,7 @@ module _ (t : List ℕ) (f : Facts t) (o : ℕ) where
   effect-alike : (i : ℕ) {s₁ s₂ : List ℕ} → SameView t o s₁ s₂ → SameView t o (effect t i s₁) (effect t i s₂)
   unfolding effect setPort setNetwork
   effect-alike i v =
-      pick-both (SameView t o) (eqb (itemKind t i) itemClear) (λ e. write-alike t o (itemA t i) _ _ (λ h. rw (v .same (itemA t i) h)) v)
+      pick-both (SameView t o) (eqb (itemKind t i) itemClear) (λ e. write-alike t o (itemA t i) _ _ (λ h. refl) v)
       (λ e. pick-both (SameView t o) (eqb (itemKind t i) itemStart) (λ e. write-alike t o (itemA t i) _ _ (λ h. refl) v)
       (λ e. pick-both (SameView t o) (eqb (itemKind t i) itemStop) (λ e. write-alike t o (itemA t i) _ _ (λ h. refl) v)
       (λ e. pick-both (SameView t o) (eqb (itemKind t i) itemAsk)

@@ -9,17 +9,14 @@ use Rattle.lists.proofs.effect.Tie as tie
 abbrev at-after-item-at : tie.Else1 → tie.After-item-at
 at-after-item-at c = c .before .before
 
-abbrev then1 : tie.After-port-in → tie.Then1
-then1 c = c .before .before
+abbrev then1 : tie.After-slice-known2 → tie.Then1
+then1 c = c .before .before .before .before
 
 abbrev at-else1 : tie.Else2 → tie.Else1
 at-else1 c = c .before .before
 
 abbrev at-else2 : tie.After-struct-known4 → tie.Else2
 at-else2 c = c .before .before .before
-
-abbrev after-port-in : tie.After-slice-known2 → tie.After-port-in
-after-port-in c = c .before .before .before .before
 
 abbrev after-port-at : tie.After-slice-known3 → tie.After-port-at
 after-port-at c = c .before .before .before .before
@@ -32,7 +29,7 @@ then4 c = c .before .before .before .before
 
 -- Places that the proof names itself.
 abbrev after-item-at : tie.After-slice-known2 → tie.After-item-at
-after-item-at c = then1 (after-port-in c) .before .before
+after-item-at c = then1 c .before .before
 
 abbrev after-item-at-2 : tie.Else4 → tie.After-item-at
 after-item-at-2 c = at-after-item-at (at-else1 (at-else2 (c .before)))
@@ -48,8 +45,7 @@ else2 c = at-else2 (then4 c .before)
 
 returns : tie.Need-returns
 returns c =
-    c .before .before .set-port .ensures ∙ clears _ _ _ (after-item-at c .item-at .ensures) _
-    (then1 (after-port-in c) .if1 .taken) _ (after-port-in c .port-in .ensures .marked .value)
+    c .before .before .set-port .ensures ∙ clears _ _ _ (after-item-at c .item-at .ensures) _ (then1 c .if1 .taken)
 
 returns-2 : tie.Need-returns-2
 returns-2 c =
@@ -75,5 +71,5 @@ pub effect-spec : {M : Type 1} → statement M
 effect-spec =
     tie.close
     (tie.spec
-    (λ c κs. search needs) (λ c κs. search needs) (λ c κs. search needs) (λ c. search needs) returns (λ c κs. search needs) (λ c κs. search needs)
+    (λ c κs. search needs) (λ c κs. search needs) (λ c. search needs) returns (λ c κs. search needs) (λ c κs. search needs)
     (λ c. search needs) returns-2 (λ c κs. search needs) (λ c. search needs) returns-3 (λ c κs. search needs) (λ c. search needs) returns-4 returns-5)

@@ -16,8 +16,8 @@ abbrev at-after-port-of : tie.After-struct-known12 → tie.After-port-of
 at-after-port-of c = after-port-of-from-struct-known10 (c .before .before)
 
 -- Places that the proof names itself.
-abbrev after-port-of : tie.After-struct-known16 → tie.After-port-of
-after-port-of c = at-after-port-of (c .before .before .before .before)
+abbrev after-port-of : tie.After-struct-known17 → tie.After-port-of
+after-port-of c = at-after-port-of (c .before .before .before .before .before)
 
 returns : tie.Need-returns
 unfolding portFits

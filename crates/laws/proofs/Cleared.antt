@@ -1,0 +1,213 @@
+-- A port that a list clears is marked when the event is done, and a mark stays until its port is arbitrated. Assumes nothing.
+use mathlib.Core.Path.{_≡_, refl, sym, ap, _∙_}
+use mathlib.Core.Bool.{Bool, true, false, _&&_, _||_, and-false}
+use mathlib.Core.Logic.{_⊎_, inl, inr, ⊎-elim}
+use mathlib.Core.List.{List, [], _∷_, _++_, List·Memᴰ, List·Memᴰ·not-nil, List·Memᴰ·append-cases, List·Memᴰ·eq-of-singleton}
+use Prim.Native.Nat.{ℕ, _%_, _≤_, _<_}
+use native.Mathlib.Omega.{arith}
+use native.Mathlib.Nat.{mod-eq-of-lt}
+use lib.ListN.{length, length-set}
+use lib.Dec.{ltb, eqb}
+use borrow.Author.Tests.{ltb-true, lt-ltb, eqb-true, eqb-false, eq-eqb, ne-eqb}
+use Rattle.rulebook.specs.Words.{word, field}
+use Rattle.rulebook.specs.Table.{ports, rules, portKind, portEvent, deferred, ruleExpression, listOwner, itemKind, itemA, itemB, itemClear, itemRule}
+use Rattle.rulebook.specs.Expressions.{deepest}
+use Rattle.rulebook.specs.State.{markedOf, statusNone, statusPending, statusExpired}
+use Rattle.rulebook.specs.Lists.{Run, start, traceWord, traceListStart, setPort, networkIn, effect, act, setResult, judge}
+use Rattle.rulebook.specs.Arbitration.{unmarkPort, unmarkPorts, evaluated, storeResult, storeResults, arbitrate}
+use Rattle.rulebook.specs.Events.{eventKind, eventIndex, eventTick, only, request, statusIn, wake, validate, clear, takes, busOff, tickThings, markedIn}
+use Rattle.rulebook.specs.Events.{arbitrateMarked, tick, happen}
+use Rattle.laws.specs.Facts.{Facts}
+use Rattle.laws.specs.Chosen.{setsPort}
+use Rattle.laws.specs.Cleared.{arbitrates, ClearCounts}
+use Rattle.laws.proofs.Tests.{split, clash, and-left, and-right, and-both, or-none}
+use Rattle.laws.proofs.Walks.{each-keeps}
+use Rattle.laws.proofs.Expressions.{mentions-more}
+use Rattle.laws.proofs.Fields.{digit-small, trace-kind, trace-a}
+use Rattle.laws.proofs.Items.{clear-there, port-there}
+use Rattle.laws.proofs.Runs.{Within, item-there, KeptByActs, decide-keeps}
+use Rattle.laws.proofs.Fit.{fits-length}
+use Rattle.laws.proofs.FitKept.{Fits}
+use Rattle.laws.proofs.FitEvents.{things-fit, happen-fits}
+use Rattle.laws.proofs.Happen.{Taken, Event, aTick, aMode, aRequest, aWakeup, aValid, aBusOff, aClear, event}
+use Rattle.laws.proofs.Marks.{Marked, Unmarked, elsewhere, port-written, port-marked-again, result-elsewhere, effect-length, effect-marks}
+use Rattle.laws.proofs.Marks.{network-marks, source-marks, things-mark}
+use Rattle.laws.proofs.Unmarked.{marked-or-not, happen-quiet}
+
+-- Lists: what the words so far tell of port p. C is whatever else its mark may come from.
+
+module _ (t : List ℕ) (f : Facts t) (o c p : ℕ) (b : p < ports t) where
+  abbrev cleared : ℕ
+  cleared = traceWord itemClear o p c
+
+  record Tells (C : Type 0) (x : Run) : Type 0 where
+    there : p < length (x .state)
+    mark : C ⊎ List·Memᴰ cleared (x .words) → Marked p (x .state)
+
+  clears-it : (i : ℕ) (s : List ℕ) → itemKind t i ≡ itemClear → itemA t i ≡ p → p < length s → Marked p (effect t i s)
+  unfolding effect
+  clears-it i s k a h = rw (k, a) (port-written p s 1 0 0 (omega arith) h)
+
+  -- one word more, of an act that is no clear of p
+  one-more : (C : Type 0) (v : ℕ) (ws : List ℕ) → (cleared ≡ v → ⊥) → C ⊎ List·Memᴰ cleared (ws ++ (v ∷ [])) → C ⊎ List·Memᴰ cleared ws
+  one-more C v ws n (inl c) = inl c
+  one-more C v ws n (inr m) = ⊎-elim (λ z. inr z) (λ z. absurd (n (List·Memᴰ·eq-of-singleton z))) (List·Memᴰ·append-cases ws m)
+
+  kind-apart : (k o′ a c′ : ℕ) → (k % 16 ≡ itemClear → ⊥) → cleared ≡ traceWord k o′ a c′ → ⊥
+  kind-apart k o′ a c′ n e = n (sym (trace-kind k o′ a c′) ∙ ap (λ (w : ℕ). field 0 4 w) (sym e) ∙ trace-kind itemClear o p c)
+
+  port-apart : (k o′ a c′ : ℕ) → a < ports t → (a ≡ p → ⊥) → cleared ≡ traceWord k o′ a c′ → ⊥
+  port-apart k o′ a c′ h n e =
+      let same : a % 256 ≡ p % 256 = sym (trace-a k o′ a c′) ∙ ap (λ (w : ℕ). field 8 8 w) (sym e) ∙ trace-a itemClear o p c in
+      let most : ports t ≤ 64 = f .counts .ports in
+      n (omega arith)
+
+  act-marks : (C : Type 0) (l i : ℕ) (x : Run) → Within t l i → Tells C x → C ⊎ List·Memᴰ cleared (act t (listOwner t l) i x .words)
+      → Marked p (effect t i (x .state))
+  unfolding act
+  act-marks C l i x w q c =
+      let no-clear : (cleared ≡ traceWord (itemKind t i) (listOwner t l) (itemA t i) (itemB t i) → ⊥) → Marked p (effect t i (x .state))
+      = λ n. effect-marks t p b i (x .state) (q .mark (one-more C _ (x .words) n c)) in
+      split (eqb (itemKind t i) itemClear)
+      (λ k. let is = eqb-true _ _ k in split (eqb (itemA t i) p)
+      (λ a. clears-it i (x .state) is (eqb-true _ _ a) (q .there))
+      (λ a. no-clear (port-apart _ _ _ _ (port-there t portEvent (itemA t i) (clear-there t i (f .item i (item-there t f l i w) .1) is)) (eqb-false _ _ a))))
+      (λ k. let n = eqb-false _ _ k in let small : itemKind t i < 16 = digit-small _ 16 _ (omega arith) in
+      no-clear (kind-apart (itemKind t i) _ _ _ (λ z. n (sym (mod-eq-of-lt small) ∙ z))))
+
+  tells-kept : (C : Type 0) → KeptByActs t (Tells C)
+  unfolding act judge setResult
+  tells-kept C =
+      record {
+        listStart = λ l x h q. record {
+          there = q .there;
+          mark = λ c. q .mark (one-more C _ (x .words) (kind-apart traceListStart _ _ _ (λ z. omega arith)) c);
+        };
+        act = λ l i x w g h q. record {
+          there = rw (effect-length t i (x .state)) (q .there);
+          mark = act-marks C l i x w q;
+        };
+        undefined = λ l i x w e q. record { there = q .there; mark = λ c. q .mark (one-more C _ (x .words) (kind-apart itemRule _ _ _ (λ z. omega arith)) c) };
+        judge = λ l i x w e u q. record {
+          there = rw (length-set (x .state) _ _) (q .there);
+          mark = λ c. result-elsewhere t p b (itemA t i) _ (x .state) (q .mark (one-more C _ (x .words) (kind-apart itemRule _ _ _ (λ z. omega arith)) c));
+        };
+        deep = λ x q. record { there = q .there; mark = q .mark };
+      }
+
+  -- An arbitration: a mark that it does not clear comes through.
+
+  Through : Type 0 → List ℕ → Type 0
+  Through C s = (p < length s) × (C → Marked p s)
+
+  unmark-through : (C : Type 0) (q : ℕ → Bool) (s : List ℕ) → (C → q p ≡ false) → Through C s → Through C (unmarkPorts t q s)
+  unfolding unmarkPorts unmarkPort Through
+  unmark-through C q s n h =
+      each-keeps (Through C) (unmarkPort q) 0 (ports t) s
+      (λ j x a e k. split (q j)
+      (λ z. rw z (rw (length-set x j _) (k .0), λ c. elsewhere p x j _ (λ same. clash z (rw same at (n c))) (k .1 c)))
+      (λ z. rw z k)) h
+
+  store-through : (C : Type 0) (q : ℕ → Bool) (s : List ℕ) → Through C s → Through C (storeResults t q s)
+  unfolding storeResults storeResult setResult Through
+  store-through C q s h =
+      each-keeps (Through C) (storeResult t q s) 0 (rules t) s
+      (λ r x a e k. split (evaluated t q s r) (λ z. rw z (rw (length-set x _ _) (k .0), λ c. result-elsewhere t p b r _ x (k .1 c))) (λ z. rw z k)) h
+
+  arbitrate-tells : (C : Type 0) (q : ℕ → Bool) (s : List ℕ) → (C → q p ≡ false) → Through C s → Tells C (arbitrate t q s)
+  unfolding arbitrate Through
+  arbitrate-tells C q s n h =
+      let stored = store-through C q (unmarkPorts t q s) (unmark-through C q s n h) in
+      decide-keeps t f (Tells C) (tells-kept C) q (unmarkPorts t q s)
+      (record { there = stored .0; mark = ⊎-elim (stored .1) (λ m. absurd (List·Memᴰ·not-nil m)) })
+
+  -- a request of another port, or a deferred one
+  request-marks : (q v : ℕ) (s : List ℕ) → (q ≡ p → deferred t p ≡ 1) → Marked p s → Marked p (request t q v s .state)
+  unfolding request Through only
+  request-marks q v s late h =
+      split (eqb (deferred t q) 1) (λ e. rw e (port-marked-again p s q 1 v 0 (λ z. refl) h))
+      (λ e. let other : (p ≡ q → ⊥) = λ z. eqb-false (deferred t q) 1 e (rw z at (late (sym z))) in
+      let put = port-marked-again p s q 0 v 0 (λ z. absurd (other z)) h in
+      rw e (arbitrate-tells (Marked p (setPort q 0 v 0 s)) (only q) _ (λ c. ne-eqb p q other) (put .there, λ c. c) .mark (inl put)))
+
+  -- What an event's words tell.
+
+  told-by-none : (s : List ℕ) → p < length s → Tells ⊥ (start s)
+  told-by-none s h = record { there = h; mark = ⊎-elim (λ c. absurd c) (λ m. absurd (List·Memᴰ·not-nil m)) }
+
+  request-tells : (q v : ℕ) (s : List ℕ) → p < length s → Tells ⊥ (request t q v s)
+  unfolding request setPort Through
+  request-tells q v s h =
+      split (eqb (deferred t q) 1) (λ e. rw e (told-by-none _ (rw (length-set s q _) h)))
+      (λ e. rw e (arbitrate-tells ⊥ (only q) _ (λ c. absurd c) (rw (length-set s q _) h, λ c. absurd c)))
+
+  happen-tells : (e : ℕ) (s : List ℕ) → Taken t e → Fits t s → Tells ⊥ (happen t e s)
+  unfolding tick arbitrateMarked Through
+  happen-tells e s w h = go (happen t e) (event t e w) (happen-fits t f e s w h)
+    where
+      long : (s′ : List ℕ) → Fits t s′ → p < length s′
+      long s′ k = let l = fits-length t s′ k in omega arith
+
+      go : (g : List ℕ → Run) → Event t e g → Fits t (g s .state) → Tells ⊥ (g s)
+      go g (aTick k u) z = arbitrate-tells ⊥ _ _ (λ c. absurd c) (long _ (things-fit t f s h), λ c. absurd c)
+      go g (aMode k u m n) z = request-tells _ _ s (long s h)
+      go g (aRequest k u m) z = request-tells _ _ s (long s h)
+      go g (aWakeup k u) z = told-by-none _ (long _ z)
+      go g (aValid k u) z = told-by-none _ (long _ z)
+      go g (aBusOff k u) z = told-by-none _ (long _ z)
+      go g (aClear k u) z = told-by-none _ (long _ z)
+
+  happen-waits : (e : ℕ) (s : List ℕ) → Taken t e → (eventKind e ≡ eventTick → ⊥) → (setsPort e ≡ true → eventIndex e ≡ p → deferred t p ≡ 1) → Marked p s
+      → Marked p (happen t e s .state)
+  unfolding wake validate clear busOff
+  happen-waits e s w no-tick late h = go (happen t e) (event t e w)
+    where
+      go : (g : List ℕ → Run) → Event t e g → Marked p (g s .state)
+      go g (aTick k u) = absurd (no-tick k)
+      go g (aMode k u m n) = request-marks (eventIndex e) _ s (late (rw k)) h
+      go g (aRequest k u m) = request-marks (eventIndex e) _ s (late (rw k)) h
+      go g (aWakeup k u) = split (eqb (statusIn t (eventIndex e) s) statusNone || eqb (statusIn t (eventIndex e) s) statusExpired)
+          (λ z. rw z (source-marks t p b _ _ _ s h)) (λ z. rw z h)
+      go g (aValid k u) = split (eqb (statusIn t (eventIndex e) s) statusPending) (λ z. rw z (source-marks t p b _ _ _ s h)) (λ z. rw z h)
+      go g (aBusOff k u) = split (takes (networkIn t (eventIndex e) s)) (λ z. rw z (network-marks t p b _ _ s h)) (λ z. rw z h)
+      go g (aClear k u) = source-marks t p b _ _ _ s h
+
+pub clear-counts : (t : List ℕ) → Facts t → (e : ℕ) (s : List ℕ) → Taken t e → Fits t s → ClearCounts t e s (happen t e s .state) (happen t e s .words)
+unfolding markedIn only
+clear-counts t f e s w h =
+    record {
+      marks = λ o p c b m. shows p b (happen-tells t f o c p b e s w h .mark (inr m));
+      atTick = λ p r m. mentions-more t (only p) (markedIn t (tickThings t s))
+          (λ x e. rw (eqb-true x p e) (shows p (there p m) (things-mark t p (there p m) s (stands p m)))) deepest (ruleExpression t r);
+      waits = λ p m a. shows p (there p m) (happen-waits t f 0 0 p (there p m) e s w (no-tick p a) (late p a) (stands p m));
+      goes = λ p b k why r n. hides p (happen-quiet t f p b k e s w h (⊎-elim (λ a. inl a) (λ m. inr (unmarked p b k m)) why) r n);
+    }
+  where
+    there : (p : ℕ) → markedIn t s p ≡ true → p < ports t
+    there p m = ltb-true _ _ (and-left _ (eqb (markedOf (word s p)) 1) m)
+
+    stands : (p : ℕ) → markedIn t s p ≡ true → Marked p s
+    stands p m =
+        let l = fits-length t s h in let b = there p m in
+        record { there = omega arith; mark = eqb-true _ _ (and-right (ltb p (ports t)) _ m) }
+
+    shows : (p : ℕ) {s′ : List ℕ} → p < ports t → Marked p s′ → markedIn t s′ p ≡ true
+    shows p b m = and-both _ _ (lt-ltb _ _ b) (eq-eqb _ _ (m .mark))
+
+    no-tick : (p : ℕ) → arbitrates t e p ≡ false → eventKind e ≡ eventTick → ⊥
+    no-tick p a = eqb-false _ _ (or-none (eqb (eventKind e) eventTick) _ a .0)
+
+    late : (p : ℕ) → arbitrates t e p ≡ false → setsPort e ≡ true → eventIndex e ≡ p → deferred t p ≡ 1
+    late p a sets is =
+        let n : (deferred t p ≡ 0 → ⊥) = λ z. clash (and-both (setsPort e && eqb (eventIndex e) p) _ (and-both _ _ sets (eq-eqb _ _ is)) (eq-eqb _ _ z))
+        (or-none (eqb (eventKind e) eventTick) _ a .1) in
+        let small : deferred t p < 2 = digit-small _ 2 _ (omega arith) in
+        omega arith
+
+    unmarked : (p : ℕ) → p < ports t → portKind t p ≡ portEvent → markedIn t s p ≡ false → Unmarked p s
+    unmarked p b k m =
+        let l = fits-length t s h in
+        ⊎-elim (λ z. clash z m) (λ u. u) (marked-or-not t f p b k s (omega arith))
+
+    hides : (p : ℕ) {s′ : List ℕ} → Unmarked p s′ → markedIn t s′ p ≡ false
+    hides p u = rw (u .mark, and-false)

@@ -1,0 +1,114 @@
+-- A port's mark under each write. No item, and no network, source or timer that moves, takes a mark away. Assumes nothing.
+use mathlib.Core.Path.{_≡_, refl, ap, _∙_}
+use mathlib.Core.Bool.{_&&_}
+use mathlib.Core.List.{List}
+use Prim.Native.Nat.{ℕ, _<_}
+use native.Mathlib.Omega.{arith}
+use native.Mathlib.Nat.{mod-eq-of-lt}
+use lib.ListN.{length, set, length-set}
+use lib.Seq.{getD-set-same, getD-set-other}
+use lib.Dec.{leb, eqb}
+use borrow.Author.Tests.{eqb-true, eqb-false}
+use Rattle.rulebook.specs.Words.{word}
+use Rattle.rulebook.specs.Table.{ports, networks, sources, portKind, portTimer, networkPort, sourcePort, itemA}
+use Rattle.rulebook.specs.State.{ruleIndex, networkIndex, sourceIndex, markedOf, valueOf, timerStarted, Network, statusPending, packPort, packSource}
+use Rattle.rulebook.specs.Lists.{setPort, networkIn, setNetwork, effect, setResult}
+use Rattle.rulebook.specs.Events.{statusIn, setSource, moveSource, shown, moveNetwork, tickNetwork, remainingIn, tickSource, tickTimer, tickThings}
+use Rattle.laws.proofs.Tests.{split}
+use Rattle.laws.proofs.Walks.{each-keeps}
+use Rattle.laws.proofs.Fields.{port-marked}
+use Rattle.laws.proofs.Cases.{effect-cases}
+
+-- port p has its word, and in it the mark m
+pub record Mark (p m : ℕ) (s : List ℕ) : Type 0 where
+  pub there : p < length s
+  pub mark : markedOf (word s p) ≡ m
+
+abbrev pub Marked : ℕ → List ℕ → Type 0
+Marked p s = Mark p 1 s
+
+abbrev pub Unmarked : ℕ → List ℕ → Type 0
+Unmarked p s = Mark p 0 s
+
+module _ (p : ℕ) (s : List ℕ) where
+  pub elsewhere : {m : ℕ} (j w : ℕ) → (p ≡ j → ⊥) → Mark p m s → Mark p m (set s j w)
+  elsewhere j w n h =
+      record { there = rw (length-set s j w) (h .there); mark = ap (λ (x : ℕ). markedOf x) (getD-set-other s j p w 0 n) ∙ h .mark }
+
+  pub port-elsewhere : {m : ℕ} (q c v r : ℕ) → (p ≡ q → ⊥) → Mark p m s → Mark p m (setPort q c v r s)
+  unfolding setPort
+  port-elsewhere q c v r n h = elsewhere q _ n h
+
+  pub word-packed : (d m v r : ℕ) → m < 2 → p < length s → Mark p m (set s p (packPort d m v r))
+  word-packed d m v r small b =
+      record {
+        there = rw (length-set s p _) b;
+        mark = ap (λ (x : ℕ). markedOf x) (getD-set-same s p _ 0 b) ∙ port-marked d m v r ∙ mod-eq-of-lt small;
+      }
+
+  pub port-written : (m v r : ℕ) → m < 2 → p < length s → Mark p m (setPort p m v r s)
+  unfolding setPort
+  port-written m v r small b = word-packed 1 m v r small b
+
+  pub port-marked-again : (q m v r : ℕ) → (p ≡ q → m ≡ 1) → Marked p s → Marked p (setPort q m v r s)
+  port-marked-again q m v r is h =
+      split (eqb p q)
+      (λ e. let same = eqb-true p q e in rw (← same, is same) (port-written 1 v r (omega arith) (h .there)))
+      (λ e. port-elsewhere q m v r (eqb-false p q e) h)
+
+pub effect-length : (t : List ℕ) (i : ℕ) (s : List ℕ) → length (effect t i s) ≡ length s
+unfolding setPort setNetwork
+effect-length t i s =
+    effect-cases (λ s′. length s′ ≡ length s) t i s (λ k. length-set s _ _) (λ k. length-set s _ _) (λ k. length-set s _ _) (λ k. length-set s _ _)
+    (λ k. refl)
+
+module _ (t : List ℕ) (p : ℕ) (b : p < ports t) where
+  pub network-elsewhere : {m : ℕ} (n : ℕ) (c : Network) (s : List ℕ) → Mark p m s → Mark p m (setNetwork t n c s)
+  unfolding setNetwork
+  network-elsewhere n c s h = elsewhere p s (networkIndex t n) _ (λ e. omega arith) h
+
+  pub result-elsewhere : {m : ℕ} (r result : ℕ) (s : List ℕ) → Mark p m s → Mark p m (setResult t r result s)
+  unfolding setResult
+  result-elsewhere r result s h = elsewhere p s (ruleIndex t r) _ (λ e. omega arith) h
+
+  -- an item of kind 0 to 4
+  pub effect-marks : (i : ℕ) (s : List ℕ) → Marked p s → Marked p (effect t i s)
+  effect-marks i s h =
+      effect-cases (Marked p) t i s (λ k. port-marked-again p s (itemA t i) 1 0 0 (λ e. refl) h) (λ k. port-marked-again p s (itemA t i) 1 _ _ (λ e. refl) h)
+      (λ k. port-marked-again p s (itemA t i) 1 _ 0 (λ e. refl) h) (λ k. network-elsewhere (itemA t i) _ s h) (λ k. h)
+
+  -- Networks, sources and timers mark the port that they write, or write its mark as it was.
+
+  pub network-marks : (n : ℕ) (c : Network) (s : List ℕ) → Marked p s → Marked p (moveNetwork t n c s)
+  unfolding moveNetwork
+  network-marks n c s h =
+      split (eqb (shown (c .state)) (shown (networkIn t n s .state))) (λ e. rw e (network-elsewhere n c s h))
+      (λ e. rw e (port-marked-again p _ (networkPort t n) 1 _ 0 (λ z. refl) (network-elsewhere n c s h)))
+
+  pub source-marks : (k status r : ℕ) (s : List ℕ) → Marked p s → Marked p (moveSource t k status r s)
+  unfolding moveSource setSource
+  source-marks k status r s h =
+      let put = elsewhere p s (sourceIndex t k) (packSource status r) (λ e. omega arith) h in
+      split (eqb status (statusIn t k s)) (λ e. rw e put) (λ e. rw e (port-marked-again p _ (sourcePort t k) 1 _ 0 (λ z. refl) put))
+
+  timer-marks : (q : ℕ) (s : List ℕ) → Marked p s → Marked p (tickTimer t q s)
+  unfolding tickTimer
+  timer-marks q s h =
+      split (eqb (portKind t q) portTimer && eqb (valueOf (word s q)) timerStarted)
+      (λ e. split (leb (remainingIn s q) 1) (λ d. rw (e, d) (port-marked-again p s q 1 _ 0 (λ z. refl) h))
+      (λ d. rw (e, d) (port-marked-again p s q _ _ _ (λ z. rw (← z) (h .mark)) h)))
+      (λ e. rw e h)
+
+  tick-source-marks : (k : ℕ) (s : List ℕ) → Marked p s → Marked p (tickSource t k s)
+  unfolding tickSource
+  tick-source-marks k s h =
+      split (eqb (statusIn t k s) statusPending)
+      (λ e. split (leb (remainingIn s (sourceIndex t k)) 1) (λ d. rw (e, d) (source-marks k _ _ s h)) (λ d. rw (e, d) (source-marks k _ _ s h)))
+      (λ e. rw e h)
+
+  pub things-mark : (s : List ℕ) → Marked p s → Marked p (tickThings t s)
+  unfolding tickThings tickNetwork
+  things-mark s h =
+      each-keeps (Marked p) (tickTimer t) 0 (ports t) _ (λ q x a e. timer-marks q x)
+      (each-keeps (Marked p) (tickSource t) 0 (sources t) _ (λ k x a e. tick-source-marks k x)
+      (each-keeps (Marked p) (tickNetwork t) 0 (networks t) s (λ n x a e. network-marks n _ x) h))

@@ -1,0 +1,191 @@
+-- The mark of an event's port goes with its arbitration, and comes by a clear or a deferred request alone. Assumes nothing.
+use mathlib.Core.Path.{_≡_, sym, ap, _∙_}
+use mathlib.Core.Bool.{Bool, true, false, _&&_, _||_}
+use mathlib.Core.Logic.{_⊎_, inl, inr, ⊎-elim}
+use mathlib.Core.List.{List, [], _∷_, _++_, List·Memᴰ·head, Memᴰ·append-left, Memᴰ·append-right}
+use Prim.Native.Nat.{ℕ, suc, _+_, _-_, _<_}
+use native.Mathlib.Omega.{arith}
+use lib.ListN.{length, length-set}
+use lib.Dec.{eqb}
+use borrow.Author.Tests.{lt-ltb, eqb-true, eqb-false, eq-eqb}
+use Rattle.rulebook.specs.Words.{word, each}
+use Rattle.rulebook.specs.Table.{ports, networks, sources, items, rules, portKind, portMode, portEvent, portTimer, deferred, networkPort, sourcePort, listOwner}
+use Rattle.rulebook.specs.Table.{itemKind, itemA, itemB, itemClear}
+use Rattle.rulebook.specs.State.{sourceIndex, markedOf, Network, statusNone, statusPending, statusExpired, packSource}
+use Rattle.rulebook.specs.Lists.{Run, start, setPort, networkIn, effect, act, setResult, judge}
+use Rattle.rulebook.specs.Arbitration.{unmarkPort, unmarkPorts, evaluated, storeResult, storeResults, arbitrate}
+use Rattle.rulebook.specs.Events.{eventKind, eventIndex, eventValue, eventTick, only, request, statusIn, setSource, moveSource, wake, validate}
+use Rattle.rulebook.specs.Events.{clear, shown, moveNetwork, takes, busOff, tickThings, markedIn, arbitrateMarked, tick, happen}
+use Rattle.laws.specs.Facts.{Facts}
+use Rattle.laws.specs.Chosen.{setsPort}
+use Rattle.laws.specs.Cleared.{arbitrates, requestsLater, NoClear}
+use Rattle.laws.proofs.Tests.{split, clash, and-left, and-right, and-both, or-some}
+use Rattle.laws.proofs.Walks.{each-keeps, each-at}
+use Rattle.laws.proofs.Cases.{effect-cases}
+use Rattle.laws.proofs.Items.{start-there, stop-there, kind-is}
+use Rattle.laws.proofs.Runs.{item-there, KeptByActs, decide-keeps}
+use Rattle.laws.proofs.Fields.{digit-small}
+use Rattle.laws.proofs.Fit.{fits-length}
+use Rattle.laws.proofs.FitKept.{Fits}
+use Rattle.laws.proofs.FitEvents.{may-show, things-fit}
+use Rattle.laws.proofs.Happen.{Taken, Event, aTick, aMode, aRequest, aWakeup, aValid, aBusOff, aClear, event}
+use Rattle.laws.proofs.Marks.{Unmarked, elsewhere, port-elsewhere, word-packed, network-elsewhere, result-elsewhere, effect-length}
+
+module _ (t : List ℕ) (f : Facts t) (p : ℕ) (b : p < ports t) (is : portKind t p ≡ portEvent) where
+  -- Lists write no event's port but by a clear, which the trace tells.
+
+  record Quiet (x : Run) : Type 0 where
+    there : p < length (x .state)
+    mark : NoClear p (x .words) → Unmarked p (x .state)
+
+  fewer : (v : ℕ) (ws : List ℕ) → NoClear p (ws ++ (v ∷ [])) → NoClear p ws
+  fewer v ws n o c m = n o c (Memᴰ·append-left (v ∷ []) m)
+
+  of-kind : (q k : ℕ) → portKind t q ≡ k → (portEvent ≡ k → ⊥) → p ≡ q → ⊥
+  of-kind q k h n e = n (sym is ∙ ap (λ (x : ℕ). portKind t x) e ∙ h)
+
+  effect-quiet : (i : ℕ) (s : List ℕ) → i < items t → (itemKind t i ≡ itemClear → itemA t i ≡ p → ⊥) → Unmarked p s → Unmarked p (effect t i s)
+  effect-quiet i s h n u =
+      let named = f .item i h .1 in
+      effect-cases (Unmarked p) t i s (λ k. port-elsewhere p s (itemA t i) 1 0 0 (λ e. n k (sym e)) u)
+      (λ k. port-elsewhere p s (itemA t i) 1 _ _ (of-kind _ portTimer (kind-is t portTimer _ (start-there t i named k)) (λ z. omega arith)) u)
+      (λ k. port-elsewhere p s (itemA t i) 1 _ 0 (of-kind _ portTimer (kind-is t portTimer _ (stop-there t i named k)) (λ z. omega arith)) u)
+      (λ k. network-elsewhere t p b (itemA t i) _ s u) (λ k. u)
+
+  quiet-kept : KeptByActs t Quiet
+  unfolding act judge setResult
+  quiet-kept =
+      record {
+        listStart = λ l x h q. record { there = q .there; mark = λ n. q .mark (fewer _ (x .words) n) };
+        act = λ l i x w g h q. record {
+          there = rw (effect-length t i (x .state)) (q .there);
+          mark = λ n. effect-quiet i (x .state) (item-there t f l i w)
+              (λ k a. n (listOwner t l) (itemB t i) (Memᴰ·append-right (x .words) (List·Memᴰ·head (rw (k, a))))) (q .mark (fewer _ (x .words) n));
+        };
+        undefined = λ l i x w e q. record { there = q .there; mark = λ n. q .mark (fewer _ (x .words) n) };
+        judge = λ l i x w e u q. record {
+          there = rw (length-set (x .state) _ _) (q .there);
+          mark = λ n. result-elsewhere t p b (itemA t i) _ (x .state) (q .mark (fewer _ (x .words) n));
+        };
+        deep = λ x q. record { there = q .there; mark = q .mark };
+      }
+
+  -- An arbitration that has p, or finds it unmarked.
+
+  unmark-long : (q : ℕ → Bool) (j : ℕ) (x : List ℕ) → length (unmarkPort q j x) ≡ length x
+  unfolding unmarkPort
+  unmark-long q j x = split (q j) (λ e. rw e (length-set x j _)) (λ e. rw e)
+
+  unmark-other : (q : ℕ → Bool) (j : ℕ) (x : List ℕ) → (p ≡ j → ⊥) → Unmarked p x → Unmarked p (unmarkPort q j x)
+  unfolding unmarkPort
+  unmark-other q j x n u = split (q j) (λ e. rw e (elsewhere p x j _ n u)) (λ e. rw e u)
+
+  unmark-quiet : (q : ℕ → Bool) (s : List ℕ) → p < length s → (q p ≡ true) ⊎ Unmarked p s → Unmarked p (unmarkPorts t q s)
+  unfolding unmarkPorts unmarkPort
+  unmark-quiet q s h why =
+      let split-here : ports t ≡ p + suc (ports t - (p + 1)) = omega arith in
+      rw (split-here, each-at (unmarkPort q) p (ports t - (p + 1)) s)
+      (each-keeps (Unmarked p) (unmarkPort q) (suc p) _ _ (λ j x a e. unmark-other q j x (λ z. omega arith)) here)
+    where
+      before : List ℕ
+      before = each 0 p (unmarkPort q) s
+
+      long : p < length before
+      long = each-keeps (λ x. p < length x) (unmarkPort q) 0 p s (λ j x a e k. rw (unmark-long q j x) k) h
+
+      here : Unmarked p (unmarkPort q p before)
+      here =
+          split (q p) (λ e. rw e (word-packed p before _ 0 _ _ (omega arith) long))
+          (λ e. rw e (⊎-elim (λ z. clash z e)
+          (λ u. each-keeps (Unmarked p) (unmarkPort q) 0 p s (λ j x a c. unmark-other q j x (λ z. omega arith)) u) why))
+
+  store-quiet : (q : ℕ → Bool) (s : List ℕ) → Unmarked p s → Unmarked p (storeResults t q s)
+  unfolding storeResults storeResult
+  store-quiet q s u =
+      each-keeps (Unmarked p) (storeResult t q s) 0 (rules t) s
+      (λ r x a e k. split (evaluated t q s r) (λ z. rw z (result-elsewhere t p b r _ x k)) (λ z. rw z k)) u
+
+  arbitrate-quiet : (q : ℕ → Bool) (s : List ℕ) → p < length s → (q p ≡ true) ⊎ Unmarked p s → Quiet (arbitrate t q s)
+  unfolding arbitrate
+  arbitrate-quiet q s h why =
+      let u = store-quiet q (unmarkPorts t q s) (unmark-quiet q s h why) in
+      decide-keeps t f Quiet quiet-kept q (unmarkPorts t q s) (record { there = u .there; mark = λ n. u })
+
+  -- Events: networks and sources write mode ports.
+
+  unmarked-quiet : (s : List ℕ) → Unmarked p s → Quiet (start s)
+  unmarked-quiet s u = record { there = u .there; mark = λ n. u }
+
+  network-quiet : (n : ℕ) (c : Network) (s : List ℕ) → n < networks t → Unmarked p s → Unmarked p (moveNetwork t n c s)
+  unfolding moveNetwork
+  network-quiet n c s h u =
+      let put = network-elsewhere t p b n c s u in
+      split (eqb (shown (c .state)) (shown (networkIn t n s .state))) (λ e. rw e put)
+      (λ e. rw e (port-elsewhere p _ (networkPort t n) 1 _ 0 (of-kind _ portMode (may-show t _ (f .network n h .may) .mode) (λ z. omega arith)) put))
+
+  source-quiet : (k status r : ℕ) (s : List ℕ) → k < sources t → Unmarked p s → Unmarked p (moveSource t k status r s)
+  unfolding moveSource setSource
+  source-quiet k status r s h u =
+      let put = elsewhere p s (sourceIndex t k) (packSource status r) (λ e. omega arith) u in
+      split (eqb status (statusIn t k s)) (λ e. rw e put)
+      (λ e. rw e (port-elsewhere p _ (sourcePort t k) 1 _ 0 (of-kind _ portMode (may-show t _ (f .source k h .may) .mode) (λ z. omega arith)) put))
+
+  request-quiet : (q v : ℕ) (s : List ℕ) → p < length s → (p ≡ q → deferred t q ≡ 0) → (p ≡ q) ⊎ Unmarked p s → Quiet (request t q v s)
+  unfolding request only setPort
+  request-quiet q v s h now why =
+      split (eqb (deferred t q) 1)
+      (λ e. let late = eqb-true (deferred t q) 1 e in let other : (p ≡ q → ⊥) = λ z. let n = now z in absurd (omega arith) in
+      rw e (unmarked-quiet _ (⊎-elim (λ z. absurd (other z)) (port-elsewhere p s q 1 v 0 other) why)))
+      (λ e. rw e (arbitrate-quiet (only q) _ (rw (length-set s q _) h)
+      (split (eqb p q) (λ z. inl z) (λ z. inr (⊎-elim (λ y. absurd (eqb-false p q z y)) (port-elsewhere p s q 0 v 0 (eqb-false p q z)) why)))))
+
+  -- what e arbitrates, if it is no tick: its own port, an immediate one
+  own-port : (e : ℕ) → (eventKind e ≡ eventTick → ⊥) → arbitrates t e p ≡ true → (setsPort e ≡ true) × (p ≡ eventIndex e)
+  own-port e n h =
+      ⊎-elim (λ a. absurd (n (eqb-true _ _ a)))
+      (λ a. let both = and-left (setsPort e && eqb (eventIndex e) p) (eqb (deferred t p) 0) a in
+      (and-left (setsPort e) _ both, sym (eqb-true _ _ (and-right (setsPort e) _ both))))
+      (or-some (eqb (eventKind e) eventTick) _ h)
+
+  -- a request that does not mark its port has it arbitrated
+  at-once : (e : ℕ) → setsPort e ≡ true → requestsLater t e p ≡ false → p ≡ eventIndex e → deferred t (eventIndex e) ≡ 0
+  at-once e sets h z =
+      let small : deferred t p < 2 = digit-small _ 2 _ (omega arith) in
+      let n : (deferred t p ≡ 1 → ⊥) = λ y. clash (and-both (setsPort e && eqb (eventIndex e) p) _ (and-both _ _ sets (eq-eqb _ _ (sym z))) (eq-eqb _ _ y)) h in
+      let now : deferred t p ≡ 0 = omega arith in
+      ap (λ (x : ℕ). deferred t x) (sym z) ∙ now
+
+  pub marked-or-not : (s : List ℕ) → p < length s → (markedIn t s p ≡ true) ⊎ Unmarked p s
+  unfolding markedIn
+  marked-or-not s h =
+      split (eqb (markedOf (word s p)) 1) (λ e. inl (and-both _ _ (lt-ltb _ _ b) e))
+      (λ e. let n = eqb-false (markedOf (word s p)) 1 e in let small : markedOf (word s p) < 2 = digit-small _ 2 _ (omega arith) in
+      inr (record { there = h; mark = omega arith }))
+
+  pub happen-quiet : (e : ℕ) (s : List ℕ) → Taken t e → Fits t s → (arbitrates t e p ≡ true) ⊎ Unmarked p s → requestsLater t e p ≡ false
+      → NoClear p (happen t e s .words) → Unmarked p (happen t e s .state)
+  unfolding tick arbitrateMarked wake validate clear busOff
+  happen-quiet e s w h why late = go (happen t e) (event t e w) .mark
+    where
+      long : (s′ : List ℕ) → Fits t s′ → p < length s′
+      long s′ k = let l = fits-length t s′ k in omega arith
+
+      -- of an event that sets no port
+      still : (eventKind e ≡ eventTick → ⊥) → setsPort e ≡ false → Unmarked p s
+      still n k = ⊎-elim (λ a. clash (own-port e n a .0) k) (λ u. u) why
+
+      asked : (v : ℕ) → (eventKind e ≡ eventTick → ⊥) → setsPort e ≡ true → Quiet (request t (eventIndex e) v s)
+      asked v n sets = request-quiet (eventIndex e) v s (long s h) (at-once e sets late) (⊎-elim (λ a. inl (own-port e n a .1)) (λ u. inr u) why)
+
+      go : (g : List ℕ → Run) → Event t e g → Quiet (g s)
+      go g (aTick k u) = arbitrate-quiet _ (tickThings t s) (long _ (things-fit t f s h)) (marked-or-not (tickThings t s) (long _ (things-fit t f s h)))
+      go g (aMode k u m n) = asked (eventValue e) (λ z. omega arith) (rw k)
+      go g (aRequest k u m) = asked 1 (λ z. omega arith) (rw k)
+      go g (aWakeup k u) = let v = still (λ z. omega arith) (rw k) in unmarked-quiet _
+          (split (eqb (statusIn t (eventIndex e) s) statusNone || eqb (statusIn t (eventIndex e) s) statusExpired)
+          (λ z. rw z (source-quiet _ _ _ s (u .there) v)) (λ z. rw z v))
+      go g (aValid k u) = let v = still (λ z. omega arith) (rw k) in unmarked-quiet _
+          (split (eqb (statusIn t (eventIndex e) s) statusPending) (λ z. rw z (source-quiet _ _ _ s (u .there) v)) (λ z. rw z v))
+      go g (aBusOff k u) = let v = still (λ z. omega arith) (rw k) in unmarked-quiet _
+          (split (takes (networkIn t (eventIndex e) s)) (λ z. rw z (network-quiet _ _ s (u .there) v)) (λ z. rw z v))
+      go g (aClear k u) = unmarked-quiet _ (source-quiet _ _ _ s (u .there) (still (λ z. omega arith) (rw k)))
