@@ -10,18 +10,17 @@ use lib.ListN.{length, length-set}
 use lib.Dec.{ltb, eqb}
 use borrow.Author.Tests.{ltb-true, lt-ltb, eqb-true, eqb-false, eq-eqb, ne-eqb}
 use Rattle.rulebook.specs.Words.{word, field}
-use Rattle.rulebook.specs.Table.{ports, rules, portKind, portEvent, deferred, ruleExpression, listOwner, itemKind, itemA, itemB, itemClear, itemRule}
+use Rattle.rulebook.specs.Table.{ports, portKind, portEvent, deferred, ruleExpression, listOwner, itemKind, itemA, itemB, itemClear, itemRule}
 use Rattle.rulebook.specs.Expressions.{deepest}
 use Rattle.rulebook.specs.State.{markedOf, statusNone, statusPending, statusExpired}
 use Rattle.rulebook.specs.Lists.{Run, start, traceWord, traceListStart, setPort, networkIn, effect, act, setResult, judge}
-use Rattle.rulebook.specs.Arbitration.{unmarkPort, unmarkPorts, evaluated, storeResult, storeResults, arbitrate}
+use Rattle.rulebook.specs.Arbitration.{unmarkPorts, arbitrate}
 use Rattle.rulebook.specs.Events.{eventKind, eventIndex, eventTick, only, request, statusIn, wake, validate, clear, takes, busOff, tickThings, markedIn}
 use Rattle.rulebook.specs.Events.{arbitrateMarked, tick, happen}
 use Rattle.laws.specs.Facts.{Facts}
 use Rattle.laws.specs.Chosen.{setsPort}
 use Rattle.laws.specs.Cleared.{arbitrates, ClearCounts}
 use Rattle.laws.proofs.Tests.{split, clash, and-left, and-right, and-both, or-none}
-use Rattle.laws.proofs.Walks.{each-keeps}
 use Rattle.laws.proofs.Expressions.{mentions-more}
 use Rattle.laws.proofs.Fields.{digit-small, trace-kind, trace-a}
 use Rattle.laws.proofs.Items.{clear-there, port-there}
@@ -30,7 +29,8 @@ use Rattle.laws.proofs.Fit.{fits-length}
 use Rattle.laws.proofs.FitKept.{Fits}
 use Rattle.laws.proofs.FitEvents.{things-fit, happen-fits}
 use Rattle.laws.proofs.Happen.{Taken, Event, aTick, aMode, aRequest, aWakeup, aValid, aBusOff, aClear, event}
-use Rattle.laws.proofs.Marks.{Marked, Unmarked, elsewhere, port-written, port-marked-again, result-elsewhere, effect-length, effect-marks}
+use Rattle.laws.proofs.Marks.{Marked, Unmarked, port-written, port-marked-again, result-elsewhere, effect-length, effect-marks}
+use Rattle.laws.proofs.Marks.{unmark-it, unmark-others, store-elsewhere}
 use Rattle.laws.proofs.Marks.{network-marks, source-marks, things-mark}
 use Rattle.laws.proofs.Unmarked.{marked-or-not, happen-quiet}
 
@@ -97,38 +97,25 @@ module _ (t : List ℕ) (f : Facts t) (o c p : ℕ) (b : p < ports t) where
 
   -- An arbitration: a mark that it does not clear comes through.
 
-  Through : Type 0 → List ℕ → Type 0
-  Through C s = (p < length s) × (C → Marked p s)
-
-  unmark-through : (C : Type 0) (q : ℕ → Bool) (s : List ℕ) → (C → q p ≡ false) → Through C s → Through C (unmarkPorts t q s)
-  unfolding unmarkPorts unmarkPort Through
-  unmark-through C q s n h =
-      each-keeps (Through C) (unmarkPort q) 0 (ports t) s
-      (λ j x a e k. split (q j)
-      (λ z. rw z (rw (length-set x j _) (k .0), λ c. elsewhere p x j _ (λ same. clash z (rw same at (n c))) (k .1 c)))
-      (λ z. rw z k)) h
-
-  store-through : (C : Type 0) (q : ℕ → Bool) (s : List ℕ) → Through C s → Through C (storeResults t q s)
-  unfolding storeResults storeResult setResult Through
-  store-through C q s h =
-      each-keeps (Through C) (storeResult t q s) 0 (rules t) s
-      (λ r x a e k. split (evaluated t q s r) (λ z. rw z (rw (length-set x _ _) (k .0), λ c. result-elsewhere t p b r _ x (k .1 c))) (λ z. rw z k)) h
-
-  arbitrate-tells : (C : Type 0) (q : ℕ → Bool) (s : List ℕ) → (C → q p ≡ false) → Through C s → Tells C (arbitrate t q s)
-  unfolding arbitrate Through
-  arbitrate-tells C q s n h =
-      let stored = store-through C q (unmarkPorts t q s) (unmark-through C q s n h) in
-      decide-keeps t f (Tells C) (tells-kept C) q (unmarkPorts t q s)
-      (record { there = stored .0; mark = ⊎-elim (stored .1) (λ m. absurd (List·Memᴰ·not-nil m)) })
+  arbitrate-tells : (C : Type 0) (q : ℕ → Bool) (s : List ℕ) → p < length s → (C → (q p ≡ false) × Marked p s) → Tells C (arbitrate t q s)
+  unfolding arbitrate
+  arbitrate-tells C q s h through =
+      let unmarked = unmarkPorts t q s in
+      let long = split (q p) (λ e. unmark-it t p b q s e h .there) (λ e. unmark-others t p b q s e (record { there = h; mark = refl }) .there) in
+      decide-keeps t f (Tells C) (tells-kept C) q unmarked
+      (record {
+        there = store-elsewhere t p b q unmarked (record { there = long; mark = refl }) .there;
+        mark = ⊎-elim (λ c. store-elsewhere t p b q unmarked (unmark-others t p b q s (through c .0) (through c .1))) (λ m. absurd (List·Memᴰ·not-nil m));
+      })
 
   -- a request of another port, or a deferred one
   request-marks : (q v : ℕ) (s : List ℕ) → (q ≡ p → deferred t p ≡ 1) → Marked p s → Marked p (request t q v s .state)
-  unfolding request Through only
+  unfolding request only
   request-marks q v s late h =
       split (eqb (deferred t q) 1) (λ e. rw e (port-marked-again p s q 1 v 0 (λ z. refl) h))
       (λ e. let other : (p ≡ q → ⊥) = λ z. eqb-false (deferred t q) 1 e (rw z at (late (sym z))) in
       let put = port-marked-again p s q 0 v 0 (λ z. absurd (other z)) h in
-      rw e (arbitrate-tells (Marked p (setPort q 0 v 0 s)) (only q) _ (λ c. ne-eqb p q other) (put .there, λ c. c) .mark (inl put)))
+      rw e (arbitrate-tells (Marked p (setPort q 0 v 0 s)) (only q) _ (put .there) (λ c. (ne-eqb p q other, c)) .mark (inl put)))
 
   -- What an event's words tell.
 
@@ -136,20 +123,20 @@ module _ (t : List ℕ) (f : Facts t) (o c p : ℕ) (b : p < ports t) where
   told-by-none s h = record { there = h; mark = ⊎-elim (λ c. absurd c) (λ m. absurd (List·Memᴰ·not-nil m)) }
 
   request-tells : (q v : ℕ) (s : List ℕ) → p < length s → Tells ⊥ (request t q v s)
-  unfolding request setPort Through
+  unfolding request setPort
   request-tells q v s h =
       split (eqb (deferred t q) 1) (λ e. rw e (told-by-none _ (rw (length-set s q _) h)))
-      (λ e. rw e (arbitrate-tells ⊥ (only q) _ (λ c. absurd c) (rw (length-set s q _) h, λ c. absurd c)))
+      (λ e. rw e (arbitrate-tells ⊥ (only q) _ (rw (length-set s q _) h) (λ c. absurd c)))
 
   happen-tells : (e : ℕ) (s : List ℕ) → Taken t e → Fits t s → Tells ⊥ (happen t e s)
-  unfolding tick arbitrateMarked Through
+  unfolding tick arbitrateMarked
   happen-tells e s w h = go (happen t e) (event t e w) (happen-fits t f e s w h)
     where
       long : (s′ : List ℕ) → Fits t s′ → p < length s′
       long s′ k = let l = fits-length t s′ k in omega arith
 
       go : (g : List ℕ → Run) → Event t e g → Fits t (g s .state) → Tells ⊥ (g s)
-      go g (aTick k u) z = arbitrate-tells ⊥ _ _ (λ c. absurd c) (long _ (things-fit t f s h), λ c. absurd c)
+      go g (aTick k u) z = arbitrate-tells ⊥ _ _ (long _ (things-fit t f s h)) (λ c. absurd c)
       go g (aMode k u m n) z = request-tells _ _ s (long s h)
       go g (aRequest k u m) z = request-tells _ _ s (long s h)
       go g (aWakeup k u) z = told-by-none _ (long _ z)

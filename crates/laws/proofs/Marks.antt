@@ -1,21 +1,22 @@
 -- A port's mark under each write. No item, and no network, source or timer that moves, takes a mark away. Assumes nothing.
 use mathlib.Core.Path.{_≡_, refl, ap, _∙_}
-use mathlib.Core.Bool.{_&&_}
+use mathlib.Core.Bool.{Bool, true, false, _&&_}
 use mathlib.Core.List.{List}
-use Prim.Native.Nat.{ℕ, _<_}
+use Prim.Native.Nat.{ℕ, suc, _+_, _-_, _<_}
 use native.Mathlib.Omega.{arith}
 use native.Mathlib.Nat.{mod-eq-of-lt}
 use lib.ListN.{length, set, length-set}
 use lib.Seq.{getD-set-same, getD-set-other}
 use lib.Dec.{leb, eqb}
 use borrow.Author.Tests.{eqb-true, eqb-false}
-use Rattle.rulebook.specs.Words.{word}
-use Rattle.rulebook.specs.Table.{ports, networks, sources, portKind, portTimer, networkPort, sourcePort, itemA}
+use Rattle.rulebook.specs.Words.{word, each}
+use Rattle.rulebook.specs.Table.{ports, networks, sources, rules, portKind, portTimer, networkPort, sourcePort, itemA}
 use Rattle.rulebook.specs.State.{ruleIndex, networkIndex, sourceIndex, markedOf, valueOf, timerStarted, Network, statusPending, packPort, packSource}
 use Rattle.rulebook.specs.Lists.{setPort, networkIn, setNetwork, effect, setResult}
+use Rattle.rulebook.specs.Arbitration.{unmarkPort, unmarkPorts, evaluated, storeResult, storeResults}
 use Rattle.rulebook.specs.Events.{statusIn, setSource, moveSource, shown, moveNetwork, tickNetwork, remainingIn, tickSource, tickTimer, tickThings}
-use Rattle.laws.proofs.Tests.{split}
-use Rattle.laws.proofs.Walks.{each-keeps}
+use Rattle.laws.proofs.Tests.{split, clash}
+use Rattle.laws.proofs.Walks.{each-keeps, each-at}
 use Rattle.laws.proofs.Fields.{port-marked}
 use Rattle.laws.proofs.Cases.{effect-cases}
 
@@ -112,3 +113,39 @@ module _ (t : List ℕ) (p : ℕ) (b : p < ports t) where
       each-keeps (Marked p) (tickTimer t) 0 (ports t) _ (λ q x a e. timer-marks q x)
       (each-keeps (Marked p) (tickSource t) 0 (sources t) _ (λ k x a e. tick-source-marks k x)
       (each-keeps (Marked p) (tickNetwork t) 0 (networks t) s (λ n x a e. network-marks n _ x) h))
+
+  -- Before any list runs: the arbitrated ports are unmarked, the others left, and the results stored.
+
+  unmark-other : {m : ℕ} (q : ℕ → Bool) (j : ℕ) (x : List ℕ) → (p ≡ j → ⊥) → Mark p m x → Mark p m (unmarkPort q j x)
+  unfolding unmarkPort
+  unmark-other q j x n h = split (q j) (λ e. rw e (elsewhere p x j _ n h)) (λ e. rw e h)
+
+  pub unmark-others : {m : ℕ} (q : ℕ → Bool) (s : List ℕ) → q p ≡ false → Mark p m s → Mark p m (unmarkPorts t q s)
+  unfolding unmarkPorts unmarkPort
+  unmark-others {m} q s n h =
+      each-keeps (Mark p m) (unmarkPort q) 0 (ports t) s
+      (λ j x a e k. split (q j) (λ z. rw z (elsewhere p x j _ (λ same. clash z (rw same at n)) k)) (λ z. rw z k)) h
+
+  pub unmark-it : (q : ℕ → Bool) (s : List ℕ) → q p ≡ true → p < length s → Unmarked p (unmarkPorts t q s)
+  unfolding unmarkPorts unmarkPort
+  unmark-it q s e h =
+      let turn : ports t ≡ p + suc (ports t - (p + 1)) = omega arith in
+      rw (turn, each-at (unmarkPort q) p (ports t - (p + 1)) s)
+      (each-keeps (Unmarked p) (unmarkPort q) (suc p) _ _ (λ j x a c. unmark-other q j x (λ z. omega arith)) here)
+    where
+      before : List ℕ
+      before = each 0 p (unmarkPort q) s
+
+      long : Mark p (markedOf (word s p)) before
+      long =
+          each-keeps (Mark p (markedOf (word s p))) (unmarkPort q) 0 p s (λ j x a c. unmark-other q j x (λ z. omega arith))
+          (record { there = h; mark = refl })
+
+      here : Unmarked p (unmarkPort q p before)
+      here = rw e (word-packed p before _ 0 _ _ (omega arith) (long .there))
+
+  pub store-elsewhere : {m : ℕ} (q : ℕ → Bool) (s : List ℕ) → Mark p m s → Mark p m (storeResults t q s)
+  unfolding storeResults storeResult
+  store-elsewhere {m} q s h =
+      each-keeps (Mark p m) (storeResult t q s) 0 (rules t) s
+      (λ r x a e k. split (evaluated t q s r) (λ z. rw z (result-elsewhere r _ x k)) (λ z. rw z k)) h

@@ -3,24 +3,23 @@ use mathlib.Core.Path.{_≡_, sym, ap, _∙_}
 use mathlib.Core.Bool.{Bool, true, false, _&&_, _||_}
 use mathlib.Core.Logic.{_⊎_, inl, inr, ⊎-elim}
 use mathlib.Core.List.{List, [], _∷_, _++_, List·Memᴰ·head, Memᴰ·append-left, Memᴰ·append-right}
-use Prim.Native.Nat.{ℕ, suc, _+_, _-_, _<_}
+use Prim.Native.Nat.{ℕ, _<_}
 use native.Mathlib.Omega.{arith}
 use lib.ListN.{length, length-set}
 use lib.Dec.{eqb}
 use borrow.Author.Tests.{lt-ltb, eqb-true, eqb-false, eq-eqb}
-use Rattle.rulebook.specs.Words.{word, each}
-use Rattle.rulebook.specs.Table.{ports, networks, sources, items, rules, portKind, portMode, portEvent, portTimer, deferred, networkPort, sourcePort, listOwner}
+use Rattle.rulebook.specs.Words.{word}
+use Rattle.rulebook.specs.Table.{ports, networks, sources, items, portKind, portMode, portEvent, portTimer, deferred, networkPort, sourcePort, listOwner}
 use Rattle.rulebook.specs.Table.{itemKind, itemA, itemB, itemClear}
 use Rattle.rulebook.specs.State.{sourceIndex, markedOf, Network, statusNone, statusPending, statusExpired, packSource}
 use Rattle.rulebook.specs.Lists.{Run, start, setPort, networkIn, effect, act, setResult, judge}
-use Rattle.rulebook.specs.Arbitration.{unmarkPort, unmarkPorts, evaluated, storeResult, storeResults, arbitrate}
+use Rattle.rulebook.specs.Arbitration.{unmarkPorts, arbitrate}
 use Rattle.rulebook.specs.Events.{eventKind, eventIndex, eventValue, eventTick, only, request, statusIn, setSource, moveSource, wake, validate}
 use Rattle.rulebook.specs.Events.{clear, shown, moveNetwork, takes, busOff, tickThings, markedIn, arbitrateMarked, tick, happen}
 use Rattle.laws.specs.Facts.{Facts}
 use Rattle.laws.specs.Chosen.{setsPort}
 use Rattle.laws.specs.Cleared.{arbitrates, requestsLater, NoClear}
 use Rattle.laws.proofs.Tests.{split, clash, and-left, and-right, and-both, or-some}
-use Rattle.laws.proofs.Walks.{each-keeps, each-at}
 use Rattle.laws.proofs.Cases.{effect-cases}
 use Rattle.laws.proofs.Items.{start-there, stop-there, kind-is}
 use Rattle.laws.proofs.Runs.{item-there, KeptByActs, decide-keeps}
@@ -29,7 +28,8 @@ use Rattle.laws.proofs.Fit.{fits-length}
 use Rattle.laws.proofs.FitKept.{Fits}
 use Rattle.laws.proofs.FitEvents.{may-show, things-fit}
 use Rattle.laws.proofs.Happen.{Taken, Event, aTick, aMode, aRequest, aWakeup, aValid, aBusOff, aClear, event}
-use Rattle.laws.proofs.Marks.{Unmarked, elsewhere, port-elsewhere, word-packed, network-elsewhere, result-elsewhere, effect-length}
+use Rattle.laws.proofs.Marks.{Unmarked, elsewhere, port-elsewhere, network-elsewhere, result-elsewhere, effect-length}
+use Rattle.laws.proofs.Marks.{unmark-it, unmark-others, store-elsewhere}
 
 module _ (t : List ℕ) (f : Facts t) (p : ℕ) (b : p < ports t) (is : portKind t p ≡ portEvent) where
   -- Lists write no event's port but by a clear, which the trace tells.
@@ -72,43 +72,12 @@ module _ (t : List ℕ) (f : Facts t) (p : ℕ) (b : p < ports t) (is : portKind
 
   -- An arbitration that has p, or finds it unmarked.
 
-  unmark-long : (q : ℕ → Bool) (j : ℕ) (x : List ℕ) → length (unmarkPort q j x) ≡ length x
-  unfolding unmarkPort
-  unmark-long q j x = split (q j) (λ e. rw e (length-set x j _)) (λ e. rw e)
-
-  unmark-other : (q : ℕ → Bool) (j : ℕ) (x : List ℕ) → (p ≡ j → ⊥) → Unmarked p x → Unmarked p (unmarkPort q j x)
-  unfolding unmarkPort
-  unmark-other q j x n u = split (q j) (λ e. rw e (elsewhere p x j _ n u)) (λ e. rw e u)
-
-  unmark-quiet : (q : ℕ → Bool) (s : List ℕ) → p < length s → (q p ≡ true) ⊎ Unmarked p s → Unmarked p (unmarkPorts t q s)
-  unfolding unmarkPorts unmarkPort
-  unmark-quiet q s h why =
-      let split-here : ports t ≡ p + suc (ports t - (p + 1)) = omega arith in
-      rw (split-here, each-at (unmarkPort q) p (ports t - (p + 1)) s)
-      (each-keeps (Unmarked p) (unmarkPort q) (suc p) _ _ (λ j x a e. unmark-other q j x (λ z. omega arith)) here)
-    where
-      before : List ℕ
-      before = each 0 p (unmarkPort q) s
-
-      long : p < length before
-      long = each-keeps (λ x. p < length x) (unmarkPort q) 0 p s (λ j x a e k. rw (unmark-long q j x) k) h
-
-      here : Unmarked p (unmarkPort q p before)
-      here =
-          split (q p) (λ e. rw e (word-packed p before _ 0 _ _ (omega arith) long))
-          (λ e. rw e (⊎-elim (λ z. clash z e)
-          (λ u. each-keeps (Unmarked p) (unmarkPort q) 0 p s (λ j x a c. unmark-other q j x (λ z. omega arith)) u) why))
-
-  store-quiet : (q : ℕ → Bool) (s : List ℕ) → Unmarked p s → Unmarked p (storeResults t q s)
-  unfolding storeResults storeResult
-  store-quiet q s u =
-      each-keeps (Unmarked p) (storeResult t q s) 0 (rules t) s
-      (λ r x a e k. split (evaluated t q s r) (λ z. rw z (result-elsewhere t p b r _ x k)) (λ z. rw z k)) u
-
   arbitrate-quiet : (q : ℕ → Bool) (s : List ℕ) → p < length s → (q p ≡ true) ⊎ Unmarked p s → Quiet (arbitrate t q s)
   unfolding arbitrate
   arbitrate-quiet q s h why =
-      let u = store-quiet q (unmarkPorts t q s) (unmark-quiet q s h why) in
+      let it : q p ≡ true → Unmarked p (unmarkPorts t q s) = λ e. unmark-it t p b q s e h in
+      let unmarked = ⊎-elim it (λ u. split (q p) it (λ e. unmark-others t p b q s e u)) why in
+      let u = store-elsewhere t p b q (unmarkPorts t q s) unmarked in
       decide-keeps t f Quiet quiet-kept q (unmarkPorts t q s) (record { there = u .there; mark = λ n. u })
 
   -- Events: networks and sources write mode ports.
