@@ -1,5 +1,5 @@
--- What the demands conclude of one call of each entry: t, s, trace and e are handed in, the numbers answered, s′ and trace′ what is lent
--- afterwards.
+-- What the demands, and document 02's requests, conclude of one call of each entry: t, s, trace and e are handed in, the numbers
+-- answered, s′ and trace′ what is lent afterwards.
 use mathlib.Core.Path.{_≡_}
 use mathlib.Core.List.{List, [], _∷_, _++_}
 use mathlib.Core.Logic.{_↔_}
@@ -7,6 +7,7 @@ use Prim.Native.Nat.{ℕ}
 use lib.ListN.{take}
 use Rattle.laws.specs.Acceptance.{Rules}
 use Rattle.laws.specs.Chosen.{Arbitrated}
+use Rattle.laws.specs.Cleared.{ClearCounts}
 use Rattle.stranger.specs.Logs.{Entry, stateAfter}
 use Rattle.stranger.specs.Statements.{Demand3}
 use Rattle.demands.specs.Calls.{Played}
@@ -31,6 +32,8 @@ pub record OfEvent (t s trace : List ℕ) (e k n : ℕ) (s′ trace′ : List �
   pub answered : EventAnswered t s trace e k n s′ trace′
   pub steps : k ≡ 0 → Steps t s trace e n s′ trace′
   pub lists : k ≡ 0 → Arbitrated t e s s′ (take n trace′)
+  -- Q-2: "a clear marks the port .. for the next tick unless arbitrated sooner"
+  pub clears : k ≡ 0 → ClearCounts t e s s′ (take n trace′)
   -- the log goes on: calls that led from s₀ to s, and this one
   pub taken : k ≡ 0 → (s₀ : List ℕ) (xs : List Entry) → Played t s₀ xs → stateAfter s₀ xs ≡ s
       → Played t s₀ (xs ++ record { event = e; state = s′; words = take n trace′ } ∷ [])

@@ -3,7 +3,6 @@ pub mod Calls
 pub mod Demand1
 pub mod Demand2
 pub mod Demand3
-pub mod Cleared
 pub mod Conclusions
 pub mod TwoLists
 pub mod Idle

@@ -1,72 +1,74 @@
 -- A port that a list clears is marked when the event is done, and a mark stays until its port is arbitrated. Assumes nothing.
 use mathlib.Core.Path.{_≡_, refl, sym, ap, _∙_}
-use mathlib.Core.Bool.{Bool, true, false, _&&_, _||_, and-false}
+use mathlib.Core.Bool.{Bool, true, false, _&&_}
 use mathlib.Core.Logic.{_⊎_, inl, inr, ⊎-elim}
-use mathlib.Core.List.{List, [], _∷_, _++_, List·Memᴰ, List·Memᴰ·not-nil, List·Memᴰ·append-cases, List·Memᴰ·eq-of-singleton}
+use mathlib.Core.List.{List, [], _∷_, _++_, List·Memᴰ·not-nil, List·Memᴰ·append-cases, List·Memᴰ·eq-of-singleton}
 use Prim.Native.Nat.{ℕ, _%_, _≤_, _<_}
 use native.Mathlib.Omega.{arith}
 use native.Mathlib.Nat.{mod-eq-of-lt}
 use lib.ListN.{length, length-set}
-use lib.Dec.{ltb, eqb}
-use borrow.Author.Tests.{ltb-true, lt-ltb, eqb-true, eqb-false, eq-eqb, ne-eqb}
+use lib.Dec.{eqb}
+use borrow.Author.Tests.{ltb-true, eqb-true, eqb-false, eq-eqb, ne-eqb}
 use Rattle.rulebook.specs.Words.{word, field}
-use Rattle.rulebook.specs.Table.{ports, portKind, portEvent, deferred, ruleExpression, listOwner, itemKind, itemA, itemB, itemClear, itemRule}
+use Rattle.rulebook.specs.Table.{ports, portEvent, deferred, ruleExpression, listOwner, itemKind, itemA, itemB, itemClear, itemRule}
 use Rattle.rulebook.specs.Expressions.{deepest}
-use Rattle.rulebook.specs.State.{markedOf, statusNone, statusPending, statusExpired}
-use Rattle.rulebook.specs.Lists.{Run, start, traceWord, traceListStart, setPort, networkIn, effect, act, setResult, judge}
+use Rattle.rulebook.specs.State.{markedOf}
+use Rattle.rulebook.specs.Lists.{Run, start, traceWord, traceListStart, setPort, effect, act, setResult, judge}
 use Rattle.rulebook.specs.Arbitration.{unmarkPorts, arbitrate}
-use Rattle.rulebook.specs.Events.{eventKind, eventIndex, eventTick, only, request, statusIn, wake, validate, clear, takes, busOff, tickThings, markedIn}
+use Rattle.rulebook.specs.Events.{eventKind, eventIndex, eventTick, only, request, clear, tickThings, markedIn}
 use Rattle.rulebook.specs.Events.{arbitrateMarked, tick, happen}
 use Rattle.laws.specs.Facts.{Facts}
 use Rattle.laws.specs.Chosen.{setsPort}
-use Rattle.laws.specs.Cleared.{arbitrates, ClearCounts}
-use Rattle.laws.proofs.Tests.{split, clash, and-left, and-right, and-both, or-none}
+use Rattle.laws.specs.Cleared.{arbitrates, ClearTold, ClearCounts}
+use Rattle.laws.proofs.Tests.{split, clash, and-left, and-both, or-none}
 use Rattle.laws.proofs.Expressions.{mentions-more}
 use Rattle.laws.proofs.Fields.{digit-small, trace-kind, trace-a}
 use Rattle.laws.proofs.Items.{clear-there, port-there}
 use Rattle.laws.proofs.Runs.{Within, item-there, KeptByActs, decide-keeps}
-use Rattle.laws.proofs.Fit.{fits-length}
-use Rattle.laws.proofs.FitKept.{Fits}
+use Rattle.laws.proofs.FitKept.{Fits, port-long}
 use Rattle.laws.proofs.FitEvents.{things-fit, happen-fits}
+use Rattle.laws.proofs.Happen.{wake-cases, validate-cases, bus-off-cases}
 use Rattle.laws.proofs.Happen.{Taken, Event, aTick, aMode, aRequest, aWakeup, aValid, aBusOff, aClear, event}
-use Rattle.laws.proofs.Marks.{Marked, Unmarked, port-written, port-marked-again, result-elsewhere, effect-length, effect-marks}
-use Rattle.laws.proofs.Marks.{unmark-it, unmark-others, store-elsewhere}
-use Rattle.laws.proofs.Marks.{network-marks, source-marks, things-mark}
-use Rattle.laws.proofs.Unmarked.{marked-or-not, happen-quiet}
+use Rattle.laws.proofs.Marks.{Marked, shows, hides, shown-marked, hidden-unmarked, port-written, port-marked-again, result-elsewhere}
+use Rattle.laws.proofs.Marks.{effect-length, effect-marks, network-marks, source-marks, things-mark, unmark-it, unmark-others, store-elsewhere}
+use Rattle.laws.proofs.Unmarked.{happen-quiet}
 
 -- Lists: what the words so far tell of port p. C is whatever else its mark may come from.
 
-module _ (t : List ℕ) (f : Facts t) (o c p : ℕ) (b : p < ports t) where
-  abbrev cleared : ℕ
-  cleared = traceWord itemClear o p c
-
+module _ (t : List ℕ) (f : Facts t) (p : ℕ) (b : p < ports t) where
   record Tells (C : Type 0) (x : Run) : Type 0 where
     there : p < length (x .state)
-    mark : C ⊎ List·Memᴰ cleared (x .words) → Marked p (x .state)
+    mark : C ⊎ ClearTold p (x .words) → Marked p (x .state)
 
   clears-it : (i : ℕ) (s : List ℕ) → itemKind t i ≡ itemClear → itemA t i ≡ p → p < length s → Marked p (effect t i s)
   unfolding effect
   clears-it i s k a h = rw (k, a) (port-written p s 1 0 0 (omega arith) h)
 
+  -- v is no word of a clear of p
+  abbrev Apart : ℕ → Type 0
+  Apart v = (o : ℕ) → traceWord itemClear o p 0 ≡ v → ⊥
+
   -- one word more, of an act that is no clear of p
-  one-more : (C : Type 0) (v : ℕ) (ws : List ℕ) → (cleared ≡ v → ⊥) → C ⊎ List·Memᴰ cleared (ws ++ (v ∷ [])) → C ⊎ List·Memᴰ cleared ws
+  one-more : (C : Type 0) (v : ℕ) (ws : List ℕ) → Apart v → C ⊎ ClearTold p (ws ++ (v ∷ [])) → C ⊎ ClearTold p ws
   one-more C v ws n (inl c) = inl c
-  one-more C v ws n (inr m) = ⊎-elim (λ z. inr z) (λ z. absurd (n (List·Memᴰ·eq-of-singleton z))) (List·Memᴰ·append-cases ws m)
+  one-more C v ws n (inr m) =
+      ⊎-elim (λ z. inr (record { owner = m .owner; told = z })) (λ z. absurd (n (m .owner) (List·Memᴰ·eq-of-singleton z)))
+      (List·Memᴰ·append-cases ws (m .told))
 
-  kind-apart : (k o′ a c′ : ℕ) → (k % 16 ≡ itemClear → ⊥) → cleared ≡ traceWord k o′ a c′ → ⊥
-  kind-apart k o′ a c′ n e = n (sym (trace-kind k o′ a c′) ∙ ap (λ (w : ℕ). field 0 4 w) (sym e) ∙ trace-kind itemClear o p c)
+  kind-apart : (k o′ a c : ℕ) → (k % 16 ≡ itemClear → ⊥) → Apart (traceWord k o′ a c)
+  kind-apart k o′ a c n o e = n (sym (trace-kind k o′ a c) ∙ ap (λ (w : ℕ). field 0 4 w) (sym e) ∙ trace-kind itemClear o p 0)
 
-  port-apart : (k o′ a c′ : ℕ) → a < ports t → (a ≡ p → ⊥) → cleared ≡ traceWord k o′ a c′ → ⊥
-  port-apart k o′ a c′ h n e =
-      let same : a % 256 ≡ p % 256 = sym (trace-a k o′ a c′) ∙ ap (λ (w : ℕ). field 8 8 w) (sym e) ∙ trace-a itemClear o p c in
+  port-apart : (k o′ a c : ℕ) → a < ports t → (a ≡ p → ⊥) → Apart (traceWord k o′ a c)
+  port-apart k o′ a c h n o e =
+      let same : a % 256 ≡ p % 256 = sym (trace-a k o′ a c) ∙ ap (λ (w : ℕ). field 8 8 w) (sym e) ∙ trace-a itemClear o p 0 in
       let most : ports t ≤ 64 = f .counts .ports in
       n (omega arith)
 
-  act-marks : (C : Type 0) (l i : ℕ) (x : Run) → Within t l i → Tells C x → C ⊎ List·Memᴰ cleared (act t (listOwner t l) i x .words)
+  act-marks : (C : Type 0) (l i : ℕ) (x : Run) → Within t l i → Tells C x → C ⊎ ClearTold p (act t (listOwner t l) i x .words)
       → Marked p (effect t i (x .state))
   unfolding act
   act-marks C l i x w q c =
-      let no-clear : (cleared ≡ traceWord (itemKind t i) (listOwner t l) (itemA t i) (itemB t i) → ⊥) → Marked p (effect t i (x .state))
+      let no-clear : Apart (traceWord (itemKind t i) (listOwner t l) (itemA t i) (itemB t i)) → Marked p (effect t i (x .state))
       = λ n. effect-marks t p b i (x .state) (q .mark (one-more C _ (x .words) n c)) in
       split (eqb (itemKind t i) itemClear)
       (λ k. let is = eqb-true _ _ k in split (eqb (itemA t i) p)
@@ -105,7 +107,8 @@ module _ (t : List ℕ) (f : Facts t) (o c p : ℕ) (b : p < ports t) where
       decide-keeps t f (Tells C) (tells-kept C) q unmarked
       (record {
         there = store-elsewhere t p b q unmarked (record { there = long; mark = refl }) .there;
-        mark = ⊎-elim (λ c. store-elsewhere t p b q unmarked (unmark-others t p b q s (through c .0) (through c .1))) (λ m. absurd (List·Memᴰ·not-nil m));
+        mark = ⊎-elim (λ c. store-elsewhere t p b q unmarked (unmark-others t p b q s (through c .0) (through c .1)))
+            (λ m. absurd (List·Memᴰ·not-nil (m .told)));
       })
 
   -- a request of another port, or a deferred one
@@ -120,7 +123,7 @@ module _ (t : List ℕ) (f : Facts t) (o c p : ℕ) (b : p < ports t) where
   -- What an event's words tell.
 
   told-by-none : (s : List ℕ) → p < length s → Tells ⊥ (start s)
-  told-by-none s h = record { there = h; mark = ⊎-elim (λ c. absurd c) (λ m. absurd (List·Memᴰ·not-nil m)) }
+  told-by-none s h = record { there = h; mark = ⊎-elim (λ c. absurd c) (λ m. absurd (List·Memᴰ·not-nil (m .told))) }
 
   request-tells : (q v : ℕ) (s : List ℕ) → p < length s → Tells ⊥ (request t q v s)
   unfolding request setPort
@@ -133,7 +136,7 @@ module _ (t : List ℕ) (f : Facts t) (o c p : ℕ) (b : p < ports t) where
   happen-tells e s w h = go (happen t e) (event t e w) (happen-fits t f e s w h)
     where
       long : (s′ : List ℕ) → Fits t s′ → p < length s′
-      long s′ k = let l = fits-length t s′ k in omega arith
+      long s′ k = port-long t s′ k p b
 
       go : (g : List ℕ → Run) → Event t e g → Fits t (g s .state) → Tells ⊥ (g s)
       go g (aTick k u) z = arbitrate-tells ⊥ _ _ (long _ (things-fit t f s h)) (λ c. absurd c)
@@ -146,40 +149,35 @@ module _ (t : List ℕ) (f : Facts t) (o c p : ℕ) (b : p < ports t) where
 
   happen-waits : (e : ℕ) (s : List ℕ) → Taken t e → (eventKind e ≡ eventTick → ⊥) → (setsPort e ≡ true → eventIndex e ≡ p → deferred t p ≡ 1) → Marked p s
       → Marked p (happen t e s .state)
-  unfolding wake validate clear busOff
+  unfolding clear
   happen-waits e s w no-tick late h = go (happen t e) (event t e w)
     where
       go : (g : List ℕ → Run) → Event t e g → Marked p (g s .state)
       go g (aTick k u) = absurd (no-tick k)
       go g (aMode k u m n) = request-marks (eventIndex e) _ s (late (rw k)) h
       go g (aRequest k u m) = request-marks (eventIndex e) _ s (late (rw k)) h
-      go g (aWakeup k u) = split (eqb (statusIn t (eventIndex e) s) statusNone || eqb (statusIn t (eventIndex e) s) statusExpired)
-          (λ z. rw z (source-marks t p b _ _ _ s h)) (λ z. rw z h)
-      go g (aValid k u) = split (eqb (statusIn t (eventIndex e) s) statusPending) (λ z. rw z (source-marks t p b _ _ _ s h)) (λ z. rw z h)
-      go g (aBusOff k u) = split (takes (networkIn t (eventIndex e) s)) (λ z. rw z (network-marks t p b _ _ s h)) (λ z. rw z h)
+      go g (aWakeup k u) = wake-cases (Marked p) t _ s (λ status r. source-marks t p b _ status r s h) h
+      go g (aValid k u) = validate-cases (Marked p) t _ s (λ status r. source-marks t p b _ status r s h) h
+      go g (aBusOff k u) = bus-off-cases (Marked p) t _ s (λ c. network-marks t p b _ c s h) h
       go g (aClear k u) = source-marks t p b _ _ _ s h
 
 pub clear-counts : (t : List ℕ) → Facts t → (e : ℕ) (s : List ℕ) → Taken t e → Fits t s → ClearCounts t e s (happen t e s .state) (happen t e s .words)
 unfolding markedIn only
 clear-counts t f e s w h =
     record {
-      marks = λ o p c b m. shows p b (happen-tells t f o c p b e s w h .mark (inr m));
+      marks = λ p b m. shows t p b (happen-tells t f p b e s w h .mark (inr m));
       atTick = λ p r m. mentions-more t (only p) (markedIn t (tickThings t s))
-          (λ x e. rw (eqb-true x p e) (shows p (there p m) (things-mark t p (there p m) s (stands p m)))) deepest (ruleExpression t r);
-      waits = λ p m a. shows p (there p m) (happen-waits t f 0 0 p (there p m) e s w (no-tick p a) (late p a) (stands p m));
-      goes = λ p b k why r n. hides p (happen-quiet t f p b k e s w h (⊎-elim (λ a. inl a) (λ m. inr (unmarked p b k m)) why) r n);
+          (λ x e. rw (eqb-true x p e) (shows t p (there p m) (things-mark t p (there p m) s (stands p m)))) deepest (ruleExpression t r);
+      waits = λ p m a. shows t p (there p m) (happen-waits t f p (there p m) e s w (no-tick p a) (late p a) (stands p m));
+      goes = λ p b k why r n. hides t p b
+          (happen-quiet t f p b k e s w h (⊎-elim (λ a. inl a) (λ m. inr (hidden-unmarked t p b s (port-long t s h p b) m)) why) r n);
     }
   where
     there : (p : ℕ) → markedIn t s p ≡ true → p < ports t
     there p m = ltb-true _ _ (and-left _ (eqb (markedOf (word s p)) 1) m)
 
     stands : (p : ℕ) → markedIn t s p ≡ true → Marked p s
-    stands p m =
-        let l = fits-length t s h in let b = there p m in
-        record { there = omega arith; mark = eqb-true _ _ (and-right (ltb p (ports t)) _ m) }
-
-    shows : (p : ℕ) {s′ : List ℕ} → p < ports t → Marked p s′ → markedIn t s′ p ≡ true
-    shows p b m = and-both _ _ (lt-ltb _ _ b) (eq-eqb _ _ (m .mark))
+    stands p m = shown-marked t p (there p m) s (port-long t s h p (there p m)) m
 
     no-tick : (p : ℕ) → arbitrates t e p ≡ false → eventKind e ≡ eventTick → ⊥
     no-tick p a = eqb-false _ _ (or-none (eqb (eventKind e) eventTick) _ a .0)
@@ -190,11 +188,3 @@ clear-counts t f e s w h =
         (or-none (eqb (eventKind e) eventTick) _ a .1) in
         let small : deferred t p < 2 = digit-small _ 2 _ (omega arith) in
         omega arith
-
-    unmarked : (p : ℕ) → p < ports t → portKind t p ≡ portEvent → markedIn t s p ≡ false → Unmarked p s
-    unmarked p b k m =
-        let l = fits-length t s h in
-        ⊎-elim (λ z. clash z m) (λ u. u) (marked-or-not t f p b k s (omega arith))
-
-    hides : (p : ℕ) {s′ : List ℕ} → Unmarked p s′ → markedIn t s′ p ≡ false
-    hides p u = rw (u .mark, and-false)

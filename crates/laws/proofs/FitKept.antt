@@ -4,7 +4,7 @@ use mathlib.Core.Bool.{Bool, true, and-false}
 use mathlib.Core.List.{List}
 use Prim.Native.Nat.{ℕ, _-_, _≤_, _<_}
 use native.Mathlib.Omega.{arith}
-use lib.ListN.{set}
+use lib.ListN.{length, set}
 use lib.Dec.{leb, eqb}
 use borrow.Author.Tests.{leb-true, eqb-true, eq-eqb}
 use Rattle.rulebook.specs.Words.{word}
@@ -20,7 +20,7 @@ use Rattle.laws.proofs.Parts.{thing-port, thing-rule, thing-network, th
 use Rattle.laws.proofs.Fields.{digit-small}
 use Rattle.laws.proofs.Runs.{KeptByWrites, arbitrate-keeps}
 use Rattle.laws.proofs.Fit.{PortOk, port-ok, port-packed, rule-packed, NetworkOk, network-ok, network-packed, SourceOk, source-ok, source-packed}
-use Rattle.laws.proofs.Fit.{fits-word, fit-write}
+use Rattle.laws.proofs.Fit.{fits-length, fits-word, fit-write}
 
 abbrev pub Fits : List ℕ → List ℕ → Type 0
 Fits t s = fits t s ≡ true
@@ -38,6 +38,9 @@ module _ (t s : List ℕ) (h : Fits t s) where
   pub source-in : (k : ℕ) → k < sources t → SourceOk t k (statusOf (word s (sourceIndex t k))) (remainingOf (word s (sourceIndex t k)))
   unfolding thingFits
   source-in k b = source-ok t k (word s (sourceIndex t k)) (rw (thing-source t k) at (fits-word t s (sourceIndex t k) h (omega arith)))
+
+  pub port-long : (p : ℕ) → p < ports t → p < length s
+  port-long p b = let l = fits-length t s h in omega arith
 
   -- writes that fit
   pub port-put : (p d m v r : ℕ) → p < ports t → PortOk t p d m v r → Fits t (set s p (packPort d m v r))

@@ -10,10 +10,10 @@ use lib.Dec.{eqb}
 use borrow.Author.Tests.{ltb-true, leb-true, eqb-true, eqb-false, eq-eqb, ne-eqb, not-true}
 use Rattle.rulebook.specs.Table.{ports, networks, sources, portKind, portMode, portEvent, portOwner, networkOwner, sourceOwner, platform}
 use Rattle.rulebook.specs.Reasons.{held}
-use Rattle.rulebook.specs.State.{aPort, aNetwork, aSource, ownerOf}
-use Rattle.rulebook.specs.Lists.{Run, start}
+use Rattle.rulebook.specs.State.{aPort, aNetwork, aSource, ownerOf, Network, statusNone, statusPending, statusExpired}
+use Rattle.rulebook.specs.Lists.{Run, start, networkIn}
 use Rattle.rulebook.specs.Events.{eventKind, eventOwner, eventIndex, eventValue, eventTick, eventMode, eventRequest, eventWakeup, eventValid, eventBusOff}
-use Rattle.rulebook.specs.Events.{eventClear, highestKind, request, wake, validate, clear, busOff, tick, happen}
+use Rattle.rulebook.specs.Events.{eventClear, highestKind, request, statusIn, moveSource, wake, validate, clear, moveNetwork, takes, busOff, tick, happen}
 use Rattle.rulebook.specs.Step.{wellFormed, named, present, suited, known, sentByOwner, refusedEvent}
 use Rattle.laws.proofs.Tests.{split, part-of, and-left, and-right, implies-elim, or-some, or-elim}
 
@@ -126,6 +126,20 @@ module _ (t : List ℕ) (e : ℕ) (w : Taken t e) where
       → eventIndex e < sources t
   unfolding present
   source-index a b c d = ltb-true _ _ (rw (named-source b c d) at (there a))
+
+-- What an event of a source or a network does: it moves, or the state stays.
+
+pub wake-cases : (P : List ℕ → Type 0) (t : List ℕ) (k : ℕ) (s : List ℕ) → ((status r : ℕ) → P (moveSource t k status r s)) → P s → P (wake t k s)
+unfolding wake
+wake-cases P t k s f h = split (eqb (statusIn t k s) statusNone || eqb (statusIn t k s) statusExpired) (λ e. rw e (f _ _)) (λ e. rw e h)
+
+pub validate-cases : (P : List ℕ → Type 0) (t : List ℕ) (k : ℕ) (s : List ℕ) → ((status r : ℕ) → P (moveSource t k status r s)) → P s → P (validate t k s)
+unfolding validate
+validate-cases P t k s f h = split (eqb (statusIn t k s) statusPending) (λ e. rw e (f _ _)) (λ e. rw e h)
+
+pub bus-off-cases : (P : List ℕ → Type 0) (t : List ℕ) (n : ℕ) (s : List ℕ) → ((c : Network) → P (moveNetwork t n c s)) → P s → P (busOff t n s)
+unfolding busOff
+bus-off-cases P t n s f h = split (takes (networkIn t n s)) (λ e. rw e (f _)) (λ e. rw e h)
 
 -- The event as a view: a case a kind, what it does, and what is known of its index and its owner.
 

@@ -42,6 +42,11 @@ module _ (t : List ℕ) (i : ℕ) (h : itemNames t i ≡ true) where
   unfolding itemNames
   rule-there k = ltb-true _ _ (rw k at (part-of (implies (eqb (itemKind t i) itemRule) (ltb (itemA t i) (rules t))) (λ e. rw (itemNames, e, and-false) at h)))
 
+pub clear-alone : (t : List ℕ) (i : ℕ) → itemFields t i ≡ true → itemKind t i ≡ itemClear → itemB t i ≡ 0
+unfolding itemFields
+clear-alone t i h k =
+    eqb-true _ _ (rw k at (part-of (implies (between itemClear itemStop (itemKind t i)) (eqb (itemB t i) 0)) (λ e. rw (itemFields, e, and-false) at h)))
+
 pub mode-small : (t : List ℕ) (i : ℕ) → itemFields t i ≡ true → itemKind t i ≡ itemAsk → itemB t i ≤ 2
 unfolding itemFields
 mode-small t i h k = leb-true _ _ (rw k at (part-of (implies (eqb (itemKind t i) itemAsk) (leb (itemB t i) 2)) (λ e. rw (itemFields, e, and-false) at h)))

@@ -1,6 +1,7 @@
 -- A port's mark under each write. No item, and no network, source or timer that moves, takes a mark away. Assumes nothing.
 use mathlib.Core.Path.{_≡_, refl, ap, _∙_}
-use mathlib.Core.Bool.{Bool, true, false, _&&_}
+use mathlib.Core.Bool.{Bool, true, false, _&&_, and-false}
+use mathlib.Core.Logic.{_⊎_, inl, inr, ⊎-elim}
 use mathlib.Core.List.{List}
 use Prim.Native.Nat.{ℕ, suc, _+_, _-_, _<_}
 use native.Mathlib.Omega.{arith}
@@ -8,16 +9,16 @@ use native.Mathlib.Nat.{mod-eq-of-lt}
 use lib.ListN.{length, set, length-set}
 use lib.Seq.{getD-set-same, getD-set-other}
 use lib.Dec.{leb, eqb}
-use borrow.Author.Tests.{eqb-true, eqb-false}
+use borrow.Author.Tests.{lt-ltb, eqb-true, eqb-false, eq-eqb}
 use Rattle.rulebook.specs.Words.{word, each}
 use Rattle.rulebook.specs.Table.{ports, networks, sources, rules, portKind, portTimer, networkPort, sourcePort, itemA}
 use Rattle.rulebook.specs.State.{ruleIndex, networkIndex, sourceIndex, markedOf, valueOf, timerStarted, Network, statusPending, packPort, packSource}
 use Rattle.rulebook.specs.Lists.{setPort, networkIn, setNetwork, effect, setResult}
 use Rattle.rulebook.specs.Arbitration.{unmarkPort, unmarkPorts, evaluated, storeResult, storeResults}
-use Rattle.rulebook.specs.Events.{statusIn, setSource, moveSource, shown, moveNetwork, tickNetwork, remainingIn, tickSource, tickTimer, tickThings}
-use Rattle.laws.proofs.Tests.{split, clash}
+use Rattle.rulebook.specs.Events.{statusIn, setSource, moveSource, shown, moveNetwork, tickNetwork, remainingIn, tickSource, tickTimer, tickThings, markedIn}
+use Rattle.laws.proofs.Tests.{split, clash, and-both}
 use Rattle.laws.proofs.Walks.{each-keeps, each-at}
-use Rattle.laws.proofs.Fields.{port-marked}
+use Rattle.laws.proofs.Fields.{digit-small, port-marked}
 use Rattle.laws.proofs.Cases.{effect-cases}
 
 -- port p has its word, and in it the mark m
@@ -64,6 +65,28 @@ effect-length t i s =
     (λ k. refl)
 
 module _ (t : List ℕ) (p : ℕ) (b : p < ports t) where
+  -- the test for a mark, and the mark
+
+  pub shows : {s : List ℕ} → Marked p s → markedIn t s p ≡ true
+  unfolding markedIn
+  shows h = and-both _ _ (lt-ltb _ _ b) (eq-eqb _ _ (h .mark))
+
+  pub hides : {s : List ℕ} → Unmarked p s → markedIn t s p ≡ false
+  unfolding markedIn
+  hides h = rw (h .mark, and-false)
+
+  pub marked-or-not : (s : List ℕ) → p < length s → Marked p s ⊎ Unmarked p s
+  marked-or-not s h =
+      let small : markedOf (word s p) < 2 = digit-small _ 2 _ (omega arith) in
+      split (eqb (markedOf (word s p)) 1) (λ e. inl (record { there = h; mark = eqb-true _ _ e }))
+      (λ e. let n = eqb-false (markedOf (word s p)) 1 e in inr (record { there = h; mark = omega arith }))
+
+  pub shown-marked : (s : List ℕ) → p < length s → markedIn t s p ≡ true → Marked p s
+  shown-marked s h m = ⊎-elim (λ k. k) (λ u. clash m (hides u)) (marked-or-not s h)
+
+  pub hidden-unmarked : (s : List ℕ) → p < length s → markedIn t s p ≡ false → Unmarked p s
+  hidden-unmarked s h m = ⊎-elim (λ k. clash (shows k) m) (λ u. u) (marked-or-not s h)
+
   pub network-elsewhere : {m : ℕ} (n : ℕ) (c : Network) (s : List ℕ) → Mark p m s → Mark p m (setNetwork t n c s)
   unfolding setNetwork
   network-elsewhere n c s h = elsewhere p s (networkIndex t n) _ (λ e. omega arith) h

@@ -1,34 +1,33 @@
 -- The mark of an event's port goes with its arbitration, and comes by a clear or a deferred request alone. Assumes nothing.
 use mathlib.Core.Path.{_≡_, sym, ap, _∙_}
-use mathlib.Core.Bool.{Bool, true, false, _&&_, _||_}
+use mathlib.Core.Bool.{Bool, true, false, _&&_}
 use mathlib.Core.Logic.{_⊎_, inl, inr, ⊎-elim}
 use mathlib.Core.List.{List, [], _∷_, _++_, List·Memᴰ·head, Memᴰ·append-left, Memᴰ·append-right}
 use Prim.Native.Nat.{ℕ, _<_}
 use native.Mathlib.Omega.{arith}
 use lib.ListN.{length, length-set}
 use lib.Dec.{eqb}
-use borrow.Author.Tests.{lt-ltb, eqb-true, eqb-false, eq-eqb}
-use Rattle.rulebook.specs.Words.{word}
+use borrow.Author.Tests.{eqb-true, eqb-false, eq-eqb}
 use Rattle.rulebook.specs.Table.{ports, networks, sources, items, portKind, portMode, portEvent, portTimer, deferred, networkPort, sourcePort, listOwner}
 use Rattle.rulebook.specs.Table.{itemKind, itemA, itemB, itemClear}
-use Rattle.rulebook.specs.State.{sourceIndex, markedOf, Network, statusNone, statusPending, statusExpired, packSource}
+use Rattle.rulebook.specs.State.{sourceIndex, Network, packSource}
 use Rattle.rulebook.specs.Lists.{Run, start, setPort, networkIn, effect, act, setResult, judge}
 use Rattle.rulebook.specs.Arbitration.{unmarkPorts, arbitrate}
-use Rattle.rulebook.specs.Events.{eventKind, eventIndex, eventValue, eventTick, only, request, statusIn, setSource, moveSource, wake, validate}
-use Rattle.rulebook.specs.Events.{clear, shown, moveNetwork, takes, busOff, tickThings, markedIn, arbitrateMarked, tick, happen}
+use Rattle.rulebook.specs.Events.{eventKind, eventIndex, eventValue, eventTick, only, request, statusIn, setSource, moveSource}
+use Rattle.rulebook.specs.Events.{clear, shown, moveNetwork, tickThings, arbitrateMarked, tick, happen}
 use Rattle.laws.specs.Facts.{Facts}
 use Rattle.laws.specs.Chosen.{setsPort}
-use Rattle.laws.specs.Cleared.{arbitrates, requestsLater, NoClear}
+use Rattle.laws.specs.Cleared.{arbitrates, requestsLater, ClearTold}
 use Rattle.laws.proofs.Tests.{split, clash, and-left, and-right, and-both, or-some}
 use Rattle.laws.proofs.Cases.{effect-cases}
-use Rattle.laws.proofs.Items.{start-there, stop-there, kind-is}
-use Rattle.laws.proofs.Runs.{item-there, KeptByActs, decide-keeps}
+use Rattle.laws.proofs.Items.{clear-alone, start-there, stop-there, kind-is}
+use Rattle.laws.proofs.Runs.{Within, item-there, KeptByActs, decide-keeps}
 use Rattle.laws.proofs.Fields.{digit-small}
-use Rattle.laws.proofs.Fit.{fits-length}
-use Rattle.laws.proofs.FitKept.{Fits}
+use Rattle.laws.proofs.FitKept.{Fits, port-long}
 use Rattle.laws.proofs.FitEvents.{may-show, things-fit}
+use Rattle.laws.proofs.Happen.{wake-cases, validate-cases, bus-off-cases}
 use Rattle.laws.proofs.Happen.{Taken, Event, aTick, aMode, aRequest, aWakeup, aValid, aBusOff, aClear, event}
-use Rattle.laws.proofs.Marks.{Unmarked, elsewhere, port-elsewhere, network-elsewhere, result-elsewhere, effect-length}
+use Rattle.laws.proofs.Marks.{Unmarked, shows, marked-or-not, elsewhere, port-elsewhere, network-elsewhere, result-elsewhere, effect-length}
 use Rattle.laws.proofs.Marks.{unmark-it, unmark-others, store-elsewhere}
 
 module _ (t : List ℕ) (f : Facts t) (p : ℕ) (b : p < ports t) (is : portKind t p ≡ portEvent) where
@@ -36,10 +35,10 @@ module _ (t : List ℕ) (f : Facts t) (p : ℕ) (b : p < ports t) (is : portKind
 
   record Quiet (x : Run) : Type 0 where
     there : p < length (x .state)
-    mark : NoClear p (x .words) → Unmarked p (x .state)
+    mark : (ClearTold p (x .words) → ⊥) → Unmarked p (x .state)
 
-  fewer : (v : ℕ) (ws : List ℕ) → NoClear p (ws ++ (v ∷ [])) → NoClear p ws
-  fewer v ws n o c m = n o c (Memᴰ·append-left (v ∷ []) m)
+  fewer : (v : ℕ) (ws : List ℕ) → (ClearTold p (ws ++ (v ∷ [])) → ⊥) → ClearTold p ws → ⊥
+  fewer v ws n c = n (record { owner = c .owner; told = Memᴰ·append-left (v ∷ []) (c .told) })
 
   of-kind : (q k : ℕ) → portKind t q ≡ k → (portEvent ≡ k → ⊥) → p ≡ q → ⊥
   of-kind q k h n e = n (sym is ∙ ap (λ (x : ℕ). portKind t x) e ∙ h)
@@ -52,6 +51,9 @@ module _ (t : List ℕ) (f : Facts t) (p : ℕ) (b : p < ports t) (is : portKind
       (λ k. port-elsewhere p s (itemA t i) 1 _ 0 (of-kind _ portTimer (kind-is t portTimer _ (stop-there t i named k)) (λ z. omega arith)) u)
       (λ k. network-elsewhere t p b (itemA t i) _ s u) (λ k. u)
 
+  bare : (l i : ℕ) → Within t l i → itemKind t i ≡ itemClear → itemB t i ≡ 0
+  bare l i w k = clear-alone t i (f .item i (item-there t f l i w) .0) k
+
   quiet-kept : KeptByActs t Quiet
   unfolding act judge setResult
   quiet-kept =
@@ -60,7 +62,8 @@ module _ (t : List ℕ) (f : Facts t) (p : ℕ) (b : p < ports t) (is : portKind
         act = λ l i x w g h q. record {
           there = rw (effect-length t i (x .state)) (q .there);
           mark = λ n. effect-quiet i (x .state) (item-there t f l i w)
-              (λ k a. n (listOwner t l) (itemB t i) (Memᴰ·append-right (x .words) (List·Memᴰ·head (rw (k, a))))) (q .mark (fewer _ (x .words) n));
+              (λ k a. n (record { owner = listOwner t l; told = Memᴰ·append-right (x .words) (List·Memᴰ·head (rw (k, a, bare l i w k))) }))
+              (q .mark (fewer _ (x .words) n));
         };
         undefined = λ l i x w e q. record { there = q .there; mark = λ n. q .mark (fewer _ (x .words) n) };
         judge = λ l i x w e u q. record {
@@ -124,37 +127,27 @@ module _ (t : List ℕ) (f : Facts t) (p : ℕ) (b : p < ports t) (is : portKind
       let now : deferred t p ≡ 0 = omega arith in
       ap (λ (x : ℕ). deferred t x) (sym z) ∙ now
 
-  pub marked-or-not : (s : List ℕ) → p < length s → (markedIn t s p ≡ true) ⊎ Unmarked p s
-  unfolding markedIn
-  marked-or-not s h =
-      split (eqb (markedOf (word s p)) 1) (λ e. inl (and-both _ _ (lt-ltb _ _ b) e))
-      (λ e. let n = eqb-false (markedOf (word s p)) 1 e in let small : markedOf (word s p) < 2 = digit-small _ 2 _ (omega arith) in
-      inr (record { there = h; mark = omega arith }))
-
   pub happen-quiet : (e : ℕ) (s : List ℕ) → Taken t e → Fits t s → (arbitrates t e p ≡ true) ⊎ Unmarked p s → requestsLater t e p ≡ false
-      → NoClear p (happen t e s .words) → Unmarked p (happen t e s .state)
-  unfolding tick arbitrateMarked wake validate clear busOff
+      → (ClearTold p (happen t e s .words) → ⊥) → Unmarked p (happen t e s .state)
+  unfolding tick arbitrateMarked clear
   happen-quiet e s w h why late = go (happen t e) (event t e w) .mark
     where
-      long : (s′ : List ℕ) → Fits t s′ → p < length s′
-      long s′ k = let l = fits-length t s′ k in omega arith
-
       -- of an event that sets no port
       still : (eventKind e ≡ eventTick → ⊥) → setsPort e ≡ false → Unmarked p s
       still n k = ⊎-elim (λ a. clash (own-port e n a .0) k) (λ u. u) why
 
       asked : (v : ℕ) → (eventKind e ≡ eventTick → ⊥) → setsPort e ≡ true → Quiet (request t (eventIndex e) v s)
-      asked v n sets = request-quiet (eventIndex e) v s (long s h) (at-once e sets late) (⊎-elim (λ a. inl (own-port e n a .1)) (λ u. inr u) why)
+      asked v n sets = request-quiet (eventIndex e) v s (port-long t s h p b) (at-once e sets late) (⊎-elim (λ a. inl (own-port e n a .1)) (λ u. inr u) why)
 
       go : (g : List ℕ → Run) → Event t e g → Quiet (g s)
-      go g (aTick k u) = arbitrate-quiet _ (tickThings t s) (long _ (things-fit t f s h)) (marked-or-not (tickThings t s) (long _ (things-fit t f s h)))
+      go g (aTick k u) = let long = port-long t (tickThings t s) (things-fit t f s h) p b in
+          arbitrate-quiet _ (tickThings t s) long (⊎-elim (λ m. inl (shows t p b m)) (λ m. inr m) (marked-or-not t p b (tickThings t s) long))
       go g (aMode k u m n) = asked (eventValue e) (λ z. omega arith) (rw k)
       go g (aRequest k u m) = asked 1 (λ z. omega arith) (rw k)
-      go g (aWakeup k u) = let v = still (λ z. omega arith) (rw k) in unmarked-quiet _
-          (split (eqb (statusIn t (eventIndex e) s) statusNone || eqb (statusIn t (eventIndex e) s) statusExpired)
-          (λ z. rw z (source-quiet _ _ _ s (u .there) v)) (λ z. rw z v))
-      go g (aValid k u) = let v = still (λ z. omega arith) (rw k) in unmarked-quiet _
-          (split (eqb (statusIn t (eventIndex e) s) statusPending) (λ z. rw z (source-quiet _ _ _ s (u .there) v)) (λ z. rw z v))
-      go g (aBusOff k u) = let v = still (λ z. omega arith) (rw k) in unmarked-quiet _
-          (split (takes (networkIn t (eventIndex e) s)) (λ z. rw z (network-quiet _ _ s (u .there) v)) (λ z. rw z v))
+      go g (aWakeup k u) = let v = still (λ z. omega arith) (rw k) in
+          unmarked-quiet _ (wake-cases (Unmarked p) t _ s (λ status r. source-quiet _ status r s (u .there) v) v)
+      go g (aValid k u) = let v = still (λ z. omega arith) (rw k) in
+          unmarked-quiet _ (validate-cases (Unmarked p) t _ s (λ status r. source-quiet _ status r s (u .there) v) v)
+      go g (aBusOff k u) = let v = still (λ z. omega arith) (rw k) in
+          unmarked-quiet _ (bus-off-cases (Unmarked p) t _ s (λ c. network-quiet _ c s (u .there) v) v)
       go g (aClear k u) = unmarked-quiet _ (source-quiet _ _ _ s (u .there) (still (λ z. omega arith) (rw k)))

@@ -20,13 +20,14 @@ arbitrates t e p = eqb (eventKind e) eventTick || setsPort e && eqb (eventIndex 
 abbrev pub requestsLater : List ℕ → ℕ → ℕ → Bool
 requestsLater t e p = setsPort e && eqb (eventIndex e) p && eqb (deferred t p) 1
 
--- the trace tells of no clear of port p, in whosever list
-abbrev pub NoClear : ℕ → List ℕ → Type 0
-NoClear p ws = (o b : ℕ) → List·Memᴰ (traceWord itemClear o p b) ws → ⊥
+-- the trace tells of a clear of port p, in whosever list
+pub record ClearTold (p : ℕ) (ws : List ℕ) : Type 0 where
+  pub owner : ℕ
+  pub told : List·Memᴰ (traceWord itemClear owner p 0) ws
 
 pub record ClearCounts (t : List ℕ) (e : ℕ) (s s′ ws : List ℕ) : Type 0 where
   -- "a clear marks the port": each that the trace tells was cleared, in its own arbitration too
-  pub marks : (o p b : ℕ) → p < ports t → List·Memᴰ (traceWord itemClear o p b) ws → markedIn t s′ p ≡ true
+  pub marks : (p : ℕ) → p < ports t → ClearTold p ws → markedIn t s′ p ≡ true
   -- "for the next tick": a rule on a marked port mentions one that the tick arbitrates; what it runs then is `Arbitrated`'s (allMarked)
   pub atTick : (p r : ℕ) → markedIn t s p ≡ true → mentions deepest t (only p) (ruleExpression t r) ≡ true
       → mentions deepest t (markedIn t (tickThings t s)) (ruleExpression t r) ≡ true
@@ -34,4 +35,4 @@ pub record ClearCounts (t : List ℕ) (e : ℕ) (s s′ ws : List ℕ) : Type 0 
   pub waits : (p : ℕ) → markedIn t s p ≡ true → arbitrates t e p ≡ false → markedIn t s′ p ≡ true
   -- and no longer: the arbitration takes an event's mark, and no other comes but by a clear or a deferred request
   pub goes : (p : ℕ) → p < ports t → portKind t p ≡ portEvent → (arbitrates t e p ≡ true) ⊎ (markedIn t s p ≡ false) → requestsLater t e p ≡ false
-      → NoClear p ws → markedIn t s′ p ≡ false
+      → (ClearTold p ws → ⊥) → markedIn t s′ p ≡ false

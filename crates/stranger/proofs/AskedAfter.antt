@@ -13,9 +13,9 @@ use Rattle.rulebook.specs.Words.{word, digit}
 use Rattle.rulebook.specs.Table.{ports, networks, sources, portKind, portEvent, portTimer, networkPort, sourcePort}
 use Rattle.rulebook.specs.Reasons.{accepted}
 use Rattle.rulebook.specs.State.{fresh, networkIndex, sourceIndex, valueOf, askedNone, askedSilent, askedFull, stateNone, stateSilent, stateCheck}
-use Rattle.rulebook.specs.State.{stateRecover, statusNone, statusPending, statusExpired, timerStarted, Network, networkOf, packNetwork}
-use Rattle.rulebook.specs.Lists.{Run, setPort, networkIn, setNetwork}
-use Rattle.rulebook.specs.Events.{eventIndex, eventValue, only, request, statusIn, setSource, moveSource, wake, validate, clear, shown, moveNetwork, takes}
+use Rattle.rulebook.specs.State.{stateRecover, statusPending, timerStarted, Network, networkOf, packNetwork}
+use Rattle.rulebook.specs.Lists.{Run, start, setPort, networkIn, setNetwork}
+use Rattle.rulebook.specs.Events.{eventIndex, eventValue, only, request, statusIn, setSource, moveSource, clear, shown, moveNetwork, takes}
 use Rattle.rulebook.specs.Events.{counterPlusOne, offBus, busOff, countedNetwork, tickedNetwork, tickNetwork, remainingIn, tickSource, tickTimer, tickThings}
 use Rattle.rulebook.specs.Events.{arbitrateMarked, tick, happen}
 use Rattle.laws.specs.Facts.{Facts}
@@ -27,7 +27,7 @@ use Rattle.laws.proofs.Fields.{digit-small}
 use Rattle.laws.proofs.Fit.{NetworkOk, network-again, network-small, fits-length}
 use Rattle.laws.proofs.FitKept.{Fits, network-in}
 use Rattle.laws.proofs.FitEvents.{may-show, things-fit, ticked-ok, off-bus-ok, tick-network-fits, request-cases}
-use Rattle.laws.proofs.Happen.{Taken, Event, aTick, aMode, aRequest, aWakeup, aValid, aBusOff, aClear, event}
+use Rattle.laws.proofs.Happen.{wake-cases, validate-cases, Taken, Event, aTick, aMode, aRequest, aWakeup, aValid, aBusOff, aClear, event}
 use Rattle.stranger.specs.Logs.{Entry, Log, stateAfter}
 use Rattle.stranger.specs.Demand.{lastAsked, lastAskedIn}
 use Rattle.stranger.proofs.Logs.{taken, entry-fits}
@@ -134,12 +134,11 @@ module _ (t : List ℕ) (f : Facts t) (n : ℕ) (b : n < networks t) where
           by-request (eventIndex e) (eventValue e) (of .there) (λ z. omega arith) (digit-small _ 256 _ (omega arith)) (λ z. absurd (omega arith))
       go g (aRequest k of m) = by-request (eventIndex e) 1 (of .there) (λ z. omega arith) (omega arith) (λ z. omega arith)
       go g (aWakeup k of) =
-          unfold wake lastAsked in
-          split (eqb (statusIn t (eventIndex e) s) statusNone || eqb (statusIn t (eventIndex e) s) statusExpired)
-          (λ d. rw d (asks-source _ (eventIndex e) _ _ s (of .there) refl)) (λ d. rw d refl)
+          unfold lastAsked in
+          wake-cases (λ x. AskedBy s (start x)) t (eventIndex e) s (λ status r. asks-source _ (eventIndex e) status r s (of .there) refl) refl
       go g (aValid k of) =
-          unfold validate lastAsked in
-          split (eqb (statusIn t (eventIndex e) s) statusPending) (λ d. rw d (asks-source _ (eventIndex e) _ _ s (of .there) refl)) (λ d. rw d refl)
+          unfold lastAsked in
+          validate-cases (λ x. AskedBy s (start x)) t (eventIndex e) s (λ status r. asks-source _ (eventIndex e) status r s (of .there) refl) refl
       go g (aBusOff k of) =
           unfold busOff lastAsked in split (takes (networkIn t (eventIndex e) s)) (λ d. rw d (bus-off-asks (eventIndex e) (of .there))) (λ d. rw d refl)
       go g (aClear k of) = unfold clear lastAsked in asks-source _ (eventIndex e) _ _ s (of .there) refl

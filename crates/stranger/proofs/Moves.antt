@@ -28,7 +28,7 @@ use Rattle.laws.proofs.Fields.{digit-small, port-defined, port-value, source-st
 use Rattle.laws.proofs.Fit.{NetworkOk, network-again, network-small, fits-length}
 use Rattle.laws.proofs.FitKept.{Fits, network-in}
 use Rattle.laws.proofs.FitEvents.{MayShow, things-fit, ticked-ok, off-bus-ok, shown-small, woken-ok, tick-network-fits, tick-source-fits, request-cases}
-use Rattle.laws.proofs.Happen.{Taken, OfPort, Event, aTick, aMode, aRequest, aWakeup, aValid, aBusOff, aClear, event}
+use Rattle.laws.proofs.Happen.{wake-cases, validate-cases, bus-off-cases, Taken, OfPort, Event, aTick, aMode, aRequest, aWakeup, aValid, aBusOff, aClear, event}
 use Rattle.stranger.proofs.Holders.{Holder, network-holder, source-holder, Cells, cells-refl, cells-write, other-network, other-source}
 use Rattle.stranger.proofs.Holders.{other-tick-network, other-tick-source, timers-keep}
 use Rattle.stranger.proofs.Arbitrated.{port-still, source-still, Core, network-still}
@@ -224,14 +224,10 @@ module _ (t : List ℕ) (f : Facts t) (n : ℕ) (b : n < networks t) where
   network-by-nothing s = by-nothing t f _ _ coreOf shownBy held-network s
 
   network-by-wake : (k : ℕ) (s : List ℕ) → k < sources t → NetworkMoves (networkIn t n s) s (wake t k s)
-  unfolding wake
-  network-by-wake k s c =
-      split (eqb (statusIn t k s) statusNone || eqb (statusIn t k s) statusExpired) (λ e. rw e (network-by-source k _ _ s c))
-      (λ e. rw e (network-by-nothing s))
+  network-by-wake k s c = wake-cases (NetworkMoves (networkIn t n s) s) t k s (λ status r. network-by-source k status r s c) (network-by-nothing s)
 
   network-by-valid : (k : ℕ) (s : List ℕ) → k < sources t → NetworkMoves (networkIn t n s) s (validate t k s)
-  unfolding validate
-  network-by-valid k s c = split (eqb (statusIn t k s) statusPending) (λ e. rw e (network-by-source k _ _ s c)) (λ e. rw e (network-by-nothing s))
+  network-by-valid k s c = validate-cases (NetworkMoves (networkIn t n s) s) t k s (λ status r. network-by-source k status r s c) (network-by-nothing s)
 
   network-by-bus-off : (e : ℕ) (s : List ℕ) → eventKind e ≡ eventBusOff → eventIndex e < networks t → Fits t s
       → NetworkMoves (nextNetwork e s) s (busOff t (eventIndex e) s)
@@ -356,8 +352,8 @@ module _ (t : List ℕ) (f : Facts t) (k : ℕ) (b : k < sources t) where
       (λ a. let same : m ≡ k = eqb-true _ _ a in rw (a, same)
       (split (eqb (statusIn t k s) statusNone || eqb (statusIn t k s) statusExpired)
       (λ e. rw e (source-moved _ _ s s fit (woken-ok t f k .status₂) (cells-refl _ _ s))) (λ e. rw e (source-by-nothing s))))
-      (λ a. rw a (split (eqb (statusIn t m s) statusNone || eqb (statusIn t m s) statusExpired)
-      (λ e. rw e (by-source t f _ _ wordOf _ held-source m _ _ s c (other-index m (eqb-false _ _ a)))) (λ e. rw e (source-by-nothing s))))
+      (λ a. rw a (wake-cases (SourceMoves (word s (sourceIndex t k)) s) t m s
+      (λ status r. by-source t f _ _ wordOf _ held-source m status r s c (other-index m (eqb-false _ _ a))) (source-by-nothing s)))
 
   source-by-valid : (m : ℕ) (s : List ℕ) → m < sources t → Fits t s
       → SourceMoves (cond (eqb m k) (validSource (word s (sourceIndex t k))) (word s (sourceIndex t k))) s (validate t m s)
@@ -367,8 +363,8 @@ module _ (t : List ℕ) (f : Facts t) (k : ℕ) (b : k < sources t) where
       (λ a. let same : m ≡ k = eqb-true _ _ a in rw (a, same)
       (split (eqb (statusIn t k s) statusPending) (λ e. rw e (source-moved statusValidated 0 s s fit (omega arith) (cells-refl _ _ s)))
       (λ e. rw e (source-by-nothing s))))
-      (λ a. rw a (split (eqb (statusIn t m s) statusPending)
-      (λ e. rw e (by-source t f _ _ wordOf _ held-source m _ _ s c (other-index m (eqb-false _ _ a)))) (λ e. rw e (source-by-nothing s))))
+      (λ a. rw a (validate-cases (SourceMoves (word s (sourceIndex t k)) s) t m s
+      (λ status r. by-source t f _ _ wordOf _ held-source m status r s c (other-index m (eqb-false _ _ a))) (source-by-nothing s)))
 
   source-by-clear : (m : ℕ) (s : List ℕ) → m < sources t → Fits t s
       → SourceMoves (cond (eqb m k) (packSource statusNone 0) (word s (sourceIndex t k))) s (clear t m s)
@@ -379,9 +375,9 @@ module _ (t : List ℕ) (f : Facts t) (k : ℕ) (b : k < sources t) where
       (λ a. rw a (by-source t f _ _ wordOf _ held-source m _ _ s c (other-index m (eqb-false _ _ a))))
 
   source-by-bus-off : (n : ℕ) (s : List ℕ) → n < networks t → SourceMoves (word s (sourceIndex t k)) s (busOff t n s)
-  unfolding busOff
   source-by-bus-off n s c =
-      split (takes (networkIn t n s)) (λ d. rw d (by-network t f _ _ wordOf _ held-source n _ s c (λ z. omega arith))) (λ d. rw d (source-by-nothing s))
+      bus-off-cases (SourceMoves (word s (sourceIndex t k)) s) t n s (λ d. by-network t f _ _ wordOf _ held-source n d s c (λ z. omega arith))
+      (source-by-nothing s)
 
   pub source-moves : (e : ℕ) (s : List ℕ) → Taken t e → Fits t s → SourceMoves (nextSource e s) s (happen t e s .state)
   source-moves e s w fit = go (happen t e) (event t e w)
