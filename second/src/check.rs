@@ -77,13 +77,9 @@ fn breaks_own_fields(word: Word) -> bool {
         Word::Network(network) => network.zero != 0,
         Word::Waits(waits) => waits.l1 == 0 || waits.l2 == 0 || waits.e_ticks == 0,
         Word::Source(source) => source.zero != 0,
-        Word::Expression(Expression::Condition(condition)) => {
-            let valueless = condition.kind >= expression::SET;
-            condition.zero != 0 || (valueless && condition.value != 0)
-        }
+        Word::Expression(Expression::Condition(c)) => condition_breaks_own_fields(c),
         Word::Expression(Expression::Operator(operator)) => {
-            let rightless = operator.kind == expression::NOT;
-            operator.kind > expression::NOT || (rightless && operator.right != 0)
+            operator.kind == expression::NOT && operator.right != 0
         }
         Word::Rule(rule) => rule.first > UNDEFINED,
         Word::List(list) => list.count == 0,
@@ -98,6 +94,16 @@ fn port_breaks_own_fields(port: Port) -> bool {
         || (port.has_initial == 0 && port.initial != 0)
         || timer != (port.reload >= 1)
         || (timer && port.deferred == 0)
+}
+
+fn condition_breaks_own_fields(condition: Condition) -> bool {
+    let value_breaks = match condition.kind {
+        expression::EQUAL | expression::NOT_EQUAL | expression::AT_OR_ABOVE => false,
+        expression::SET | expression::CLEARED => condition.value != 0,
+        // There is no such kind.
+        _ => true,
+    };
+    value_breaks || condition.zero != 0
 }
 
 fn item_breaks_own_fields(item: Item) -> bool {
@@ -120,8 +126,7 @@ fn names_wrongly(table: &Table, thing_ports: &[u32], number: usize, word: Word) 
             unfit_port(table, source.port, &thing_ports[..earlier])
         }
         Word::Expression(Expression::Condition(condition)) => {
-            let wants_event = condition.kind >= expression::SET;
-            !has_port(table, condition.port, |kind| (kind == port::EVENT) == wants_event)
+            !has_port(table, condition.port, |kind| may_be_on(condition, kind))
         }
         Word::Expression(operator) => {
             operator.arguments().any(|argument| absent(Section::Expressions, argument))
@@ -144,6 +149,16 @@ fn names_wrongly(table: &Table, thing_ports: &[u32], number: usize, word: Word) 
                 _ => false,
             }
         }
+    }
+}
+
+/// Whether a port of this kind is one that the condition wants.
+fn may_be_on(condition: Condition, port: u32) -> bool {
+    match condition.kind {
+        expression::EQUAL | expression::NOT_EQUAL => port != port::EVENT,
+        expression::SET | expression::CLEARED => port == port::EVENT,
+        // At or above; reason 5 has refused all others.
+        _ => port == port::MODE,
     }
 }
 

@@ -1,6 +1,6 @@
 //! Expressions: what they mention, what they give, and nesting in general.
 
-use crate::words::{Expression, LEVELS, Table, expression};
+use crate::words::{Condition, Expression, LEVELS, Table, expression};
 
 /// The depth of each thing, given what each names: 1 plus the deepest it
 /// names; None where that is above seven or without end. Found level by level,
@@ -33,15 +33,7 @@ pub fn mentions(table: &Table, number: usize, wanted: &dyn Fn(usize) -> bool) ->
 pub fn evaluate(table: &Table, number: usize, value: &dyn Fn(usize) -> u32) -> bool {
     let argument = |number: u32| evaluate(table, number as usize, value);
     match table.expression(number) {
-        Expression::Condition(condition) => {
-            let value = value(condition.port as usize);
-            match condition.kind {
-                expression::EQUAL => value == condition.value,
-                expression::NOT_EQUAL => value != condition.value,
-                expression::SET => value == 1,
-                _ => value == 0,
-            }
-        }
+        Expression::Condition(condition) => holds(condition, value(condition.port as usize)),
         Expression::Operator(operator) => match operator.kind {
             expression::AND => argument(operator.left) & argument(operator.right),
             expression::OR => argument(operator.left) | argument(operator.right),
@@ -49,5 +41,17 @@ pub fn evaluate(table: &Table, number: usize, value: &dyn Fn(usize) -> u32) -> b
             expression::NAND => !(argument(operator.left) & argument(operator.right)),
             _ => !argument(operator.left),
         },
+    }
+}
+
+fn holds(condition: Condition, value: u32) -> bool {
+    match condition.kind {
+        expression::EQUAL => value == condition.value,
+        expression::NOT_EQUAL => value != condition.value,
+        expression::SET => value == 1,
+        expression::CLEARED => value == 0,
+        // "true exactly if the port's value is not below the given one."
+        expression::AT_OR_ABOVE => value >= condition.value,
+        kind => unreachable!("the check refuses kind {kind}"),
     }
 }

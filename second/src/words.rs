@@ -72,6 +72,7 @@ pub mod expression {
     pub const XOR: u32 = 6;
     pub const NAND: u32 = 7;
     pub const NOT: u32 = 8;
+    pub const AT_OR_ABOVE: u32 = 9;
 }
 pub mod item {
     pub const OUTSIDE_CALL: u32 = 0;
@@ -122,7 +123,7 @@ pub const LIST_START: u32 = 15;
 pub const LEVELS: u32 = 7;
 pub const HEADER: usize = 3;
 
-/// An expression's fields depend on its kind.
+/// An expression's fields depend on its kind: kinds there are not have a condition's.
 #[derive(Clone, Copy, PartialEq, Eq, Debug)]
 pub enum Expression {
     Condition(Condition),
@@ -131,11 +132,11 @@ pub enum Expression {
 
 impl Expression {
     pub fn of(word: u32) -> Self {
-        let condition = Condition::of(word);
-        if condition.kind < expression::AND {
-            Expression::Condition(condition)
+        let operator = Operator::of(word);
+        if (expression::AND..=expression::NOT).contains(&operator.kind) {
+            Expression::Operator(operator)
         } else {
-            Expression::Operator(Operator::of(word))
+            Expression::Condition(Condition::of(word))
         }
     }
 

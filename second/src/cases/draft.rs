@@ -21,6 +21,16 @@ pub struct Draft {
     pub items: Vec<Item>,
 }
 
+/// The kinds of conditions there may be on a port.
+pub fn conditions_on(port: &Port) -> &'static [u32] {
+    use expression::*;
+    match port.kind {
+        port::EVENT => &[SET, CLEARED],
+        port::TIMER => &[EQUAL, NOT_EQUAL],
+        _ => &[EQUAL, NOT_EQUAL, AT_OR_ABOVE],
+    }
+}
+
 /// How deep something nests, walked along its names.
 #[derive(Clone, Copy, PartialEq, Eq, PartialOrd, Ord, Debug)]
 pub enum Depth {

@@ -3,6 +3,7 @@
 
 pub mod cleared;
 pub mod draft;
+pub mod levels;
 pub mod prng;
 pub mod refused;
 pub mod sequences;
@@ -12,6 +13,7 @@ pub mod wide;
 
 use cleared::clearing;
 use draft::{Draft, SEVEN};
+use levels::leveling;
 use prng::Prng;
 use refused::Refused;
 use sequences::sequence;
@@ -64,6 +66,7 @@ enum Shape {
     Brimful,
     Wide,
     Cleared,
+    Levels,
     SevenDeep,
     EightDeep,
     NotReached,
@@ -77,14 +80,14 @@ enum Shape {
 }
 
 /// The shapes come round in this order, so that every seed meets all of them.
-const ROUND: [Shape; 44] = {
+const ROUND: [Shape; 47] = {
     use Shape::*;
     [
         Small, Rich, Refused, Cleared, NotReached, Unfit, Small, Refused, SevenDeep, Wide, Small,
-        Rich, TwoFaults, Small, BitsFlipped, Refused, Small, NotReached, Unfit, Rich, Wide,
-        EightDeep, Small, NamesTurned, Dearest, Cleared, Raw, Rich, Refused, Unfit, Small, Wide,
-        NotReached, Hostile, Cleared, Refused, Limits, Rich, Small, Brimful, NamesTurned, Unfit,
-        NotReached, Wide,
+        Levels, Rich, TwoFaults, Small, BitsFlipped, Refused, Small, NotReached, Unfit, Rich, Wide,
+        EightDeep, Small, NamesTurned, Dearest, Cleared, Raw, Levels, Rich, Refused, Unfit, Small,
+        Wide, NotReached, Hostile, Cleared, Refused, Limits, Rich, Small, Brimful, NamesTurned,
+        Unfit, NotReached, Wide, Levels,
     ]
 };
 
@@ -119,6 +122,7 @@ fn make(rng: &mut Prng, shape: Shape, round: usize) -> Made {
         Shape::Brimful => brimful(rng),
         Shape::Wide => wide(rng),
         Shape::Cleared => cleared(rng),
+        Shape::Levels => levels(rng),
         Shape::SevenDeep => {
             let base = small(rng);
             let draft = refused::row(rng, &base, SEVEN as usize);
@@ -250,6 +254,13 @@ fn wide(rng: &mut Prng) -> Made {
 fn cleared(rng: &mut Prng) -> Made {
     let base = if rng.chance(50) { small(rng) } else { Draft::default() };
     let (draft, events) = clearing(rng, base);
+    from_mostly_fresh(rng, &draft, events)
+}
+
+/// Levels on a small table or alone, mostly from a fresh state.
+fn levels(rng: &mut Prng) -> Made {
+    let base = if rng.chance(50) { small(rng) } else { Draft::default() };
+    let (draft, events) = leveling(rng, base);
     from_mostly_fresh(rng, &draft, events)
 }
 

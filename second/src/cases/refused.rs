@@ -1,7 +1,7 @@
 //! Refused tables, made from good ones by a known fault, so that reason and
 //! place are known without asking the judge.
 
-use super::draft::{Depth, Draft, SEVEN};
+use super::draft::{Depth, Draft, SEVEN, conditions_on};
 use super::prng::Prng;
 use super::tables::{pad, renumbered};
 use crate::words::*;
@@ -91,14 +91,27 @@ fn break_limit(rng: &mut Prng, words: &mut [u32]) {
 /// Breaks one word, by its own fields or by what it names.
 fn one_word(rng: &mut Prng, good: &Draft, reason: u32) -> Option<Refused> {
     let mut words = good.words();
-    let place = HEADER + rng.below(words.len() - HEADER);
     let table = Table::of(&words)?;
+    let place = match rng.pick_any(&levels(good)) {
+        // Seldom met among all words.
+        Some(level) if rng.chance(40) => table.place(Section::Expressions, level),
+        _ => HEADER + rng.below(words.len() - HEADER),
+    };
     let (number, word) = table.words().nth(place - HEADER)?;
     words[place] = match reason {
         5 => broken(rng, word),
         _ => misnaming(rng, good, number, word)?,
     };
     Some(Refused::of(words, reason, place))
+}
+
+/// The conditions at or above.
+fn levels(good: &Draft) -> Vec<usize> {
+    let level = |expression: &Expression| match expression {
+        Expression::Condition(condition) => condition.kind == expression::AT_OR_ABOVE,
+        Expression::Operator(_) => false,
+    };
+    (0..good.expressions.len()).filter(|&number| level(&good.expressions[number])).collect()
 }
 
 fn broken(rng: &mut Prng, word: Word) -> u32 {
@@ -111,21 +124,29 @@ fn broken(rng: &mut Prng, word: Word) -> u32 {
             _ => Waits { e_ticks: 0, ..waits }.word(),
         },
         Word::Source(source) => Source { zero: rng.within(1, 15), ..source }.word(),
-        Word::Expression(Expression::Condition(condition)) => match rng.below(2) {
-            0 if condition.kind >= expression::SET => {
-                Condition { value: rng.within(1, 255), ..condition }.word()
-            }
-            _ => Condition { zero: rng.within(1, 0xFFF), ..condition }.word(),
-        },
-        Word::Expression(Expression::Operator(operator)) => match rng.below(2) {
-            0 if operator.kind == expression::NOT => {
-                Operator { right: rng.within(1, 0x3FFF), ..operator }.word()
-            }
-            _ => Operator { kind: rng.within(expression::NOT + 1, 15), ..operator }.word(),
-        },
+        Word::Expression(expression) => broken_expression(rng, expression),
         Word::Rule(rule) => Rule { first: 3, ..rule }.word(),
         Word::List(list) => List { count: 0, ..list }.word(),
         Word::Item(item) => broken_item(rng, item),
+    }
+}
+
+fn broken_expression(rng: &mut Prng, expression: Expression) -> u32 {
+    let no_kind = rng.within(expression::AT_OR_ABOVE + 1, 15);
+    match expression {
+        Expression::Condition(condition) => match rng.weighed(&[1, 2, 1]) {
+            0 if [expression::SET, expression::CLEARED].contains(&condition.kind) => {
+                Condition { value: rng.within(1, 255), ..condition }.word()
+            }
+            1 => Condition { kind: no_kind, ..condition }.word(),
+            _ => Condition { zero: rng.within(1, 0xFFF), ..condition }.word(),
+        },
+        Expression::Operator(operator) => match rng.below(2) {
+            0 if operator.kind == expression::NOT => {
+                Operator { right: rng.within(1, 0x3FFF), ..operator }.word()
+            }
+            _ => Operator { kind: no_kind, ..operator }.word(),
+        },
     }
 }
 
@@ -155,7 +176,6 @@ fn broken_item(rng: &mut Prng, item: Item) -> u32 {
 
 /// The word with a name of an absent or wrong thing; None for one that names nothing.
 fn misnaming(rng: &mut Prng, good: &Draft, number: usize, word: Word) -> Option<u32> {
-    let event = |port: &Port| port.kind == port::EVENT;
     let word = match word {
         Word::Port(_) | Word::Waits(_) => return None,
         Word::Network(network) => Network { port: thing_port(rng, good, number), ..network }.word(),
@@ -164,9 +184,8 @@ fn misnaming(rng: &mut Prng, good: &Draft, number: usize, word: Word) -> Option<
             Source { port: thing_port(rng, good, earlier), ..source }.word()
         }
         Word::Expression(Expression::Condition(condition)) => {
-            let wants_event = condition.kind >= expression::SET;
-            let port = wrong_port(rng, good, 255, |port| event(port) == wants_event);
-            Condition { port, ..condition }.word()
+            let right = |port: &Port| conditions_on(port).contains(&condition.kind);
+            Condition { port: wrong_port(rng, good, 255, right), ..condition }.word()
         }
         Word::Expression(Expression::Operator(operator)) => {
             let absent = rng.within(good.expressions.len() as u32, 0x3FFF);
@@ -287,7 +306,7 @@ pub fn row(rng: &mut Prng, good: &Draft, levels: usize) -> Draft {
     let rule = draft.rules[rng.below(draft.rules.len())];
     if rng.chance(50) {
         let base = rule.expression;
-        draft.expressions[base as usize] = Expression::Condition(condition_on(&draft, rule));
+        draft.expressions[base as usize] = Expression::Condition(condition_on(rng, &draft, rule));
         let first = draft.expressions.len() as u32;
         for level in 0..levels as u32 - 1 {
             let left = if level == 0 { base } else { first + level - 1 };
@@ -301,10 +320,9 @@ pub fn row(rng: &mut Prng, good: &Draft, levels: usize) -> Draft {
     renumbered(rng, draft)
 }
 
-fn condition_on(draft: &Draft, rule: Rule) -> Condition {
+fn condition_on(rng: &mut Prng, draft: &Draft, rule: Rule) -> Condition {
     let port = draft.mentioned(rule.expression as usize)[0];
-    let event = draft.ports[port].kind == port::EVENT;
-    let kind = if event { expression::SET } else { expression::EQUAL };
+    let kind = rng.pick(conditions_on(&draft.ports[port]));
     Condition { kind, port: port as u32, value: 0, zero: 0 }
 }
 

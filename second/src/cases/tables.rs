@@ -1,7 +1,7 @@
 //! Tables that stand by the way they are made: every name is drawn from what
 //! it may name, nesting and cost are kept within bounds as they grow.
 
-use super::draft::{Draft, PRIORITIES, SEVEN};
+use super::draft::{Draft, PRIORITIES, SEVEN, conditions_on};
 use super::prng::Prng;
 use crate::words::*;
 
@@ -189,7 +189,7 @@ impl Grower<'_> {
             .collect();
         let port = self.rng.pick(&ports);
         let event = self.draft.ports[port].kind == port::EVENT;
-        let kind = self.rng.within(0, 1) + if event { expression::SET } else { expression::EQUAL };
+        let kind = self.rng.pick(conditions_on(&self.draft.ports[port]));
         let value = if event { 0 } else { self.rng.pick(&[0, 1, 2, 2, 3, 255]) };
         Expression::Condition(Condition { kind, port: port as u32, value, zero: 0 })
     }

@@ -211,20 +211,33 @@ impl Weaver<'_> {
             self.rng.pick(&self.steered)
         };
         let there = self.scenes[wish.scene][port];
-        let event = self.draft.ports[port].kind == port::EVENT;
-        let (kind, value) = if event {
-            let set = wish.gives == (there == 1);
-            (if set { expression::SET } else { expression::CLEARED }, 0)
-        } else if self.rng.chance(60) {
-            (if wish.gives { expression::EQUAL } else { expression::NOT_EQUAL }, there)
-        } else {
-            let other = self.scenes[self.rng.below(self.scenes.len())][port];
-            let other =
-                if other == there { (there + self.rng.within(1, 255)) % 256 } else { other };
-            (if wish.gives { expression::NOT_EQUAL } else { expression::EQUAL }, other)
+        let (kind, value) = match self.draft.ports[port].kind {
+            port::EVENT => {
+                let set = wish.gives == (there == 1);
+                (if set { expression::SET } else { expression::CLEARED }, 0)
+            }
+            port::MODE if (wish.gives || there < 255) && self.rng.chance(20) => {
+                (expression::AT_OR_ABOVE, self.level(there, wish.gives))
+            }
+            _ if self.rng.chance(60) => {
+                (if wish.gives { expression::EQUAL } else { expression::NOT_EQUAL }, there)
+            }
+            _ => {
+                let other = self.scenes[self.rng.below(self.scenes.len())][port];
+                let other =
+                    if other == there { (there + self.rng.within(1, 255)) % 256 } else { other };
+                (if wish.gives { expression::NOT_EQUAL } else { expression::EQUAL }, other)
+            }
         };
         let port = port as u32;
         self.draft.add_expression(Expression::Condition(Condition { kind, port, value, zero: 0 }))
+    }
+
+    /// A level that the value there has reached, or has not; mostly close to it.
+    fn level(&mut self, there: u32, reached: bool) -> u32 {
+        let (close, least, most) =
+            if reached { (there, 0, there) } else { (there + 1, there + 1, 255) };
+        if self.rng.chance(60) { close } else { self.rng.within(least, most) }
     }
 
     /// A rule with a list of its own for each result, mostly conditional.

@@ -1,5 +1,6 @@
 //! What the cases met. A row that no case met is a failure.
 
+use std::cmp::Ordering;
 use std::collections::{BTreeMap, BTreeSet};
 use std::fmt;
 
@@ -20,6 +21,11 @@ pub enum Row {
     Clear(u32, u32),
     /// Whether the cleared event's port is deferred.
     ChosenByClear(u32),
+    /// The value against the level it is compared with.
+    Level(Ordering),
+    /// The operator, and the number of its argument.
+    LevelIn(u32, usize),
+    NoKind(u32),
     NetworkTurn(u32, u32),
     BusOffIgnored(u32),
     SourceTurn(u32, u32),
@@ -55,9 +61,23 @@ pub const CLEARED_IN_OWN_REQUEST: &str = "clear in the port's own arbitration: r
 pub const CLEARED_IN_OWN_TICK: &str = "clear in the port's own arbitration: tick";
 pub const MARK_TAKEN_AWAY: &str = "tick passes over an event whose request took its mark away";
 pub const FITS_MARKED_IMMEDIATE: &str = "state fits: immediate event marked";
+pub const LEVEL_0: &str = "at or above 0 evaluated";
+pub const LEVEL_255_REACHED: &str = "at or above 255 evaluated: reached";
+pub const LEVEL_255_MISSED: &str = "at or above 255 evaluated: not reached";
+pub const LEVEL_IN_ITEM: &str = "at or above evaluated by a rule item";
+pub const LEVEL_RISEN: &str = "rule turned by a value that rises to a level";
+pub const LEVEL_FALLEN: &str = "rule turned by a value that falls below a level";
+pub const LEVEL_UNREADY: &str = "rule unready only by undefined ports at or above";
+pub const LEVEL_UNREADY_ITEM: &str = "rule item undefined only by ports at or above";
+pub const LEVEL_EQUALITIES: &str = "run repeated with equalities for levels";
+pub const LEVEL_ZERO_FIELD: &str = "at or above refused: zero field";
+pub const LEVEL_ON_TIMER: &str = "at or above refused: timer";
+pub const LEVEL_ON_EVENT: &str = "at or above refused: event";
+pub const LEVEL_ON_ABSENT: &str = "at or above refused: absent port";
+pub const LEVEL_CLASH: &str = "owners clash only by at or above";
 pub const STRUCK_OUT: &str = "strangers' taken events struck out";
 
-const SPECIAL: [&str; 29] = [
+const SPECIAL: [&str; 43] = [
     TWO_CHOSEN,
     CHOSEN_AND_NAMED,
     DEPTH_7_EXPRESSION,
@@ -86,6 +106,20 @@ const SPECIAL: [&str; 29] = [
     CLEARED_IN_OWN_TICK,
     MARK_TAKEN_AWAY,
     FITS_MARKED_IMMEDIATE,
+    LEVEL_0,
+    LEVEL_255_REACHED,
+    LEVEL_255_MISSED,
+    LEVEL_IN_ITEM,
+    LEVEL_RISEN,
+    LEVEL_FALLEN,
+    LEVEL_UNREADY,
+    LEVEL_UNREADY_ITEM,
+    LEVEL_EQUALITIES,
+    LEVEL_ZERO_FIELD,
+    LEVEL_ON_TIMER,
+    LEVEL_ON_EVENT,
+    LEVEL_ON_ABSENT,
+    LEVEL_CLASH,
     STRUCK_OUT,
 ];
 
@@ -128,8 +162,9 @@ const EVENTS: [&str; 7] =
     ["tick", "mode request", "event request", "wakeup", "wakeup valid", "bus-off", "wakeup clear"];
 const ITEMS: [&str; 7] =
     ["outside call", "clear event", "start timer", "stop timer", "network request", "list", "rule"];
-const EXPRESSIONS: [&str; 9] =
-    ["equal", "not equal", "set", "cleared", "AND", "OR", "XOR", "NAND", "NOT"];
+const EXPRESSIONS: [&str; 10] =
+    ["equal", "not equal", "set", "cleared", "AND", "OR", "XOR", "NAND", "NOT", "at or above"];
+const ARGUMENTS: [&str; 2] = ["left", "right"];
 const EVENT_VALUES: [&str; 2] = ["clear", "set"];
 const PORTS: [&str; 2] = ["immediate", "deferred"];
 const NETWORK_STATES: [&str; 5] = ["none", "silent", "check", "full", "recover"];
@@ -165,6 +200,14 @@ impl fmt::Display for Row {
             Row::ChosenByClear(deferred) => {
                 format!("list chosen at a tick only by a clear: {} port", PORTS[deferred as usize])
             }
+            Row::Level(Ordering::Less) => "at or above evaluated: value below".to_string(),
+            Row::Level(Ordering::Equal) => "at or above evaluated: value at".to_string(),
+            Row::Level(Ordering::Greater) => "at or above evaluated: value above".to_string(),
+            Row::LevelIn(kind, side) => {
+                let (operator, argument) = (EXPRESSIONS[kind as usize], ARGUMENTS[side]);
+                format!("at or above decides {operator}: {argument}")
+            }
+            Row::NoKind(kind) => format!("expression kind {kind} refused"),
             Row::NetworkTurn(from, to) => format!("network: {}", turn(&NETWORK_STATES, from, to)),
             Row::BusOffIgnored(state) => {
                 format!("bus-off ignored in {}", NETWORK_STATES[state as usize])
@@ -194,17 +237,24 @@ impl Coverage {
     /// Every row there must be, met by none yet.
     pub fn new() -> Self {
         let settling = [expression::AND, expression::OR, expression::NAND];
+        let levels = [Ordering::Less, Ordering::Equal, Ordering::Greater];
+        let level_in = (expression::AND..=expression::NAND)
+            .flat_map(|kind| [0, 1].map(|side| Row::LevelIn(kind, side)))
+            .chain([Row::LevelIn(expression::NOT, 0)]);
         let ignoring = [network::NONE, network::SILENT, network::RECOVER];
         let rows = (0..=9)
             .map(Row::Reason)
             .chain((0..=6).map(Row::Answer))
             .chain((0..=6).map(Row::EventTaken))
             .chain((0..=6).map(Row::ItemRun))
-            .chain((0..=8).map(Row::Evaluated))
+            .chain((expression::EQUAL..=expression::AT_OR_ABOVE).map(Row::Evaluated))
             .chain(settling.map(Row::Settled))
             .chain(settling.map(Row::NotSettled))
             .chain([(0, 0), (0, 1), (1, 0), (1, 1)].map(|(value, port)| Row::Clear(value, port)))
             .chain((0..=1).map(Row::ChosenByClear))
+            .chain(levels.map(Row::Level))
+            .chain(level_in)
+            .chain((expression::AT_OR_ABOVE + 1..=15).map(Row::NoKind))
             .chain(NETWORK_TURNS.map(|(from, to)| Row::NetworkTurn(from, to)))
             .chain(ignoring.map(Row::BusOffIgnored))
             .chain(SOURCE_TURNS.map(|(from, to)| Row::SourceTurn(from, to)))

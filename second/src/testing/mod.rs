@@ -5,6 +5,7 @@ mod clears;
 pub mod coverage;
 mod demand3;
 mod fixed;
+mod levels;
 mod log;
 mod ports;
 mod properties;
@@ -19,7 +20,7 @@ use coverage::Coverage;
 
 /// Each seed's first cases are run.
 const SEEDS: [u64; 4] = [1, 2026, 0xC0FFEE, 0x5EED_5EED_5EED_5EED];
-const CASES_EACH: usize = 4400;
+const CASES_EACH: usize = 4700;
 
 #[derive(Default)]
 struct Tally {

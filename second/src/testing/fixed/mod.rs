@@ -1,5 +1,5 @@
 //! Fixed cases: each a few words long, its outcome worked out by hand from
-//! documents 01 and 02 and named after the sentence or reading it tells apart.
+//! documents 01 and 02 and named after the sentence or reading it tells apart.
 //!
 //! Expected words stand in hex, so that no layout is judged by itself:
 //! - port state: 80000000 defined, 40000000 marked, value times 00400000, remaining;
@@ -22,6 +22,8 @@ mod clears;
 mod demand3;
 mod events;
 mod expressions;
+mod levels;
+mod levels_checked;
 mod lists;
 mod marked;
 mod names;
@@ -52,6 +54,8 @@ pub fn all() -> Vec<(&'static str, fn())> {
         timers::CASES,
         arbitration::CASES,
         expressions::CASES,
+        levels_checked::CASES,
+        levels::CASES,
         lists::CASES,
         clears::CASES,
         program::CASES,
@@ -107,6 +111,10 @@ fn set(port: u32) -> u32 {
 
 fn cleared(port: u32) -> u32 {
     condition(expression::CLEARED, port, 0)
+}
+
+fn at_or_above(port: u32, value: u32) -> u32 {
+    condition(expression::AT_OR_ABOVE, port, value)
 }
 
 fn operator(kind: u32, left: u32, right: u32) -> u32 {

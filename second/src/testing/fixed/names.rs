@@ -12,7 +12,7 @@ fn misnames(place: usize, words: &[u32]) {
 }
 
 /// Expressions only, on one platform port; the first is at place 4.
-fn expressions(expressions: &[u32]) -> Vec<u32> {
+pub fn expressions(expressions: &[u32]) -> Vec<u32> {
     plain(&[mode(0)], expressions, &[rule(0, 0, NONE, NONE)], &[], &[])
 }
 

@@ -180,8 +180,8 @@ fixed_cases! {
         refused_alone(12, &[0x2030_1000, 0x3038_0000]);
     }
 
-    fn reason_5_expression_kind_above_8() {
-        refused_alone(13, &[0x9000_0000, 0xF000_0000]);
+    fn reason_5_expression_kind_above_9() {
+        refused_alone(13, &[0xA000_0000, 0xF000_0000]);
         stands(&with(&BASE, 13, 0x7000_C001), 13);
     }
 
@@ -238,7 +238,7 @@ fixed_cases! {
 
     fn expression_in_no_rule_is_judged_by_5() {
         let spare =
-            plain(&[mode(0)], &[equal(0, 0), 0x9000_0000], &[rule(0, 0, NONE, NONE)], &[], &[]);
+            plain(&[mode(0)], &[equal(0, 0), 0xA000_0000], &[rule(0, 0, NONE, NONE)], &[], &[]);
         refused(&spare, 5, 5);
     }
 }
