@@ -6,10 +6,10 @@ use mathlib.Core.List.{List}
 use native.Mathlib.Omega.{arith}
 use lib.Dec.{eqb}
 use borrow.Author.Tests.{not-true, not-false}
-use Rattle.rulebook.specs.Words.{between, field}
-use Rattle.rulebook.specs.Table.{expressionWord, expressionKind, left, right, noList, triggered, operatorAnd, operatorNot}
+use Rattle.rulebook.specs.Words.{field}
+use Rattle.rulebook.specs.Table.{expressionWord, expressionKind, left, right, noList, triggered, operatorNot}
 use Rattle.rulebook.specs.Expressions as Expressions
-use Rattle.rulebook.specs.Expressions.{operator, joined, expressionHolds, holds}
+use Rattle.rulebook.specs.Expressions.{operatorKind, operator, joined, expressionHolds, holds}
 use Rattle.rulebook.specs.Lists.{listFor, choice}
 use Rattle.evaluation.specs.Met.{conditionWord, wordMet}
 use Rattle.evaluation.specs.Skipping.{settled}
@@ -28,7 +28,7 @@ holds-level : (t : List ℕ) (v : ℕ → ℕ) (e d n : ℕ) → d ≡ suc n →
 unfolding holds
 holds-level t v e d n h = rw h
 
-joined-not : (k : ℕ) (a b : Bool) → k ≡ 8 → joined k a b ≡ not a
+joined-not : (k : ℕ) (a b : Bool) → k ≡ operatorNot → joined k a b ≡ not a
 unfolding joined
 joined-not k a b h = rw h
 
@@ -42,7 +42,7 @@ module _ (t : List ℕ) (e d w : ℕ) (more : d ≡ 0 → ⊥) (hw : w ≡ expre
   level = omega arith
 
   abbrev operates : Bool
-  operates = between operatorAnd operatorNot (field 0 4 w)
+  operates = operatorKind (field 0 4 w)
 
   -- the exits of the code, where l is the left argument and r the right one
   pub condition-holds : conditionWord w ≡ true → wordMet v w ≡ holds d t v e
@@ -60,8 +60,8 @@ module _ (t : List ℕ) (e d w : ℕ) (more : d ≡ 0 → ⊥) (hw : w ≡ expre
     left-held : holds d t v e ≡ joined k a (holds (d - 1) t v (field 18 14 w))
     left-held = joined-holds op ∙ rw (← hk, ← hl, ← ha)
 
-    pub not-holds : k ≡ 8 → not a ≡ holds d t v e
-    not-holds eight = sym (left-held ∙ joined-not k _ _ eight)
+    pub not-holds : k ≡ operatorNot → not a ≡ holds d t v e
+    not-holds negates = sym (left-held ∙ joined-not k _ _ negates)
 
     pub settled-holds : settled k a ≡ true → joined k a false ≡ holds d t v e
     settled-holds h = sym (left-held ∙ settled-alike k a _ false h)

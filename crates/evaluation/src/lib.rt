@@ -3,13 +3,15 @@
 ghost use mathlib.Core.Path.{_≡_};
 ghost use Rattle.rulebook.specs.Words.{any};
 ghost use Rattle.rulebook.specs.Table.{expressionsFrom};
-ghost use Rattle.rulebook.specs.Expressions.{mentions, joined as joinedOf, holds as holdsOf};
+ghost use Rattle.rulebook.specs.Expressions.{mentions, met, joined as joinedOf, holds as holdsOf};
 ghost use Rattle.rulebook.specs.Lists.{valueIn, undefinedIn, unready as unreadyOf, resultIn, listFor, choice as choiceOf};
 ghost use Rattle.words.specs.Field.{Field};
 ghost use Rattle.words.specs.Sections.{Laid};
-ghost use Rattle.evaluation.specs.Met.{met, conditionWord, wordMet};
+ghost use Rattle.evaluation.specs.Met.{conditionWord, wordMet};
 ghost use Rattle.evaluation.specs.Section.{StartsAt, HoldsIn, MentionsIn};
 ghost use Rattle.evaluation.specs.Skipping.{settled as settledOf};
+use words::numbers::CONDITION_AT_OR_ABOVE;
+use words::numbers::CONDITION_CLEARED;
 use words::numbers::CONDITION_EQUAL;
 use words::numbers::CONDITION_NOT_EQUAL;
 use words::numbers::CONDITION_SET;
@@ -54,7 +56,13 @@ fn condition_met(kind: u32, value: u32, named: u32) -> bool
     if kind == CONDITION_SET {
         return value == 1;
     }
-    value == 0
+    if kind == CONDITION_CLEARED {
+        return value == 0;
+    }
+    if kind == CONDITION_AT_OR_ABOVE {
+        return !(value < named);
+    }
+    false
 }
 
 // What an operator of this kind makes of its arguments.
@@ -93,8 +101,7 @@ fn settled(kind: u32, left: bool) -> bool
 fn is_condition(w: u32) -> bool
     ensures { λ r. ⌜ r ≡ conditionWord w ⌝ }
 {
-    let kind = table::expression_kind(w);
-    !((OPERATOR_AND <= kind) & (kind <= OPERATOR_NOT))
+    !table::is_operator(table::expression_kind(w))
 }
 
 // Whether the condition that a word is holds by the values of the port words.

@@ -5,11 +5,11 @@ ghost use Rattle.rulebook.specs.Table.{expressionsFrom};
 ghost use Rattle.rulebook.specs.Expressions.{expressionWithin, mentions as mentionsOf};
 ghost use Rattle.words.specs.Flags.{flagged};
 use words::flag;
-use words::numbers::OPERATOR_AND;
 use words::numbers::OPERATOR_NOT;
 use words::sections::expression_word;
 use words::table::condition_port;
 use words::table::expression_kind;
+use words::table::is_operator;
 use words::table::left;
 use words::table::right;
 
@@ -23,8 +23,7 @@ pub fn within(t: &[u32], from: usize, e: u32, levels: u32) -> bool
     }
     let w = expression_word(t, from, e);
     let kind = expression_kind(w);
-    let condition = !((OPERATOR_AND <= kind) & (kind <= OPERATOR_NOT));
-    if condition {
+    if !is_operator(kind) {
         return true;
     }
     if !within(t, from, left(w), levels - 1) {
@@ -46,8 +45,7 @@ pub fn mentions(t: &[u32], from: usize, flags: &[u32], e: u32, levels: u32) -> b
     }
     let w = expression_word(t, from, e);
     let kind = expression_kind(w);
-    let condition = !((OPERATOR_AND <= kind) & (kind <= OPERATOR_NOT));
-    if condition {
+    if !is_operator(kind) {
         return flag(flags, condition_port(w));
     }
     if mentions(t, from, flags, left(w), levels - 1) {

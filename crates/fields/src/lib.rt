@@ -4,6 +4,7 @@ ghost use Rattle.rulebook.specs.Table.{atPort, atNetwork, atWaits, atSource, at
 ghost use Rattle.rulebook.specs.Reasons.{ownFields, lowest};
 ghost use Rattle.words.specs.Parts.{partOf};
 ghost use Rattle.words.specs.Sections.{Laid, Whole};
+use words::numbers::CONDITION_AT_OR_ABOVE;
 use words::numbers::CONDITION_CLEARED;
 use words::numbers::CONDITION_SET;
 use words::numbers::ITEM_ASK;
@@ -12,7 +13,6 @@ use words::numbers::ITEM_CLEAR;
 use words::numbers::ITEM_LIST;
 use words::numbers::ITEM_RULE;
 use words::numbers::ITEM_STOP;
-use words::numbers::OPERATOR_AND;
 use words::numbers::OPERATOR_NOT;
 use words::numbers::PORT_MODE;
 use words::numbers::PORT_TIMER;
@@ -20,6 +20,7 @@ use words::parts::Part;
 use words::parts::part_at;
 use words::sections;
 use words::sections::Layout;
+use words::table::is_operator;
 
 fn port_fields(t: &[u32], p: u32) -> bool
     ensures { λ r. ⌜ r ≡ ownFields (now (t .entry)) (atPort p) ⌝ }
@@ -69,8 +70,9 @@ fn expression_fields(t: &[u32], h: Layout, e: u32) -> bool
     let value = expression.value;
     let zero = expression.zero;
     let right = expression.right;
-    (kind <= OPERATOR_NOT)
-        & (!!((OPERATOR_AND <= kind) & (kind <= OPERATOR_NOT)) | (zero == 0))
+    let condition = !is_operator(kind);
+    (kind <= CONDITION_AT_OR_ABOVE)
+        & (!condition | (zero == 0))
         & (!((CONDITION_SET <= kind) & (kind <= CONDITION_CLEARED)) | (value == 0))
         & (!(kind == OPERATOR_NOT) | (right == 0))
 }

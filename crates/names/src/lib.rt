@@ -5,6 +5,7 @@ ghost use Rattle.rulebook.specs.Table.{atNetwork, atSource, atExpression, atRul
 ghost use Rattle.rulebook.specs.Reasons.{networkHas, sourceHas, held as heldOf, mayShow, names as namesOf, lowest};
 ghost use Rattle.words.specs.Parts.{partOf};
 ghost use Rattle.words.specs.Sections.{Laid, Whole};
+use words::numbers::CONDITION_AT_OR_ABOVE;
 use words::numbers::CONDITION_CLEARED;
 use words::numbers::CONDITION_NOT_EQUAL;
 use words::numbers::CONDITION_SET;
@@ -16,7 +17,6 @@ use words::numbers::ITEM_RULE;
 use words::numbers::ITEM_START;
 use words::numbers::ITEM_STOP;
 use words::numbers::NO_LIST;
-use words::numbers::OPERATOR_AND;
 use words::numbers::OPERATOR_NOT;
 use words::numbers::PORT_EVENT;
 use words::numbers::PORT_MODE;
@@ -25,6 +25,7 @@ use words::parts::Part;
 use words::parts::part_at;
 use words::sections;
 use words::sections::Layout;
+use words::table::is_operator;
 
 // Whether one of the first n networks has port p.
 fn networks_hold(t: &[u32], h: Layout, p: u32, n: u32) -> bool
@@ -109,12 +110,14 @@ fn expression_names(t: &[u32], h: Layout, e: u32) -> bool
     let port_kind = sections::port_at(t, port).kind;
     let expressions = h.expressions;
     let ports = h.ports;
-    (!((OPERATOR_AND <= kind) & (kind <= OPERATOR_NOT)) | (left < expressions))
-        & (!((OPERATOR_AND <= kind) & (kind <= OPERATOR_NOT) & !(kind == OPERATOR_NOT))
-            | (right < expressions))
-        & (!!((OPERATOR_AND <= kind) & (kind <= OPERATOR_NOT)) | (port < ports))
+    let operator = is_operator(kind);
+    let condition = !operator;
+    (!operator | (left < expressions))
+        & (!(operator & !(kind == OPERATOR_NOT)) | (right < expressions))
+        & (!condition | (port < ports))
         & (!(kind <= CONDITION_NOT_EQUAL) | !(port_kind == PORT_EVENT))
         & (!((CONDITION_SET <= kind) & (kind <= CONDITION_CLEARED)) | (port_kind == PORT_EVENT))
+        & (!(kind == CONDITION_AT_OR_ABOVE) | (port_kind == PORT_MODE))
 }
 
 fn rule_names(t: &[u32], h: Layout, r: u32) -> bool

@@ -12,7 +12,6 @@ use words::numbers::ITEM_LIST;
 use words::numbers::ITEM_RULE;
 use words::numbers::ITEM_STOP;
 use words::numbers::NO_LIST;
-use words::numbers::OPERATOR_AND;
 use words::numbers::OPERATOR_NOT;
 use words::numbers::PLATFORM;
 use words::parts::Part;
@@ -50,8 +49,7 @@ fn mentions_stranger(t: &[u32], from: usize, o: u32, e: u32, levels: u32) -> boo
     }
     let w = sections::expression_word(t, from, e);
     let kind = table::expression_kind(w);
-    let condition = !((OPERATOR_AND <= kind) & (kind <= OPERATOR_NOT));
-    if condition {
+    if !table::is_operator(kind) {
         let named = sections::port_word(t, table::condition_port(w));
         let owner = table::port_owner(named);
         return !(owner == o) & !(owner == PLATFORM);

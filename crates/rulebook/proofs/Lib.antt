@@ -1,4 +1,5 @@
 -- The few claims that give the definitions teeth; the laws stand in crates above.
+pub mod AtOrAbove
 pub mod Marked
 pub mod OneStep
 pub mod Width

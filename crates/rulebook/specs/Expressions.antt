@@ -1,20 +1,25 @@
 -- Expressions: how deep they nest, which ports they mention, what they give.
--- An expression of kind 4 to 8 is an operator, any other a condition, everywhere alike. The `right` of a NOT is a zero field and
--- no argument. Each recursion is one level, over `below` for the arguments, and then d levels.
+-- The `right` of a NOT is a zero field and no argument. Each recursion is one level, over `below` for the arguments, and then d
+-- levels.
 use Prim.Native.Nat.{ℕ, zero, suc}
 use mathlib.Core.Bool.{Bool, true, false, cond, _&&_, _||_, not, xor}
 use mathlib.Core.List.{List}
-use lib.Dec.{eqb}
+use lib.Dec.{ltb, eqb}
 use Rattle.rulebook.specs.Words.{between}
 use Rattle.rulebook.specs.Table.{expressionKind, conditionPort, conditionValue, left, right}
-use Rattle.rulebook.specs.Table.{conditionEqual, conditionNotEqual, conditionSet, operatorAnd, operatorOr, operatorXor, operatorNand, operatorNot}
+use Rattle.rulebook.specs.Table.{conditionEqual, conditionNotEqual, conditionSet, conditionCleared, conditionAtOrAbove}
+use Rattle.rulebook.specs.Table.{operatorAnd, operatorOr, operatorXor, operatorNand, operatorNot}
 
 -- "an expression nested seven deep stands, eight is refused"; lists likewise
 abbrev pub deepest : ℕ
 deepest = 7
 
+-- an expression of kind 4 to 8 is an operator, any other a condition, everywhere alike
+abbrev pub operatorKind : ℕ → Bool
+operatorKind kind = between operatorAnd operatorNot kind
+
 unfoldable pub operator : List ℕ → ℕ → Bool
-operator t e = between operatorAnd operatorNot (expressionKind t e)
+operator t e = operatorKind (expressionKind t e)
 
 abbrev pub isNot : List ℕ → ℕ → Bool
 isNot t e = eqb (expressionKind t e) operatorNot
@@ -48,13 +53,19 @@ mentions (suc d) t q e = expressionMentions t q (mentions d t q) e
 
 -- Evaluation, by the values that v gives the ports.
 
--- equal, not equal, set, cleared
+-- What a condition says of its port's value, and of the value that it names. Document 02, Q-5: "at or above" is "true exactly if the
+-- port's value is not below the given one". A kind above 9 says nothing: rule 5 refuses it.
+abbrev pub met : ℕ → ℕ → ℕ → Bool
+met kind value named =
+    cond (eqb kind conditionEqual) (eqb value named)
+    (cond (eqb kind conditionNotEqual) (not (eqb value named))
+    (cond (eqb kind conditionSet) (eqb value 1)
+    (cond (eqb kind conditionCleared) (eqb value 0)
+    (cond (eqb kind conditionAtOrAbove) (not (ltb value named))
+    false))))
+
 unfoldable pub condition : List ℕ → (ℕ → ℕ) → ℕ → Bool
-condition t v e =
-    cond (eqb (expressionKind t e) conditionEqual) (eqb (v (conditionPort t e)) (conditionValue t e))
-    (cond (eqb (expressionKind t e) conditionNotEqual) (not (eqb (v (conditionPort t e)) (conditionValue t e)))
-    (cond (eqb (expressionKind t e) conditionSet) (eqb (v (conditionPort t e)) 1)
-    (eqb (v (conditionPort t e)) 0)))
+condition t v e = met (expressionKind t e) (v (conditionPort t e)) (conditionValue t e)
 
 unfoldable pub joined : ℕ → Bool → Bool → Bool
 joined kind a b =

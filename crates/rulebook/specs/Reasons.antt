@@ -13,7 +13,7 @@ use Rattle.rulebook.specs.Table.{portKind, portMode, portEvent, portTime
 use Rattle.rulebook.specs.Table.{networkOwner, networkPort, networkZero, l1, l2, eTicks}
 use Rattle.rulebook.specs.Table.{sourceOwner, sourcePort, sourceZero}
 use Rattle.rulebook.specs.Table.{expressionKind, conditionPort, conditionValue, conditionZero, left, right}
-use Rattle.rulebook.specs.Table.{conditionNotEqual, conditionSet, conditionCleared, operatorNot}
+use Rattle.rulebook.specs.Table.{conditionNotEqual, conditionSet, conditionCleared, conditionAtOrAbove}
 use Rattle.rulebook.specs.Table.{ruleOwner, firstResult, ruleExpression, trueList, falseList, noList}
 use Rattle.rulebook.specs.Table.{listOwner, firstItem, itemCount, itemKind, itemA, itemB}
 use Rattle.rulebook.specs.Table.{itemCall, itemClear, itemStart, itemStop, itemAsk, itemList, itemRule, byItem, platform, stranger}
@@ -53,9 +53,10 @@ portFields t p =
     && cond (eqb (portKind t p) portTimer) (leb 1 (reload t p)) (eqb (reload t p) 0)
     && implies (eqb (portKind t p) portTimer) (eqb (deferred t p) 1)
 
+-- document 02, Q-5: "reason 5 then starts at kind 10"
 unfoldable pub expressionFields : List ℕ → ℕ → Bool
 expressionFields t e =
-    leb (expressionKind t e) operatorNot
+    leb (expressionKind t e) conditionAtOrAbove
     && implies (not (operator t e)) (eqb (conditionZero t e) 0)
     && implies (between conditionSet conditionCleared (expressionKind t e)) (eqb (conditionValue t e) 0)
     && implies (isNot t e) (eqb (right t e) 0)
@@ -102,7 +103,7 @@ mayShow t p =
 unfoldable pub portOfKind : List ℕ → ℕ → ℕ → Bool
 portOfKind t kind p = ltb p (ports t) && eqb (portKind t p) kind
 
--- "conditions 0, 1 want mode or timer ports, 2, 3 event ports"
+-- "conditions 0, 1 want mode or timer ports, 2, 3 event ports"; document 02, Q-5: kind 9 is "for mode ports only"
 unfoldable pub expressionNames : List ℕ → ℕ → Bool
 expressionNames t e =
     implies (operator t e) (ltb (left t e) (expressions t))
@@ -110,6 +111,7 @@ expressionNames t e =
     && implies (not (operator t e)) (ltb (conditionPort t e) (ports t))
     && implies (leb (expressionKind t e) conditionNotEqual) (not (eqb (portKind t (conditionPort t e)) portEvent))
     && implies (between conditionSet conditionCleared (expressionKind t e)) (eqb (portKind t (conditionPort t e)) portEvent)
+    && implies (eqb (expressionKind t e) conditionAtOrAbove) (eqb (portKind t (conditionPort t e)) portMode)
 
 unfoldable pub listOrNone : List ℕ → ℕ → Bool
 listOrNone t l = eqb l noList || ltb l (lists t)

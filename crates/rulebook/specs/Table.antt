@@ -205,6 +205,10 @@ operatorNand = 7
 abbrev pub operatorNot : ℕ
 operatorNot = 8
 
+-- document 02, Q-5: "condition kind 9, 'at or above'"
+abbrev pub conditionAtOrAbove : ℕ
+conditionAtOrAbove = 9
+
 -- Rule r.
 
 abbrev pub ruleWord : List ℕ → ℕ → ℕ

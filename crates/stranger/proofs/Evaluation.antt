@@ -8,7 +8,7 @@ use lib.Dec.{eqb}
 use borrow.Author.Tests.{eqb-true, not-true}
 use Rattle.rulebook.specs.Words.{word}
 use Rattle.rulebook.specs.Table.{ports, expressions, rules, portOwner, expressionKind, conditionPort, left, right, ruleOwner, ruleExpression, platform}
-use Rattle.rulebook.specs.Table.{stranger}
+use Rattle.rulebook.specs.Table.{stranger, operatorNot}
 use Rattle.rulebook.specs.Expressions.{deepest, operator, isNot, expressionMentions, mentions, condition, joined, expressionHolds, holds}
 use Rattle.rulebook.specs.State.{ruleIndex}
 use Rattle.rulebook.specs.Reasons.{strangersPort, ruleOwned}
@@ -56,7 +56,7 @@ module _ (t : List ℕ) (f : Facts t) (q : ℕ → Bool) (d e : ℕ) (b : e < ex
       (record {
         none = λ e. refl;
         condition = λ d e op c k. rw (op, expressionHolds, same _ c k);
-        operator = λ d e op l r. rw (op, expressionHolds) (split (isNot t e) (λ n. rw (l, eqb-true (expressionKind t e) 8 n)) (λ n. rw (l, r n)));
+        operator = λ d e op l r. rw (op, expressionHolds) (split (isNot t e) (λ n. rw (l, eqb-true (expressionKind t e) operatorNot n)) (λ n. rw (l, r n)));
       }) d e b h
 
 -- no stranger to w, who is none to o, is a stranger to o

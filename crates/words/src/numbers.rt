@@ -1,4 +1,4 @@
-// Document 01's numbers by name, as the rulebook has them.
+// The documents' numbers by name, as the rulebook has them.
 
 pub const PORT_MODE: u32 = 0;
 
@@ -23,6 +23,8 @@ pub const OPERATOR_XOR: u32 = 6;
 pub const OPERATOR_NAND: u32 = 7;
 
 pub const OPERATOR_NOT: u32 = 8;
+
+pub const CONDITION_AT_OR_ABOVE: u32 = 9;
 
 pub const ITEM_CALL: u32 = 0;
 

@@ -1,6 +1,10 @@
 // The fields of the table's words, by the word.
+ghost use mathlib.Core.Path.{_≡_};
 ghost use Rattle.rulebook.specs.Words.{field as fieldOf};
+ghost use Rattle.rulebook.specs.Expressions.{operatorKind};
 ghost use Rattle.words.specs.Field.{Field};
+use crate::numbers::OPERATOR_AND;
+use crate::numbers::OPERATOR_NOT;
 
 // The header's words.
 pub fn edition(w: u32) -> u32
@@ -161,6 +165,13 @@ pub fn expression_kind(w: u32) -> u32
     ensures { λ r. ⌜ Field (fieldOf 0 4 w) 16 r ⌝ }
 {
     crate::field(w, 268435456, 16)
+}
+
+// Whether an expression of this kind is an operator; any other is a condition.
+pub fn is_operator(kind: u32) -> bool
+    ensures { λ r. ⌜ r ≡ operatorKind kind ⌝ }
+{
+    (OPERATOR_AND <= kind) & (kind <= OPERATOR_NOT)
 }
 
 pub fn condition_port(w: u32) -> u32

@@ -109,7 +109,7 @@ module _ (n : ℕ) where
       let at-word = at-condition .before in
       let undefined = undefinedIn (argument-start at-word .args .s .now) in
       c .undefined-in .ensures ∙ ap undefined (c .before .condition-port .ensures .value)
-      ∙ sym (mention-condition t _ _ _ _ (at-word .before .if1 .left) (section-word t _ _ _ section (at-word .word .ensures)) refl undefined
+      ∙ sym (mention-condition t _ _ _ _ _ (at-word .before .if1 .left) (section-word t _ _ _ section (at-word .word .ensures)) refl refl undefined
       (sym (at-condition .is-condition .ensures) ∙ c .before .before .if2 .taken))
 
   argument-mentions-in-requires : argument-mentions-lts.Need-mentions-in-requires argument-mentions-calls argument-mentions-at argument-mentions.Post
@@ -128,7 +128,7 @@ module _ (n : ℕ) where
       let at-word = at-condition .before in
       let undefined = undefinedIn (start at-word .args .s .now) in
       c .undefined-in .ensures ∙ ap undefined (c .before .condition-port .ensures .value)
-      ∙ sym (mention-condition t _ _ _ _ (at-word .before .if1 .left) (section-word t _ _ _ section (at-word .word .ensures)) refl undefined
+      ∙ sym (mention-condition t _ _ _ _ _ (at-word .before .if1 .left) (section-word t _ _ _ section (at-word .word .ensures)) refl refl undefined
       (sym (at-condition .is-condition .ensures) ∙ c .before .before .if2 .taken))
 
   sub-argument : mentions-in-lts.Need-sub-argument-mentions mentions-in-calls mentions-in-at mentions-in.Post
@@ -141,7 +141,7 @@ module _ (n : ℕ) where
   returns-3 c t section =
       let at-left = c .before .before in
       let at-word = after-word at-left in
-      mention-left t _ _ _ _ (at-word .before .if1 .left) (section-word t _ _ _ section (at-word .word .ensures)) refl
+      mention-left t _ _ _ _ _ (at-word .before .if1 .left) (section-word t _ _ _ section (at-word .word .ensures)) refl refl
       (undefinedIn (start at-word .args .s .now)) _ 0 _ (sym (at-left .before .before .is-condition .ensures) ∙ at-left .before .if2 .left)
       (at-left .left .ensures .value) (c .before .argument-mentions .ensures t section) (c .if3 .taken)
 
@@ -149,7 +149,7 @@ module _ (n : ℕ) where
   returns-4 c t section =
       let at-left = after-left (c .before) in
       let at-word = after-word at-left in
-      mention-not t _ _ _ _ (at-word .before .if1 .left) (section-word t _ _ _ section (at-word .word .ensures)) refl
+      mention-not t _ _ _ _ _ (at-word .before .if1 .left) (section-word t _ _ _ section (at-word .word .ensures)) refl refl
       (undefinedIn (start at-word .args .s .now)) _ 0 _ (sym (at-left .before .before .is-condition .ensures) ∙ at-left .before .if2 .left)
       (at-left .left .ensures .value) (c .before .before .before .argument-mentions .ensures t section) (c .before .before .if3 .left)
       (sym (c .before .expression-kind .ensures .value) ∙ c .if4 .taken)
@@ -169,7 +169,7 @@ module _ (n : ℕ) where
       let at-left = after-left at-kind in
       let at-word = after-word at-left in
       c .argument-mentions2 .ensures t section
-      ∙ mention-right t _ _ _ _ (at-word .before .if1 .left) (section-word t _ _ _ section (at-word .word .ensures)) refl
+      ∙ mention-right t _ _ _ _ _ (at-word .before .if1 .left) (section-word t _ _ _ section (at-word .word .ensures)) refl refl
       (undefinedIn (start at-word .args .s .now)) _ _ _ (sym (at-left .before .before .is-condition .ensures) ∙ at-left .before .if2 .left)
       (at-left .left .ensures .value) (at-kind .before .before .argument-mentions .ensures t section) (at-kind .before .if3 .left)
       (λ e. at-right .before .if4 .left (at-kind .expression-kind .ensures .value ∙ e)) (at-right .right .ensures .value)

@@ -4,7 +4,7 @@ use Rattle.evaluation.proofs.is_condition.Statement.{statement}
 use Rattle.evaluation.proofs.is_condition.Tie as tie
 
 returns : tie.Need-returns
-returns c = rw (c .expression-kind .ensures .value)
+returns c = rw (c .is-operator .ensures, c .before .expression-kind .ensures .value)
 
 pub is-condition-spec : {M : Type 1} → statement M
-is-condition-spec = tie.close (tie.spec (λ c κs. search needs) returns)
+is-condition-spec = tie.close (tie.spec (λ c κs. search needs) (λ c κs. search needs) returns)

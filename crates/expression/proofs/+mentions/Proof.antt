@@ -15,6 +15,7 @@ use Rattle.words.proofs.flag.Reads as flag-reads
 use Rattle.words.proofs.sections.expression_word.Reads as expression-word-reads
 use Rattle.words.proofs.table.condition_port.Reads as condition-port-reads
 use Rattle.words.proofs.table.expression_kind.Reads as expression-kind-reads
+use Rattle.words.proofs.table.is_operator.Reads as is-operator-reads
 use Rattle.words.proofs.table.left.Reads as left-reads
 use Rattle.words.proofs.table.right.Reads as right-reads
 use Rattle.expression.proofs.+mentions.{statement}
@@ -36,6 +37,8 @@ mentions-calls t = (
   expression-word-reads.Learnt,
   expression-kind-reads.Asked,
   expression-kind-reads.Learnt,
+  is-operator-reads.Asked,
+  is-operator-reads.Learnt,
   condition-port-reads.Asked,
   condition-port-reads.Learnt,
   flag-reads.Asked,
@@ -54,10 +57,15 @@ abbrev start-from-else1 :
     mentions-lts.Start (mentions-calls t) (mentions-at t) mentions.Post
 start-from-else1 t c = c .before .before .before
 
+abbrev after-is-operator :
+    (t : ℕ) → mentions-lts.After-left (mentions-calls t) (mentions-at t) mentions.Post →
+    mentions-lts.After-is-operator (mentions-calls t) (mentions-at t) mentions.Post
+after-is-operator t c = c .before .before
+
 abbrev after-expression-kind :
     (t : ℕ) → mentions-lts.After-left (mentions-calls t) (mentions-at t) mentions.Post →
     mentions-lts.After-expression-kind (mentions-calls t) (mentions-at t) mentions.Post
-after-expression-kind t c = c .before .before
+after-expression-kind t c = after-is-operator t c .before
 
 abbrev after-expression-word :
     (t : ℕ) → mentions-lts.After-left (mentions-calls t) (mentions-at t) mentions.Post →
@@ -82,7 +90,7 @@ then2 t c = c .before .before
 abbrev after-expression-word-from-flag :
     (t : ℕ) → mentions-lts.After-flag (mentions-calls t) (mentions-at t) mentions.Post →
     mentions-lts.After-expression-word (mentions-calls t) (mentions-at t) mentions.Post
-after-expression-word-from-flag t c = then2 t c .before .before
+after-expression-word-from-flag t c = then2 t c .before .before .before
 
 abbrev else1-from-flag :
     (t : ℕ) → mentions-lts.After-flag (mentions-calls t) (mentions-at t) mentions.Post →
@@ -124,6 +132,9 @@ mentions-expression-word-requires t c κs = start-from-else1 t c .pre .1
 mentions-expression-kind-requires : (t : ℕ) → mentions-lts.Need-expression-kind-requires (mentions-calls t) (mentions-at t) mentions.Post
 mentions-expression-kind-requires t c κs = tt
 
+mentions-is-operator-requires : (t : ℕ) → mentions-lts.Need-is-operator-requires (mentions-calls t) (mentions-at t) mentions.Post
+mentions-is-operator-requires t c κs = tt
+
 mentions-condition-port-requires : (t : ℕ) → mentions-lts.Need-condition-port-requires (mentions-calls t) (mentions-at t) mentions.Post
 mentions-condition-port-requires t c κs = tt
 
@@ -135,8 +146,9 @@ mentions-returns-2 t c =
     c .flag .ensures
     ∙ ap (flagged (start-from-else1 t (else1-from-flag t c) .args .flags .now)) (c .before .condition-port .ensures .value)
     ∙ sym
-    (mention-condition _ _ _ _ _ (else1-from-flag t c .if1 .left) (after-expression-word-from-flag t c .expression-word .ensures)
-    (then2 t c .before .expression-kind .ensures .value) (flagged (start-from-else1 t (else1-from-flag t c) .args .flags .now))
+    (mention-condition _ _ _ _ _ _ (else1-from-flag t c .if1 .left) (after-expression-word-from-flag t c .expression-word .ensures)
+    (then2 t c .before .before .expression-kind .ensures .value) (then2 t c .before .is-operator .ensures)
+    (flagged (start-from-else1 t (else1-from-flag t c) .args .flags .now))
     (then2 t c .if2 .taken))
 
 mentions-left-requires : (t : ℕ) → mentions-lts.Need-left-requires (mentions-calls t) (mentions-at t) mentions.Post
@@ -150,16 +162,19 @@ mentions-mentions-requires t c κs = (omega (arith, start t c .pre .0, else1 t c
 
 mentions-returns-3 : (t : ℕ) → mentions-lts.Need-returns-3 (mentions-calls t) (mentions-at t) mentions.Post
 mentions-returns-3 t c =
-    mention-left _ _ _ _ _ (else1 t (after-left t c) .if1 .left) (after-expression-word t (after-left t c) .expression-word .ensures)
-    (after-expression-kind t (after-left t c) .expression-kind .ensures .value) (flagged (start t (after-left t c) .args .flags .now)) _ 0 _
-    (after-left t c .before .if2 .left) (after-left t c .left .ensures .value) (c .before .mentions .ensures) (c .if3 .taken)
+    let at-left = after-left t c in
+    mention-left _ _ _ _ _ _ (else1 t at-left .if1 .left) (after-expression-word t at-left .expression-word .ensures)
+    (after-expression-kind t at-left .expression-kind .ensures .value) (after-is-operator t at-left .is-operator .ensures)
+    (flagged (start t at-left .args .flags .now)) _ 0 _ (at-left .before .if2 .left) (at-left .left .ensures .value) (c .before .mentions .ensures)
+    (c .if3 .taken)
 
 mentions-returns-4 : (t : ℕ) → mentions-lts.Need-returns-4 (mentions-calls t) (mentions-at t) mentions.Post
 mentions-returns-4 t c =
-    mention-not _ _ _ _ _ (else1 t (after-left-from-then4 t c) .if1 .left) (after-expression-word t (after-left-from-then4 t c) .expression-word .ensures)
-    (after-expression-kind t (after-left-from-then4 t c) .expression-kind .ensures .value)
-    (flagged (start t (after-left-from-then4 t c) .args .flags .now)) _ 0 _ (after-left-from-then4 t c .before .if2 .left)
-    (after-left-from-then4 t c .left .ensures .value) (c .before .before .mentions .ensures) (c .before .if3 .left) (c .if4 .taken)
+    let at-left = after-left-from-then4 t c in
+    mention-not _ _ _ _ _ _ (else1 t at-left .if1 .left) (after-expression-word t at-left .expression-word .ensures)
+    (after-expression-kind t at-left .expression-kind .ensures .value)
+    (after-is-operator t at-left .is-operator .ensures) (flagged (start t at-left .args .flags .now)) _ 0 _ (at-left .before .if2 .left)
+    (at-left .left .ensures .value) (c .before .before .mentions .ensures) (c .before .if3 .left) (c .if4 .taken)
 
 mentions-right-requires : (t : ℕ) → mentions-lts.Need-right-requires (mentions-calls t) (mentions-at t) mentions.Post
 mentions-right-requires t c κs = tt
@@ -175,12 +190,13 @@ mentions-mentions-requires-2 t c κs = (
 
 mentions-returns-5 : (t : ℕ) → mentions-lts.Need-returns-5 (mentions-calls t) (mentions-at t) mentions.Post
 mentions-returns-5 t c =
+    let at-left = after-left-from-mentions2 t c in
     c .mentions2 .ensures
-    ∙ mention-right _ _ _ _ _ (else1 t (after-left-from-mentions2 t c) .if1 .left)
-    (after-expression-word t (after-left-from-mentions2 t c) .expression-word .ensures)
-    (after-expression-kind t (after-left-from-mentions2 t c) .expression-kind .ensures .value)
-    (flagged (start t (after-left-from-mentions2 t c) .args .flags .now)) _ _ _ (after-left-from-mentions2 t c .before .if2 .left)
-    (after-left-from-mentions2 t c .left .ensures .value) (else3 t c .before .mentions .ensures) (else3 t c .if3 .left) (c .before .before .if4 .left)
+    ∙ mention-right _ _ _ _ _ _ (else1 t at-left .if1 .left)
+    (after-expression-word t at-left .expression-word .ensures)
+    (after-expression-kind t at-left .expression-kind .ensures .value)
+    (after-is-operator t at-left .is-operator .ensures) (flagged (start t at-left .args .flags .now)) _ _ _ (at-left .before .if2 .left)
+    (at-left .left .ensures .value) (else3 t c .before .mentions .ensures) (else3 t c .if3 .left) (c .before .before .if4 .left)
     (c .before .right .ensures .value)
 
 pub +mentions-spec : {M : Type 1} → statement M
@@ -190,6 +206,7 @@ pub +mentions-spec : {M : Type 1} → statement M
     (mentions-returns t)
     (mentions-expression-word-requires t)
     (mentions-expression-kind-requires t)
+    (mentions-is-operator-requires t)
     (mentions-condition-port-requires t)
     (mentions-flag-requires t)
     (mentions-returns-2 t)

@@ -13,6 +13,7 @@ use Rattle.expression.proofs.within.Kinds as within-kinds
 use Rattle.expression.proofs.+within.Lts-within as within-lts
 use Rattle.words.proofs.sections.expression_word.Reads as expression-word-reads
 use Rattle.words.proofs.table.expression_kind.Reads as expression-kind-reads
+use Rattle.words.proofs.table.is_operator.Reads as is-operator-reads
 use Rattle.words.proofs.table.left.Reads as left-reads
 use Rattle.words.proofs.table.right.Reads as right-reads
 use Rattle.expression.proofs.+within.{statement}
@@ -33,6 +34,8 @@ within-calls t = (
   expression-word-reads.Learnt,
   expression-kind-reads.Asked,
   expression-kind-reads.Learnt,
+  is-operator-reads.Asked,
+  is-operator-reads.Learnt,
   left-reads.Asked,
   left-reads.Learnt,
   within-below t,
@@ -45,10 +48,15 @@ within-calls t = (
 abbrev start : (t : ℕ) → within-lts.Else1 (within-calls t) (within-at t) within.Post → within-lts.Start (within-calls t) (within-at t) within.Post
 start t c = c .before .before
 
+abbrev after-is-operator :
+    (t : ℕ) → within-lts.After-left (within-calls t) (within-at t) within.Post →
+    within-lts.After-is-operator (within-calls t) (within-at t) within.Post
+after-is-operator t c = c .before .before
+
 abbrev after-expression-kind :
     (t : ℕ) → within-lts.After-left (within-calls t) (within-at t) within.Post →
     within-lts.After-expression-kind (within-calls t) (within-at t) within.Post
-after-expression-kind t c = c .before .before
+after-expression-kind t c = after-is-operator t c .before
 
 abbrev after-expression-word :
     (t : ℕ) → within-lts.After-left (within-calls t) (within-at t) within.Post →
@@ -91,11 +99,14 @@ within-expression-word-requires t c κs = start t c .pre .1
 within-expression-kind-requires : (t : ℕ) → within-lts.Need-expression-kind-requires (within-calls t) (within-at t) within.Post
 within-expression-kind-requires t c κs = tt
 
+within-is-operator-requires : (t : ℕ) → within-lts.Need-is-operator-requires (within-calls t) (within-at t) within.Post
+within-is-operator-requires t c κs = tt
+
 within-returns-2 : (t : ℕ) → within-lts.Need-returns-2 (within-calls t) (within-at t) within.Post
 within-returns-2 t c =
     sym
-    (within-condition _ _ _ _ _ (c .before .before .before .if1 .left) (c .before .before .expression-word .ensures)
-    (c .before .expression-kind .ensures .value) (c .if2 .taken))
+    (within-condition _ _ _ _ _ _ (c .before .before .before .before .if1 .left) (c .before .before .before .expression-word .ensures)
+    (c .before .before .expression-kind .ensures .value) (c .before .is-operator .ensures) (c .if2 .taken))
 
 within-left-requires : (t : ℕ) → within-lts.Need-left-requires (within-calls t) (within-at t) within.Post
 within-left-requires t c κs = tt
@@ -108,15 +119,18 @@ within-within-requires t c κs = (omega (arith, start t (else1 t c) .pre .0, els
 
 within-returns-3 : (t : ℕ) → within-lts.Need-returns-3 (within-calls t) (within-at t) within.Post
 within-returns-3 t c =
-    within-left-fails _ _ _ _ _ (else1 t (after-left t c) .if1 .left) (after-expression-word t (after-left t c) .expression-word .ensures)
-    (after-expression-kind t (after-left t c) .expression-kind .ensures .value) _ 0 _ (after-left t c .before .if2 .left)
-    (after-left t c .left .ensures .value) (c .before .within .ensures) (c .if3 .taken)
+    let at-left = after-left t c in
+    within-left-fails _ _ _ _ _ _ (else1 t at-left .if1 .left) (after-expression-word t at-left .expression-word .ensures)
+    (after-expression-kind t at-left .expression-kind .ensures .value) (after-is-operator t at-left .is-operator .ensures) _ 0 _
+    (at-left .before .if2 .left) (at-left .left .ensures .value) (c .before .within .ensures) (c .if3 .taken)
 
 within-returns-4 : (t : ℕ) → within-lts.Need-returns-4 (within-calls t) (within-at t) within.Post
 within-returns-4 t c =
-    within-not _ _ _ _ _ (else1 t (after-left-from-then4 t c) .if1 .left) (after-expression-word t (after-left-from-then4 t c) .expression-word .ensures)
-    (after-expression-kind t (after-left-from-then4 t c) .expression-kind .ensures .value) _ 0 _ (after-left-from-then4 t c .before .if2 .left)
-    (after-left-from-then4 t c .left .ensures .value) (c .before .before .within .ensures) (c .before .if3 .left) (c .if4 .taken)
+    let at-left = after-left-from-then4 t c in
+    within-not _ _ _ _ _ _ (else1 t at-left .if1 .left) (after-expression-word t at-left .expression-word .ensures)
+    (after-expression-kind t at-left .expression-kind .ensures .value)
+    (after-is-operator t at-left .is-operator .ensures) _ 0 _ (at-left .before .if2 .left)
+    (at-left .left .ensures .value) (c .before .before .within .ensures) (c .before .if3 .left) (c .if4 .taken)
 
 within-right-requires : (t : ℕ) → within-lts.Need-right-requires (within-calls t) (within-at t) within.Post
 within-right-requires t c κs = tt
@@ -130,11 +144,13 @@ within-within-requires-2 t c κs =
 
 within-returns-5 : (t : ℕ) → within-lts.Need-returns-5 (within-calls t) (within-at t) within.Post
 within-returns-5 t c =
+    let at-left = after-left-from-within2 t c in
     c .within2 .ensures
-    ∙ within-right _ _ _ _ _ (else1 t (after-left-from-within2 t c) .if1 .left)
-    (after-expression-word t (after-left-from-within2 t c) .expression-word .ensures)
-    (after-expression-kind t (after-left-from-within2 t c) .expression-kind .ensures .value) _ _ _ (after-left-from-within2 t c .before .if2 .left)
-    (after-left-from-within2 t c .left .ensures .value) (after-within t (c .before) .within .ensures) (c .before .before .before .if3 .left)
+    ∙ within-right _ _ _ _ _ _ (else1 t at-left .if1 .left)
+    (after-expression-word t at-left .expression-word .ensures)
+    (after-expression-kind t at-left .expression-kind .ensures .value)
+    (after-is-operator t at-left .is-operator .ensures) _ _ _ (at-left .before .if2 .left)
+    (at-left .left .ensures .value) (after-within t (c .before) .within .ensures) (c .before .before .before .if3 .left)
     (c .before .before .if4 .left) (c .before .right .ensures .value)
 
 pub +within-spec : {M : Type 1} → statement M
@@ -144,6 +160,7 @@ pub +within-spec : {M : Type 1} → statement M
     (within-returns t)
     (within-expression-word-requires t)
     (within-expression-kind-requires t)
+    (within-is-operator-requires t)
     (within-returns-2 t)
     (within-left-requires t)
     (within-sub-within t)

@@ -8,8 +8,8 @@ use Rattle.fields.proofs.expression_fields.Tie as tie
 returns : tie.Need-returns
 unfolding ownFields expressionFields operator
 returns c =
-    let expression = c .expression-at .ensures in
-    rw (expression .kind .value, expression .value .value, expression .zero .value, expression .right .value)
+    let expression = c .before .expression-at .ensures in
+    rw (c .is-operator .ensures, expression .kind .value, expression .value .value, expression .zero .value, expression .right .value)
 
 pub expression-fields-spec : {M : Type 1} → statement M
-expression-fields-spec = tie.close (tie.spec (λ c κs. search needs) returns)
+expression-fields-spec = tie.close (tie.spec (λ c κs. search needs) (λ c κs. search needs) returns)

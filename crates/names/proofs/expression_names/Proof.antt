@@ -8,10 +8,11 @@ use Rattle.names.proofs.expression_names.Tie as tie
 returns : tie.Need-returns
 unfolding names expressionNames operator
 returns c =
-    let expression = c .before .expression-at .ensures in
-    let laid = c .before .before .before .pre in
+    let expression = c .before .before .expression-at .ensures in
+    let laid = c .before .before .before .before .pre in
     rw (
-      c .port-at .ensures .kind .value,
+      c .is-operator .ensures,
+      c .before .port-at .ensures .kind .value,
       expression .port .value,
       expression .left .value,
       expression .right .value,
@@ -21,4 +22,4 @@ returns c =
     )
 
 pub expression-names-spec : {M : Type 1} → statement M
-expression-names-spec = tie.close (tie.spec (λ c κs. search needs) (λ c κs. search needs) returns)
+expression-names-spec = tie.close (tie.spec (λ c κs. search needs) (λ c κs. search needs) (λ c κs. search needs) returns)
