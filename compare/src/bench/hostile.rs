@@ -42,6 +42,7 @@ pub fn all() -> Vec<Hostile> {
         asked("255 lists chosen at once, last one first", chosen()),
         asked("4,080 rule items of expressions 7 deep", rule_items(expressions(7))),
         asked("4,080 rule items, no branch shared", rule_items(unshared())),
+        asked("4,080 rule items, conditions at or above", rule_items(leveled(expressions(7)))),
         asked("4,080 rule items, a port undefined", rule_items(undefined(expressions(7)))),
         asked("4,080 rule items, both of these", rule_items(undefined(unshared()))),
     ];
@@ -221,6 +222,16 @@ fn unshared() -> Draft {
     draft.expressions = trees.concat();
     for (rule, root) in draft.rules.iter_mut().zip(roots.into_iter().cycle()) {
         rule.expression = root;
+    }
+    draft
+}
+
+/// With each condition at or above its value, the last kind that is asked for.
+fn leveled(mut draft: Draft) -> Draft {
+    for expression in &mut draft.expressions {
+        if let Expression::Condition(condition) = expression {
+            condition.kind = expression::AT_OR_ABOVE;
+        }
     }
     draft
 }

@@ -79,7 +79,8 @@ fn visited(draft: &Draft, number: usize) -> (bool, usize) {
     let (kind, left, right) = match draft.expressions[number] {
         Expression::Condition(condition) => {
             let initial = draft.ports[condition.port as usize].initial;
-            return (initial == condition.value, 1);
+            let level = condition.kind == expression::AT_OR_ABOVE;
+            return (initial == condition.value || level && initial > condition.value, 1);
         }
         Expression::Operator(Operator { kind, left, right }) => (kind, left, right),
     };
@@ -136,7 +137,7 @@ fn of_rule_items() -> Vec<Hostile> {
 
 #[test]
 fn each_of_4080_rule_items_is_reached_and_evaluated() {
-    assert_eq!(of_rule_items().len(), 8);
+    assert_eq!(of_rule_items().len(), 9);
     for Hostile { name, draft, event } in of_rule_items() {
         let (_, trace) = after(&draft, event);
         let mut expected = vec![];
