@@ -42,9 +42,9 @@
 #include <stdint.h>
 
 /* The version of this header and of the archive beside it. docs/CHANGES.md says what each version changes. */
-#define HERRINGCART_VERSION "2.0"
+#define HERRINGCART_VERSION "2.1"
 #define HERRINGCART_VERSION_MAJOR 2
-#define HERRINGCART_VERSION_MINOR 0
+#define HERRINGCART_VERSION_MINOR 1
 
 #ifdef __cplusplus
 extern "C" {
