@@ -3,6 +3,7 @@ use mathlib.Core.Path.{_≡_}
 use mathlib.Core.List.{List, [], _∷_, _++_}
 use Prim.Native.Nat.{ℕ}
 use lib.ListN.{take}
+use Rattle.laws.proofs.Levels.{levels}
 use Rattle.stranger.specs.Logs.{Entry, stateAfter}
 use Rattle.manager.specs.Promises.{ChecksTableIn, MakesFreshIn, TakesEventIn}
 use Rattle.demands.specs.Calls.{Played}
@@ -14,7 +15,12 @@ use Rattle.demands.proofs.Cleared.{clears}
 use Rattle.demands.proofs.Demand3.{demand-3}
 
 pub of-table : (t : List ℕ) (reason place b : ℕ) → ChecksTableIn t reason place b → OfTable t reason place b
-of-table t reason place b p = record { answered = table-answered t reason place b p; accepts = accepts t reason place b p }
+of-table t reason place b p =
+    record {
+      answered = table-answered t reason place b p;
+      accepts = accepts t reason place b p;
+      levels = λ z. levels t (accepts t reason place b p .0 z);
+    }
 
 pub of-fresh : (t s : List ℕ) (k : ℕ) (s′ : List ℕ) → MakesFreshIn t s k s′ → OfFresh t s k s′
 of-fresh t s k s′ p = record { answered = fresh-answered t s k s′ p; waits = λ z. demand-3 t s k s′ p z .0; after = λ z. demand-3 t s k s′ p z .1 }

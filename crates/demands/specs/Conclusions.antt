@@ -8,6 +8,7 @@ use lib.ListN.{take}
 use Rattle.laws.specs.Acceptance.{Rules}
 use Rattle.laws.specs.Chosen.{Arbitrated}
 use Rattle.laws.specs.Cleared.{ClearCounts}
+use Rattle.laws.specs.Levels.{Levels}
 use Rattle.stranger.specs.Logs.{Entry, stateAfter}
 use Rattle.stranger.specs.Statements.{Demand3}
 use Rattle.demands.specs.Calls.{Played}
@@ -18,6 +19,8 @@ use Rattle.demands.specs.Demand3.{AnsweredAfter}
 pub record OfTable (t : List ℕ) (reason place b : ℕ) : Type 0 where
   pub answered : TableAnswered t reason place b
   pub accepts : (reason ≡ 0) ↔ Rules t
+  -- Q-5: "condition kind 9, 'at or above', for mode ports only"
+  pub levels : reason ≡ 0 → Levels t
 
 pub record OfFresh (t s : List ℕ) (k : ℕ) (s′ : List ℕ) : Type 0 where
   pub answered : FreshAnswered t s k s′

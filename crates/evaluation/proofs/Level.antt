@@ -11,7 +11,7 @@ use Rattle.rulebook.specs.Table.{expressionWord, expressionKind, left, right, n
 use Rattle.rulebook.specs.Expressions as Expressions
 use Rattle.rulebook.specs.Expressions.{operatorKind, operator, joined, expressionHolds, holds}
 use Rattle.rulebook.specs.Lists.{listFor, choice}
-use Rattle.evaluation.specs.Met.{conditionWord, wordMet}
+use Rattle.evaluation.specs.Condition.{conditionWord, wordMet}
 use Rattle.evaluation.specs.Skipping.{settled}
 use Rattle.evaluation.proofs.Skipping.{settled-alike}
 

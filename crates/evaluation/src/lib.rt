@@ -7,7 +7,7 @@ ghost use Rattle.rulebook.specs.Expressions.{mentions, met, joined as joinedOf,
 ghost use Rattle.rulebook.specs.Lists.{valueIn, undefinedIn, unready as unreadyOf, resultIn, listFor, choice as choiceOf};
 ghost use Rattle.words.specs.Field.{Field};
 ghost use Rattle.words.specs.Sections.{Laid};
-ghost use Rattle.evaluation.specs.Met.{conditionWord, wordMet};
+ghost use Rattle.evaluation.specs.Condition.{conditionWord, wordMet};
 ghost use Rattle.evaluation.specs.Section.{StartsAt, HoldsIn, MentionsIn};
 ghost use Rattle.evaluation.specs.Skipping.{settled as settledOf};
 use words::numbers::CONDITION_AT_OR_ABOVE;
@@ -43,10 +43,10 @@ fn undefined_in(s: &[u32], p: u32) -> bool
 }
 
 // Whether a condition of this kind holds of a port's value.
-fn condition_met(kind: u32, value: u32, named: u32) -> bool
-    ensures { λ r. ⌜ r ≡ met kind value named ⌝ }
+fn condition_met(kind: u32, value: u32, given: u32) -> bool
+    ensures { λ r. ⌜ r ≡ met kind value given ⌝ }
 {
-    let equal = value == named;
+    let equal = value == given;
     if kind == CONDITION_EQUAL {
         return equal;
     }
@@ -60,7 +60,7 @@ fn condition_met(kind: u32, value: u32, named: u32) -> bool
         return value == 0;
     }
     if kind == CONDITION_AT_OR_ABOVE {
-        return !(value < named);
+        return !(value < given);
     }
     false
 }

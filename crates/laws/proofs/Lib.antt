@@ -24,3 +24,4 @@ pub mod Chosen
 pub mod Marks
 pub mod Unmarked
 pub mod Cleared
+pub mod Levels

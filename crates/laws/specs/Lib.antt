@@ -5,3 +5,4 @@ pub mod Sequence
 pub mod Chosen
 pub mod Callable
 pub mod Cleared
+pub mod Levels

@@ -53,15 +53,15 @@ mentions (suc d) t q e = expressionMentions t q (mentions d t q) e
 
 -- Evaluation, by the values that v gives the ports.
 
--- What a condition says of its port's value, and of the value that it names. Document 02, Q-5: "at or above" is "true exactly if the
+-- What a condition of a kind says of its port's value and the given one. Document 02, Q-5: "at or above" is "true exactly if the
 -- port's value is not below the given one". A kind above 9 says nothing: rule 5 refuses it.
 abbrev pub met : ℕ → ℕ → ℕ → Bool
-met kind value named =
-    cond (eqb kind conditionEqual) (eqb value named)
-    (cond (eqb kind conditionNotEqual) (not (eqb value named))
+met kind value given =
+    cond (eqb kind conditionEqual) (eqb value given)
+    (cond (eqb kind conditionNotEqual) (not (eqb value given))
     (cond (eqb kind conditionSet) (eqb value 1)
     (cond (eqb kind conditionCleared) (eqb value 0)
-    (cond (eqb kind conditionAtOrAbove) (not (ltb value named))
+    (cond (eqb kind conditionAtOrAbove) (not (ltb value given))
     false))))
 
 unfoldable pub condition : List ℕ → (ℕ → ℕ) → ℕ → Bool
