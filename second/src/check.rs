@@ -28,13 +28,19 @@ pub fn accept(words: &[u32]) -> Result<(Table<'_>, usize), (u32, usize)> {
     let thing_ports = table.thing_ports();
     refuse_lowest(6, &table, |number, word| names_wrongly(&table, &thing_ports, number, word))?;
     let expression_depths = depths(&expression_names(&table));
-    let list_depths = depths(&list_names(&table));
+    let list_names = list_names(&table);
+    let list_depths = depths(&list_names);
     refuse_lowest(7, &table, |number, word| match word {
         Word::Expression(_) => expression_depths[number].is_none(),
         Word::List(_) => list_depths[number].is_none(),
         _ => false,
     })?;
     refuse_lowest(8, &table, |_, word| clashes(&table, word))?;
+    // Q-6: "It is reason 10, placed at the lowest such list word. It stands after owner clashes
+    // and before the sum of costs."
+    if let Some(lowest) = reached(&table, &list_names).iter().position(|&reached| !reached) {
+        return Err((10, table.place(Section::Lists, lowest)));
+    }
     let b = costs(&table, &list_depths).into_iter().fold(0, u64::saturating_add);
     if b > DEAREST { Err((9, 0)) } else { Ok((table, b as usize)) }
 }
@@ -225,6 +231,24 @@ fn item_clashes(table: &Table, list: List, item: Item) -> bool {
         item::NETWORK_REQUEST => table.network(named).owner != list.owner,
         _ => table.port(named).owner != list.owner,
     }
+}
+
+/// Which lists are reached. Q-6: "Refuse a table in which a list is reached by no rule that isn't
+/// nested-only, whether directly, by a named list, or by a rule item." Such a rule reaches both its
+/// lists, and a reached list all that it names. Each list's names are followed once, when it is
+/// first reached, for the paths may be too many to walk.
+fn reached(table: &Table, names: &[Vec<usize>]) -> Vec<bool> {
+    let rules = (0..table.count(Section::Rules)).map(|number| table.rule(number));
+    let starting = rules.filter(|rule| rule.nested_only == 0);
+    let mut to_follow: Vec<usize> = starting.flat_map(|rule| rule.lists()).collect();
+    let mut reached = vec![false; names.len()];
+    while let Some(list) = to_follow.pop() {
+        if !reached[list] {
+            reached[list] = true;
+            to_follow.extend(&names[list]);
+        }
+    }
+    reached
 }
 
 /// Each list's cost. A list names only shallower ones, so going by depth finds

@@ -2,9 +2,9 @@
 //! them, requests that clear them, and ticks, in any order.
 
 use super::draft::Draft;
+use super::numbers::renumbered;
 use super::prng::Prng;
 use super::sequences::strewn;
-use super::tables::renumbered;
 use crate::words::*;
 
 /// Requests of 1 up to this start a list that clears.
@@ -90,9 +90,10 @@ impl Clearer<'_> {
         self.draft.add_expression(Expression::Condition(condition))
     }
 
-    /// At least one rule on each event.
+    /// At least one rule on each event, and one more that starts nested-only ones by rule items.
     fn add_watchers(&mut self) {
         let again = self.rng.pick(&self.events);
+        let mut items = vec![];
         for event in self.events.clone().into_iter().chain([again]) {
             let rule = Rule {
                 owner: self.watching,
@@ -102,8 +103,18 @@ impl Clearer<'_> {
                 true_list: self.watching_list(),
                 false_list: self.watching_list(),
             };
-            self.draft.add_rule(rule);
+            let number = self.draft.add_rule(rule);
+            if rule.nested_only == 1 {
+                items.push(Item { kind: item::RULE, a: number, b: 0 });
+            }
         }
+        if items.is_empty() {
+            return;
+        }
+        let (owner, expression) = (self.watching, self.on(again));
+        let list = self.add_list(owner, 0, &items);
+        let lists = Rule { true_list: list, false_list: list, ..Default::default() };
+        self.draft.add_rule(Rule { owner, expression, ..lists });
     }
 
     /// An expression on the event, mostly on nothing else.

@@ -129,15 +129,45 @@ impl Draft {
     }
 
     fn named_by(&self, list: usize) -> Vec<usize> {
-        let mut named = vec![];
-        for item in &self.items[self.lists[list].items()] {
-            match item.kind {
-                item::LIST => named.push(item.a as usize),
-                item::RULE => named.extend(self.rules[item.a as usize].lists()),
-                _ => {}
-            }
+        let items = &self.items[self.lists[list].items()];
+        items.iter().flat_map(|item| self.named_by_item(item)).collect()
+    }
+
+    /// The lists that an item names, directly or by its rule.
+    pub fn named_by_item(&self, item: &Item) -> impl Iterator<Item = usize> + use<> {
+        let (list, rule) = match item.kind {
+            item::LIST => (Some(item.a as usize), None),
+            item::RULE => (None, Some(self.rules[item.a as usize])),
+            _ => (None, None),
+        };
+        list.into_iter().chain(rule.into_iter().flat_map(|rule| rule.lists()))
+    }
+
+    /// The lists that nothing reaches, each looked at from below: neither it, nor a list that
+    /// names it, nor one that names that, and so on up, is a list of a rule that isn't nested-only.
+    /// Another way than the check's, so that the two can disagree.
+    pub fn unreached(&self) -> Vec<usize> {
+        let mut has_rule = vec![false; self.lists.len()];
+        for rule in self.rules.iter().filter(|rule| rule.nested_only == 0) {
+            rule.lists().for_each(|list| has_rule[list] = true);
         }
-        named
+        let mut namers = vec![vec![]; self.lists.len()];
+        for list in 0..self.lists.len() {
+            self.named_by(list).into_iter().for_each(|named| namers[named].push(list));
+        }
+        let reached = |&list: &usize| {
+            let (mut above, mut seen) = (vec![list], vec![false; namers.len()]);
+            while let Some(next) = above.pop() {
+                if has_rule[next] {
+                    return true;
+                }
+                if !std::mem::replace(&mut seen[next], true) {
+                    above.extend(&namers[next]);
+                }
+            }
+            false
+        };
+        (0..self.lists.len()).filter(|list| !reached(list)).collect()
     }
 
     /// What all lists of a good table cost together, by walking every path.

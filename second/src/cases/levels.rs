@@ -2,9 +2,9 @@
 //! requests that take the ports up and down past them.
 
 use super::draft::{Draft, conditions_on};
+use super::numbers::renumbered;
 use super::prng::Prng;
 use super::sequences::strewn;
-use super::tables::renumbered;
 use crate::words::*;
 
 /// Networks' and sources' ports show 0 to 3.
@@ -76,8 +76,12 @@ impl Leveler<'_> {
         if items.is_empty() {
             return;
         }
-        let starting = self.draft.add_list(self.rng, self.owner, false, &items);
         let rule = self.rule(1, 0);
+        // The starting list takes the place of the rule's own, and starts that too.
+        if rule.true_list != NO_LIST {
+            items.push(Item { kind: item::LIST, a: rule.true_list, b: 0 });
+        }
+        let starting = self.draft.add_list(self.rng, self.owner, false, &items);
         self.draft.add_rule(Rule { true_list: starting, ..rule });
     }
 

@@ -4,21 +4,27 @@
 pub mod cleared;
 pub mod draft;
 pub mod levels;
+pub mod numbers;
 pub mod prng;
 pub mod refused;
 pub mod sequences;
 pub mod states;
 pub mod tables;
+pub mod unreached;
+pub mod ways;
 pub mod wide;
 
 use cleared::clearing;
 use draft::{Draft, SEVEN};
 use levels::leveling;
+use numbers::renumbered;
 use prng::Prng;
 use refused::Refused;
 use sequences::sequence;
 use states::{MISFITS, Misfit, fit_state, fresh_state, unfit_state};
-use tables::{PADDING, Plan, fill_items, grow, pad};
+use tables::{PADDING, Plan, fill_items, fill_rules, grow, pad};
+use unreached::{unreached, unreached_and_more, unreached_of_many, unreached_ring};
+use ways::with_ways;
 use wide::widen;
 
 use crate::check;
@@ -67,9 +73,12 @@ enum Shape {
     Wide,
     Cleared,
     Levels,
+    Reached,
+    Unreached,
     SevenDeep,
     EightDeep,
-    NotReached,
+    /// From a state that a run may never reach.
+    AnyState,
     Unfit,
     Refused,
     TwoFaults,
@@ -80,14 +89,14 @@ enum Shape {
 }
 
 /// The shapes come round in this order, so that every seed meets all of them.
-const ROUND: [Shape; 47] = {
+const ROUND: [Shape; 50] = {
     use Shape::*;
     [
-        Small, Rich, Refused, Cleared, NotReached, Unfit, Small, Refused, SevenDeep, Wide, Small,
-        Levels, Rich, TwoFaults, Small, BitsFlipped, Refused, Small, NotReached, Unfit, Rich, Wide,
-        EightDeep, Small, NamesTurned, Dearest, Cleared, Raw, Levels, Rich, Refused, Unfit, Small,
-        Wide, NotReached, Hostile, Cleared, Refused, Limits, Rich, Small, Brimful, NamesTurned,
-        Unfit, NotReached, Wide, Levels,
+        Small, Rich, Refused, Cleared, AnyState, Unfit, Small, Refused, SevenDeep, Wide, Small,
+        Levels, Rich, TwoFaults, Small, BitsFlipped, Refused, Small, AnyState, Unfit, Rich, Wide,
+        EightDeep, Unreached, Small, NamesTurned, Dearest, Cleared, Raw, Levels, Rich, Refused,
+        Unfit, Small, Reached, Wide, AnyState, Hostile, Cleared, Refused, Limits, Rich, Small,
+        Brimful, NamesTurned, Unreached, Unfit, AnyState, Wide, Levels,
     ]
 };
 
@@ -123,23 +132,21 @@ fn make(rng: &mut Prng, shape: Shape, round: usize) -> Made {
         Shape::Wide => wide(rng),
         Shape::Cleared => cleared(rng),
         Shape::Levels => levels(rng),
-        Shape::SevenDeep => {
-            let base = small(rng);
-            let draft = refused::row(rng, &base, SEVEN as usize);
-            accepted(rng, &draft, fresh_state(&draft), true, 30)
-        }
+        Shape::Reached => reached(rng),
+        Shape::Unreached => refused_case(rng, not_reached),
+        Shape::SevenDeep => seven_deep(rng),
         Shape::EightDeep => refused_case(rng, |rng| {
             let base = small(rng);
             refused::eight_deep(rng, &base)
         }),
-        Shape::NotReached => {
+        Shape::AnyState => {
             let draft = any_draft(rng);
             let state = fit_state(rng, &draft);
             accepted(rng, &draft, state, false, 12)
         }
         Shape::Unfit => unfit(rng),
         Shape::Refused => {
-            let reason = 1 + rng.below(9) as u32;
+            let reason = rng.within(1, 10);
             refused_case(rng, |rng| Some(refused::refuse_some(rng, reason, any_draft)))
         }
         Shape::TwoFaults => refused_case(rng, |rng| {
@@ -213,14 +220,47 @@ fn taking(
     }
 }
 
-/// Every count at its limit, and the cost too or just below.
 fn at_limits(rng: &mut Prng) -> Made {
+    let draft = largest(rng);
+    accepted(rng, &draft, fresh_state(&draft), true, 8)
+}
+
+/// Every count at its limit, and the cost too or just below.
+fn largest(rng: &mut Prng) -> Draft {
     let plan = Plan::limits(rng);
     let mut draft = grow(rng, plan);
     let left = 4096 - rng.below(2) - draft.b();
     pad(rng, &mut draft, left, PADDING);
+    fill_rules(rng, &mut draft);
     fill_items(rng, &mut draft);
-    accepted(rng, &draft, fresh_state(&draft), true, 8)
+    renumbered(rng, draft)
+}
+
+fn seven_deep(rng: &mut Prng) -> Made {
+    let base = small(rng);
+    let draft = refused::row(rng, &base, SEVEN as usize);
+    accepted(rng, &draft, fresh_state(&draft), true, 30)
+}
+
+/// Lists that are reached by one way alone.
+fn reached(rng: &mut Prng) -> Made {
+    let base = any_draft(rng);
+    let draft = with_ways(rng, &base);
+    accepted(rng, &draft, fresh_state(&draft), true, 20)
+}
+
+/// A list that nothing reaches, mostly alone; at times with another fault besides.
+fn not_reached(rng: &mut Prng) -> Option<Refused> {
+    if rng.chance(8) {
+        let good = largest(rng);
+        return unreached_of_many(rng, &good);
+    }
+    let good = any_draft(rng);
+    match rng.weighed(&[1, 2, 3]) {
+        0 => unreached_ring(rng, &good),
+        1 => unreached_and_more(rng, &good),
+        _ => unreached(rng, &good),
+    }
 }
 
 /// All lists together cost exactly the most that is allowed.

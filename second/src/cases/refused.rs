@@ -2,8 +2,10 @@
 //! place are known without asking the judge.
 
 use super::draft::{Depth, Draft, SEVEN, conditions_on};
+use super::numbers::renumbered;
 use super::prng::Prng;
-use super::tables::{pad, renumbered};
+use super::tables::pad;
+use super::unreached::unreached;
 use crate::words::*;
 
 /// A table with the reason and place its making gives it.
@@ -16,7 +18,7 @@ pub struct Refused {
 }
 
 impl Refused {
-    fn of(words: Vec<u32>, reason: u32, place: usize) -> Self {
+    pub fn of(words: Vec<u32>, reason: u32, place: usize) -> Self {
         Refused { words, reason, place, note: None }
     }
 }
@@ -34,7 +36,8 @@ pub fn refuse(rng: &mut Prng, good: &Draft, reason: u32) -> Option<Refused> {
         5 | 6 => one_word(rng, good, reason),
         7 => nested_too_deep(rng, good),
         8 => clashing(rng, good),
-        _ => Some(too_dear(rng, good)),
+        9 => Some(too_dear(rng, good)),
+        _ => unreached(rng, good),
     }
 }
 
@@ -253,7 +256,7 @@ fn misnaming_item(rng: &mut Prng, good: &Draft, item: Item) -> Option<Item> {
 }
 
 /// The lowest expression, else the lowest list, that nests too deep.
-fn too_deep(draft: &Draft) -> Option<Refused> {
+pub fn too_deep(draft: &Draft) -> Option<Refused> {
     let words = draft.words();
     let (expressions, lists) = draft.depths();
     let lowest = |depths: &[Depth]| depths.iter().position(|&d| d > Depth::Levels(SEVEN));
@@ -353,7 +356,7 @@ pub fn eight_deep(rng: &mut Prng, good: &Draft) -> Option<Refused> {
     too_deep(&row(rng, good, 8))
 }
 
-fn clashing(rng: &mut Prng, good: &Draft) -> Option<Refused> {
+pub fn clashing(rng: &mut Prng, good: &Draft) -> Option<Refused> {
     let mut draft = good.clone();
     let other = |rng: &mut Prng, owner: u32| (owner + rng.within(1, 15)) % 16;
     let (section, number) = match rng.below(4) {

@@ -2,10 +2,12 @@
 //! it may name, nesting and cost are kept within bounds as they grow.
 
 use super::draft::{Draft, PRIORITIES, SEVEN, conditions_on};
+use super::numbers::renumbered;
 use super::prng::Prng;
 use crate::words::*;
 
-/// How many of each thing to make, and how dear the lists may be together.
+/// How many of each thing to make, and how dear the lists may be together. Rules come besides where
+/// they are needed to start lists.
 #[derive(Clone, Copy, Debug)]
 pub struct Plan {
     pub operators: usize,
@@ -21,6 +23,10 @@ pub struct Plan {
 
 /// Lists, each with its rule, that bring the table of all limits to its dearest.
 pub const PADDING: usize = 20;
+
+/// The most rules it can take to start all lists of the table of all limits, two lists a rule:
+/// each of the 16 owners may have one list over.
+const STARTERS: usize = (255 - PADDING + 16) / 2;
 
 impl Plan {
     pub fn small(rng: &mut Prng) -> Plan {
@@ -64,7 +70,7 @@ impl Plan {
             networks: 8,
             sources: 32,
             expressions: 512,
-            rules: 256 - PADDING,
+            rules: 256 - PADDING - STARTERS,
             lists: 255 - PADDING,
             items_each: 7,
             cost: 2400,
@@ -80,12 +86,17 @@ struct Grower<'a> {
     plan: Plan,
     draft: Draft,
     owners: Vec<u32>,
+    /// Those of the owners who can have rules, so that something can start their lists.
+    ruling: Vec<u32>,
     /// Whose ports an expression mentions besides the platform's, and its depth.
     expressions: Vec<(u32, u32)>,
     /// Depth and cost of each list; of each rule, its lists' greater ones; of each item.
     lists: Vec<(u32, usize)>,
     rules: Vec<(u32, usize)>,
     items: Vec<(u32, usize)>,
+    /// Whether each list has a rule that isn't nested-only or is named by a later list. Where all
+    /// have, all are reached, for the later list is one of them.
+    started: Vec<bool>,
     spent: usize,
 }
 
@@ -100,15 +111,19 @@ pub fn grow(rng: &mut Prng, plan: Plan) -> Draft {
         plan,
         draft: Draft::default(),
         owners,
+        ruling: vec![],
         expressions: vec![],
         lists: vec![],
         rules: vec![],
         items: vec![],
+        started: vec![],
         spent: 0,
     };
     grower.grow_ports_and_things();
     (0..plan.expressions).for_each(|_| grower.grow_expression());
+    grower.find_ruling();
     grower.grow_rules_and_lists();
+    grower.grow_starters();
     let Grower { rng, draft, .. } = grower;
     renumbered(rng, draft)
 }
@@ -216,6 +231,17 @@ impl Grower<'_> {
         }
     }
 
+    /// The owners with an expression that their rules may have.
+    fn find_ruling(&mut self) {
+        let may = |&&owner: &&u32| !self.expressions_for(owner).is_empty();
+        self.ruling = self.owners.iter().filter(may).copied().collect();
+    }
+
+    fn expressions_for(&self, owner: u32) -> Vec<usize> {
+        let usable = |&e: &usize| [owner, PLATFORM].contains(&self.expressions[e].0);
+        (0..self.expressions.len()).filter(usable).collect()
+    }
+
     fn grow_rules_and_lists(&mut self) {
         loop {
             let rules = self.plan.rules - self.rules.len();
@@ -251,6 +277,34 @@ impl Grower<'_> {
             true_list: list(self.rng),
             false_list: list(self.rng),
         };
+        self.add_rule(rule);
+    }
+
+    /// Rules for the lists that nothing starts, two at once where an owner has two.
+    fn grow_starters(&mut self) {
+        let mut left: Vec<usize> = (0..self.lists.len()).filter(|&l| !self.started[l]).collect();
+        self.rng.shuffle(&mut left);
+        while let Some(list) = left.pop() {
+            let owner = self.draft.lists[list].owner;
+            let other = left.iter().position(|&other| self.draft.lists[other].owner == owner);
+            let other = match other {
+                Some(at) => left.swap_remove(at) as u32,
+                None => self.rng.pick(&[NO_LIST, list as u32]),
+            };
+            let mut lists = [list as u32, other];
+            self.rng.shuffle(&mut lists);
+            let expressions = self.expressions_for(owner);
+            let (first, expression) =
+                (self.rng.within(0, UNDEFINED), self.rng.pick(&expressions) as u32);
+            let [true_list, false_list] = lists;
+            self.add_rule(Rule { owner, first, nested_only: 0, expression, true_list, false_list });
+        }
+    }
+
+    fn add_rule(&mut self, rule: Rule) {
+        if rule.nested_only == 0 {
+            rule.lists().for_each(|list| self.started[list] = true);
+        }
         let greater = |(d, c): (u32, usize), l: usize| {
             let (depth, cost) = self.lists[l];
             (d.max(depth), c.max(cost))
@@ -260,7 +314,7 @@ impl Grower<'_> {
     }
 
     fn grow_list(&mut self) {
-        let owner = self.rng.pick(&self.owners);
+        let owner = self.rng.pick(&self.ruling);
         let after = self.plan.lists - self.lists.len() - 1;
         // Every list still to come costs at least 2.
         let most = self.plan.cost - self.spent - 2 * after;
@@ -271,6 +325,10 @@ impl Grower<'_> {
         let depth = 1 + self.items[items.clone()].iter().map(|&(depth, _)| depth).max().unwrap();
         let cost = 1 + self.items[items.clone()].iter().map(|&(_, cost)| cost).sum::<usize>();
         self.spent += cost;
+        for item in &self.draft.items[items.clone()] {
+            self.draft.named_by_item(item).for_each(|list| self.started[list] = true);
+        }
+        self.started.push(false);
         self.lists.push((depth, cost));
         self.draft.lists.push(List {
             owner,
@@ -355,49 +413,8 @@ fn affordable(grown: &[(u32, usize)], left: usize, ours: impl Fn(usize) -> bool)
     (0..grown.len()).filter(|number| fits(number) && ours(*number)).collect()
 }
 
-/// The same table with expressions, rules and lists numbered in any order, so
-/// that names point forward as well as back.
-pub fn renumbered(rng: &mut Prng, draft: Draft) -> Draft {
-    let expressions = rng.order(draft.expressions.len());
-    let rules = rng.order(draft.rules.len());
-    let lists = rng.order(draft.lists.len());
-    let to = |order: &[usize], named: u32| order[named as usize] as u32;
-    let list = |named: u32| if named == NO_LIST { NO_LIST } else { to(&lists, named) };
-    let mut new = draft.clone();
-    for (old, &expression) in draft.expressions.iter().enumerate() {
-        new.expressions[expressions[old]] = match expression {
-            Expression::Operator(mut operator) => {
-                operator.left = to(&expressions, operator.left);
-                let rightless = operator.kind == expression::NOT;
-                operator.right = if rightless { 0 } else { to(&expressions, operator.right) };
-                Expression::Operator(operator)
-            }
-            condition => condition,
-        };
-    }
-    for (old, &rule) in draft.rules.iter().enumerate() {
-        new.rules[rules[old]] = Rule {
-            expression: to(&expressions, rule.expression),
-            true_list: list(rule.true_list),
-            false_list: list(rule.false_list),
-            ..rule
-        };
-    }
-    for (old, &list) in draft.lists.iter().enumerate() {
-        new.lists[lists[old]] = list;
-    }
-    for item in &mut new.items {
-        match item.kind {
-            item::LIST => item.a = to(&lists, item.a),
-            item::RULE => item.a = to(&rules, item.a),
-            _ => {}
-        }
-    }
-    new
-}
-
 /// Adds lists of outside calls, at least so many, until all lists together
-/// cost exactly `left` more; each gets a rule of its own while there is room.
+/// cost exactly `left` more; each gets a rule of its own.
 pub fn pad(rng: &mut Prng, draft: &mut Draft, left: usize, at_least: usize) {
     let pool = draft.items.len() as u32;
     let calls = (0..255).map(|b| Item { kind: item::OUTSIDE_CALL, a: 0, b });
@@ -414,10 +431,16 @@ pub fn pad(rng: &mut Prng, draft: &mut Draft, left: usize, at_least: usize) {
             first: pool,
             count: share as u32 - 1,
         });
-        if draft.rules.len() < Section::Rules.limits().1 {
-            let rule = Rule { nested_only: 0, true_list: list, false_list: list, ..model };
-            draft.rules.push(rule);
-        }
+        draft.rules.push(Rule { nested_only: 0, true_list: list, false_list: list, ..model });
+    }
+}
+
+/// Rules up to the limit, each like one there is, so that their lists are reached without them;
+/// no list names them.
+pub fn fill_rules(rng: &mut Prng, draft: &mut Draft) {
+    while draft.rules.len() < Section::Rules.limits().1 {
+        let (model, nested_only) = (rng.pick(&draft.rules), rng.chance(40) as u32);
+        draft.rules.push(Rule { first: rng.within(0, UNDEFINED), nested_only, ..model });
     }
 }
 

@@ -3,10 +3,10 @@
 //! side, if it decided instead, would turn the result.
 
 use super::draft::{Draft, SEVEN};
+use super::numbers::renumbered;
 use super::prng::Prng;
 use super::sequences::strewn;
 use super::states::fresh_state;
-use super::tables::renumbered;
 use crate::words::*;
 
 /// The sides that grow: both whole, one only, or as it comes.

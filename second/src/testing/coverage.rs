@@ -4,8 +4,10 @@ use std::cmp::Ordering;
 use std::collections::{BTreeMap, BTreeSet};
 use std::fmt;
 
+use super::names;
 use crate::cases::refused::{COST_4097, DEPTH_8_EXPRESSION, DEPTH_8_LIST, RING};
 use crate::cases::states::{MISFITS, Misfit};
+use crate::cases::unreached::UNREACHED_4097;
 use crate::words::*;
 
 #[derive(Clone, Copy, PartialEq, Eq, PartialOrd, Ord, Debug)]
@@ -26,6 +28,8 @@ pub enum Row {
     /// The operator, and the number of its argument.
     LevelIn(u32, usize),
     NoKind(u32),
+    /// How many lists there are on the way to a list, itself included.
+    Distance(u32),
     NetworkTurn(u32, u32),
     BusOffIgnored(u32),
     SourceTurn(u32, u32),
@@ -77,7 +81,7 @@ pub const LEVEL_ON_ABSENT: &str = "at or above refused: absent port";
 pub const LEVEL_CLASH: &str = "owners clash only by at or above";
 pub const STRUCK_OUT: &str = "strangers' taken events struck out";
 
-const SPECIAL: [&str; 43] = [
+const SPECIAL: [&str; 44] = [
     TWO_CHOSEN,
     CHOSEN_AND_NAMED,
     DEPTH_7_EXPRESSION,
@@ -87,6 +91,7 @@ const SPECIAL: [&str; 43] = [
     RING,
     COST_4096,
     COST_4097,
+    UNREACHED_4097,
     TRACE_FULL,
     PLATFORM_ASKS,
     UNDEFINED_ITEM,
@@ -208,6 +213,7 @@ impl fmt::Display for Row {
                 format!("at or above decides {operator}: {argument}")
             }
             Row::NoKind(kind) => format!("expression kind {kind} refused"),
+            Row::Distance(lists) => format!("lists on the way to one that is reached: {lists}"),
             Row::NetworkTurn(from, to) => format!("network: {}", turn(&NETWORK_STATES, from, to)),
             Row::BusOffIgnored(state) => {
                 format!("bus-off ignored in {}", NETWORK_STATES[state as usize])
@@ -242,7 +248,7 @@ impl Coverage {
             .flat_map(|kind| [0, 1].map(|side| Row::LevelIn(kind, side)))
             .chain([Row::LevelIn(expression::NOT, 0)]);
         let ignoring = [network::NONE, network::SILENT, network::RECOVER];
-        let rows = (0..=9)
+        let rows = (0..=10)
             .map(Row::Reason)
             .chain((0..=6).map(Row::Answer))
             .chain((0..=6).map(Row::EventTaken))
@@ -255,12 +261,14 @@ impl Coverage {
             .chain(levels.map(Row::Level))
             .chain(level_in)
             .chain((expression::AT_OR_ABOVE + 1..=15).map(Row::NoKind))
+            .chain((1..=LEVELS).map(Row::Distance))
             .chain(NETWORK_TURNS.map(|(from, to)| Row::NetworkTurn(from, to)))
             .chain(ignoring.map(Row::BusOffIgnored))
             .chain(SOURCE_TURNS.map(|(from, to)| Row::SourceTurn(from, to)))
             .chain(MISFITS.map(Row::unfit))
             .chain(SECTIONS.map(Row::limit))
-            .chain(SPECIAL.map(Row::Special));
+            .chain(SPECIAL.map(Row::Special))
+            .chain(names::ROWS.map(Row::Special));
         Coverage(rows.map(|row| (row, 0)).collect())
     }
 

@@ -7,8 +7,10 @@ mod demand3;
 mod fixed;
 mod levels;
 mod log;
+mod names;
 mod ports;
 mod properties;
+mod reach;
 mod recorded;
 mod skipping;
 mod traces;
@@ -20,7 +22,7 @@ use coverage::Coverage;
 
 /// Each seed's first cases are run.
 const SEEDS: [u64; 4] = [1, 2026, 0xC0FFEE, 0x5EED_5EED_5EED_5EED];
-const CASES_EACH: usize = 4700;
+const CASES_EACH: usize = 5000;
 
 #[derive(Default)]
 struct Tally {

@@ -6,10 +6,10 @@ use super::levels::{self, Levels};
 use super::log::{Entry, hold, run};
 use super::skipping::Skipping;
 use super::traces::{self, evaluated, items_run, started};
-use super::{demand3, ports};
+use super::{demand3, ports, reach};
 use crate::cases::draft::{Depth, Draft, SEVEN};
 use crate::cases::states::fresh_state;
-use crate::cases::{Case, Made};
+use crate::cases::{Case, Known, Made};
 use crate::stream::STATE_FILL;
 use crate::words::*;
 use crate::{check, check_state, fresh, state};
@@ -26,11 +26,7 @@ pub fn try_case(made: &Made) -> Result<Met, String> {
     })?;
     hold(known.b.is_none_or(|b| b == checked.b), || format!("B {}", checked.b))?;
     try_fresh(case, checked.reason)?;
-    let fit = check_state(&case.table, &case.state);
-    let expected = if known.fit { Some(0) } else { known.misfit.map(|_| 2) };
-    hold(expected.is_none_or(|expected| expected == fit), || {
-        format!("state answered {fit}, made as {:?}", known.misfit)
-    })?;
+    try_state(case, known, checked.reason)?;
     met.extend(known.misfit.map(Row::unfit));
     let log = run(case);
     for (number, entry) in log.iter().enumerate() {
@@ -41,6 +37,7 @@ pub fn try_case(made: &Made) -> Result<Met, String> {
         met.insert(Row::Answer(entry.answer));
     }
     levels::meet_refused(&case.table, checked, &mut met)?;
+    reach::try_reach(&case.table, checked, &mut met)?;
     if checked.reason == 0 {
         let draft = read(&case.table);
         if known.fit && marked_immediate_event(&draft, &case.state) {
@@ -79,6 +76,18 @@ fn try_fresh(case: &Case, reason: u32) -> Result<(), String> {
         _ => (if reason == 0 { 2 } else { 1 }, filled),
     };
     hold((answer, &made) == (expected, &words), || format!("fresh answered {answer}: {made:X?}"))
+}
+
+fn try_state(case: &Case, known: &Known, reason: u32) -> Result<(), String> {
+    let fit = check_state(&case.table, &case.state);
+    let expected = match reason {
+        0 if known.fit => Some(0),
+        0 => known.misfit.map(|_| 2),
+        _ => Some(1),
+    };
+    hold(expected.is_none_or(|expected| expected == fit), || {
+        format!("state answered {fit}, made as {:?}", known.misfit)
+    })
 }
 
 /// The walk's depths and cost agree with the check's; the limits it reaches.
@@ -126,7 +135,8 @@ fn try_log(
         hold(check_state(&case.table, &entry.after) == 0, || {
             format!("event {number} left a state that does not fit: {:X?}", entry.after)
         })?;
-        traces::try_trace(draft, entry).map_err(|what| format!("event {number}: {what}"))?;
+        let tried = traces::try_trace(draft, entry).and_then(|()| reach::try_started(draft, entry));
+        tried.map_err(|what| format!("event {number}: {what}"))?;
         meet(draft, entry, b, met);
         levels.meet(entry, met);
         let tried = skipping.meet(entry, met).and_then(|()| clears.follow(entry, met));

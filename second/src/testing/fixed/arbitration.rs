@@ -3,10 +3,11 @@
 use super::*;
 
 /// Ports 0 and 1 as given; one rule, as given, on the last expression; lists 0
-/// and 1 call 7 and 8. State: [port 0, port 1, rule].
+/// and 1, where the rule has both, call 7 and 8. State: [port 0, port 1, rule].
 fn ruled(ports: [u32; 2], expressions: &[u32], rule: u32, lists: [u32; 2]) -> Vec<u32> {
-    let rule = Rule { expression: expressions.len() as u32 - 1, ..Rule::of(rule) }.word();
-    plain(&ports, expressions, &[rule], &lists, &[call(7), call(8)])
+    let rule = Rule { expression: expressions.len() as u32 - 1, ..Rule::of(rule) };
+    let started = rule.lists().max().map_or(0, |last| last + 1);
+    plain(&ports, expressions, &[rule.word()], &lists[..started], &[call(7), call(8)])
 }
 
 const CONDITIONAL: [u32; 2] = [0x1000_0001, 0x1000_0101];
@@ -79,10 +80,10 @@ fixed_cases! {
     }
 
     fn result_is_stored_even_where_there_is_no_list_for_it() {
-        let mut play = on_five(0, NONE, 1, TRIGGERED);
+        let mut play = on_five(0, NONE, 0, TRIGGERED);
         assert_eq!(play.take(request(1, 0, 5)), NOTHING);
         assert_eq!(play.state[2], 0x4000_0000);
-        assert_eq!(play.take(request(1, 0, 0)), RAN_1);
+        assert_eq!(play.take(request(1, 0, 0)), RAN_0);
         assert_eq!(play.take(request(1, 0, 0)), NOTHING);
     }
 
@@ -132,8 +133,14 @@ fixed_cases! {
     }
 
     fn nested_only_rule_is_not_arbitrated() {
-        let rule = nested_only(rule(1, 0, 0, 1));
-        let mut play = Play::fresh(&ruled([mode(1); 2], &[equal(0, 5)], rule, CONDITIONAL));
+        // The lists are there for the rule on port 1.
+        let mut play = Play::fresh(&plain(
+            &[mode(1); 2],
+            &[equal(0, 5), equal(1, 5)],
+            &[nested_only(rule(1, 0, 0, 1)), rule(1, 1, 0, 1)],
+            &CONDITIONAL,
+            &[call(7), call(8)],
+        ));
         assert_eq!(play.take(request(1, 0, 5)), NOTHING);
         assert_eq!(play.state[2], 0);
     }
@@ -210,8 +217,8 @@ fixed_cases! {
             &ports,
             &[equal(0, 5), equal(1, 5)],
             &rules,
-            &CONDITIONAL,
-            &[call(7), call(8)],
+            &CONDITIONAL[..1],
+            &[call(7)],
         ));
         play.take(request(1, 0, 5));
         play.take(request(1, 1, 5));
@@ -222,10 +229,10 @@ fixed_cases! {
     fn rule_on_two_marked_ports_is_evaluated_once() {
         let both = [equal(0, 5), equal(1, 5), operator(expression::XOR, 0, 1)];
         let mut play =
-            Play::fresh(&ruled([deferred(mode(1)); 2], &both, rule(1, 0, 1, 1), TRIGGERED));
+            Play::fresh(&ruled([deferred(mode(1)); 2], &both, rule(1, 0, 0, 0), TRIGGERED));
         play.take(request(1, 0, 5));
         play.take(request(1, 1, 0));
-        assert_eq!(play.take(TICK), RAN_1);
+        assert_eq!(play.take(TICK), RAN_0);
     }
 
     fn list_chosen_by_two_rules_runs_once() {
@@ -234,8 +241,8 @@ fixed_cases! {
             &[mode(1)],
             &[equal(0, 5), equal(0, 6)],
             &rules,
-            &CONDITIONAL,
-            &[call(7), call(8)],
+            &CONDITIONAL[..1],
+            &[call(7)],
         ));
         assert_eq!(play.take(request(1, 0, 5)), RAN_0);
     }
@@ -247,8 +254,8 @@ fixed_cases! {
             &[mode(1)],
             &[equal(0, 5), equal(0, 6)],
             &rules,
-            &TRIGGERED,
-            &[call(7), call(8)],
+            &TRIGGERED[..1],
+            &[call(7)],
         ));
         assert_eq!(play.take(request(1, 0, 6)), RAN_0);
     }

@@ -232,8 +232,10 @@ fixed_cases! {
     }
 
     fn trace_holds_list_and_rule_numbers_of_a_whole_byte() {
-        let mut rules = vec![nested_only(rule(1, 0, NONE, NONE)); 256];
-        rules[0] = rule(1, 0, 254, NONE);
+        // The other lists are there for the result false, which does not come.
+        let mut rules: Vec<u32> = (0..254).map(|list| rule(1, 0, NONE, list)).collect();
+        rules[0] = rule(1, 0, 254, 0);
+        rules.extend([nested_only(rule(1, 0, NONE, NONE)); 2]);
         let lists = vec![list(1, 0, 1); 255];
         let table = plain(&[mode(1)], &[equal(0, 5)], &rules, &lists, &[item(6, 255)]);
         assert_eq!(Play::fresh(&table).take(GO), [0xF1FE_0000, 0x61FF_0001]);

@@ -1,5 +1,5 @@
 //! Fixed cases: each a few words long, its outcome worked out by hand from
-//! documents 01 and 02 and named after the sentence or reading it tells apart.
+//! documents 01 and 02 and named after the sentence or reading it tells apart.
 //!
 //! Expected words stand in hex, so that no layout is judged by itself:
 //! - port state: 80000000 defined, 40000000 marked, value times 00400000, remaining;
@@ -30,11 +30,13 @@ mod names;
 mod networks;
 mod owners;
 mod program;
+mod reached;
 mod shape;
 mod sources;
 mod states;
 mod streams;
 mod timers;
+mod unreached;
 
 use super::recorded::{check, check_state, fresh, step};
 use crate::cases::draft::Draft;
@@ -47,6 +49,8 @@ pub fn all() -> Vec<(&'static str, fn())> {
         shape::CASES,
         names::CASES,
         owners::CASES,
+        reached::CASES,
+        unreached::CASES,
         states::CASES,
         events::CASES,
         sources::CASES,
@@ -128,6 +132,12 @@ fn not(left: u32) -> u32 {
 /// First result false.
 fn rule(owner: u32, expression: u32, true_list: u32, false_list: u32) -> u32 {
     Rule { owner, expression, true_list, false_list, ..Default::default() }.word()
+}
+
+/// Rules on expression 0 that start so many lists, two each: a list that nothing starts is refused.
+fn starting_all(owner: u32, lists: u32) -> Vec<u32> {
+    let list = |number: u32| if number < lists { number } else { NONE };
+    (0..lists).step_by(2).map(|number| rule(owner, 0, number, list(number + 1))).collect()
 }
 
 fn nested_only(rule: u32) -> u32 {

@@ -17,19 +17,19 @@ pub fn expressions(expressions: &[u32]) -> Vec<u32> {
 }
 
 /// A row of lists of one item each, list k naming list k + 1, the last a call;
-/// the first is at place 6.
+/// the first is at place 6, and the rule starts it.
 fn row_of_lists(levels: u32) -> Vec<u32> {
     let lists: Vec<u32> = (0..levels).map(|level| list(0, level, 1)).collect();
     let naming = (1..levels).map(|next| item(5, next));
     let items: Vec<u32> = naming.chain([call(0)]).collect();
-    plain(&[mode(0)], &[equal(0, 0)], &[rule(0, 0, NONE, NONE)], &lists, &items)
+    plain(&[mode(0)], &[equal(0, 0)], &[rule(0, 0, 0, NONE)], &lists, &items)
 }
 
 /// The same row, each list but the last holding rule k, whose false list is
-/// list k + 1; the first list is at place 5 + levels.
+/// list k + 1; the first list is at place 5 + levels, and the last rule starts it.
 fn row_by_rules(levels: u32) -> Vec<u32> {
     let rules: Vec<u32> = (1..=levels)
-        .map(|next| rule(0, 0, NONE, if next < levels { next } else { NONE }))
+        .map(|next| if next < levels { rule(0, 0, NONE, next) } else { rule(0, 0, 0, NONE) })
         .collect();
     let lists: Vec<u32> = (0..levels).map(|level| list(0, level, 1)).collect();
     let naming = (1..levels).map(|next| item(6, next - 1));
@@ -37,18 +37,19 @@ fn row_by_rules(levels: u32) -> Vec<u32> {
     plain(&[mode(0)], &[equal(0, 0)], &rules, &lists, &items)
 }
 
-/// Lists of 255 items, each naming the next list, as many as asked.
+/// Lists of 255 items, each naming the next list, as many as asked; the rule starts the first.
 fn hostile(levels: u32) -> Vec<u32> {
     let lists: Vec<u32> = (0..levels).map(|level| list(0, level * 255, 255)).collect();
     let naming = (1..=levels).map(|next| if next < levels { item(5, next) } else { call(0) });
     let items: Vec<u32> = naming.flat_map(|item| [item; 255]).collect();
-    plain(&[mode(0)], &[equal(0, 0)], &[rule(0, 0, NONE, NONE)], &lists, &items)
+    plain(&[mode(0)], &[equal(0, 0)], &[rule(0, 0, 0, NONE)], &lists, &items)
 }
 
-/// Lists of so many calls each, from one store of 255.
+/// Lists of so many calls each, from one store of 255. The first rule is at place 5.
 fn lists_of(counts: &[u32]) -> Vec<u32> {
     let lists: Vec<u32> = counts.iter().map(|&count| list(0, 0, count)).collect();
-    plain(&[mode(0)], &[equal(0, 0)], &[rule(0, 0, NONE, NONE)], &lists, &[call(0); 255])
+    let rules = starting_all(0, counts.len() as u32);
+    plain(&[mode(0)], &[equal(0, 0)], &rules, &lists, &[call(0); 255])
 }
 
 fixed_cases! {
@@ -156,16 +157,10 @@ fixed_cases! {
     fn item_5_with_255_is_never_no_list() {
         misnames(24, &[0x50FF_0000]);
         let lists = [list(0, 0, 1); 255];
-        let all = |a: u32| {
-            plain(
-                &[mode(0)],
-                &[equal(0, 0)],
-                &[rule(0, 0, NONE, NONE)],
-                &lists,
-                &[call(0), item(5, a)],
-            )
-        };
-        refused(&all(255), 6, 6 + 255 + 1);
+        let rules = starting_all(0, 255);
+        let all =
+            |a: u32| plain(&[mode(0)], &[equal(0, 0)], &rules, &lists, &[call(0), item(5, a)]);
+        refused(&all(255), 6, 5 + 128 + 255 + 1);
         stands(&all(254), 510);
     }
 
@@ -315,7 +310,7 @@ fixed_cases! {
             plain(
                 &[mode(0)],
                 &[equal(0, 0)],
-                &[rule(0, 0, true_list, false_list)],
+                &[rule(0, 0, true_list, false_list), rule(0, 0, 0, 1), rule(0, 0, 2, NONE)],
                 &[list(0, 0, 1), list(0, 0, 3), list(0, 3, 1)],
                 &[call(0), call(0), call(0), item(6, 0)],
             )
@@ -327,7 +322,7 @@ fixed_cases! {
         stands(&named(NONE, NONE), 2 + 4 + 2);
     }
 
-    fn lists_nothing_starts_add_to_b() {
+    fn b_is_the_sum_over_all_lists() {
         stands(&lists_of(&[1, 1, 1]), 6);
     }
 
@@ -336,7 +331,7 @@ fixed_cases! {
         counts[16] = 1;
         let dear = lists_of(&counts);
         refused(&dear, 9, 0);
-        // The rule becomes operator 1's, its list stays the platform's.
-        refused(&with(&dear, 5, rule(1, 0, 0, NONE)), 8, 5);
+        // The first rule becomes operator 1's, its lists stay the platform's.
+        refused(&with(&dear, 5, rule(1, 0, 0, 1)), 8, 5);
     }
 }

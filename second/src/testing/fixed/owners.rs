@@ -4,34 +4,34 @@ use super::shape::BASE;
 use super::*;
 
 /// Ports 0 mode of operator 1, 1 event and 2 timer of operator 2, 3 mode, 4
-/// event and 5 timer of the platform, 6 the network's, of operator 2. The rule
-/// mentions port 3. Rule at place 13, lists at 14 and 15, items from 16.
-fn between(rule: u32, lists: [u32; 2], items: [u32; 2]) -> Vec<u32> {
+/// event and 5 timer of the platform, 6 the network's, of operator 2. The rules
+/// mention port 3. The first is at place 13; after one, lists are at 14 and 15.
+fn between(rules: &[u32], lists: [u32; 2], items: [u32; 2]) -> Vec<u32> {
     let ports = [mode(1), event(2), timer(2, 1), mode(0), event(0), timer(0, 1), deferred(mode(2))];
-    table(&ports, &[network(2, 6)], &[], &[equal(3, 0)], &[rule], &lists, &items)
+    table(&ports, &[network(2, 6)], &[], &[equal(3, 0)], rules, &lists, &items)
 }
 
 /// The item in a list of the owner given, at place 14.
 fn holding(owner: u32, item: u32) -> Vec<u32> {
-    between(rule(owner, 0, NONE, NONE), [list(owner, 0, 1), list(owner, 1, 1)], [item, call(0)])
+    between(&[rule(owner, 0, 0, 1)], [list(owner, 0, 1), list(owner, 1, 1)], [item, call(0)])
 }
 
 /// A list of one owner naming a list of another.
 fn naming_list(owner: u32, named: u32) -> Vec<u32> {
     let lists = [list(owner, 0, 1), list(named, 1, 1)];
-    between(rule(owner, 0, NONE, NONE), lists, [item(5, 1), call(0)])
+    between(&[rule(owner, 0, 0, NONE)], lists, [item(5, 1), call(0)])
 }
 
-/// A list of one owner naming a rule of another.
+/// A list of one owner, at place 15, naming a rule of another.
 fn naming_rule(owner: u32, named: u32) -> Vec<u32> {
     let lists = [list(owner, 0, 1), list(owner, 1, 1)];
-    between(rule(named, 0, NONE, NONE), lists, [item(6, 0), call(0)])
+    between(&[rule(named, 0, NONE, NONE), rule(owner, 0, 0, 1)], lists, [item(6, 0), call(0)])
 }
 
 /// A rule of one owner with a list of another.
 fn starting_list(owner: u32, started: u32) -> Vec<u32> {
     let lists = [list(owner, 1, 1), list(started, 1, 1)];
-    between(rule(owner, 0, NONE, 1), lists, [call(0), call(0)])
+    between(&[rule(owner, 0, 0, 1)], lists, [call(0), call(0)])
 }
 
 /// Operator 2's event, timer and network, in items 1 to 4.
@@ -112,24 +112,25 @@ fixed_cases! {
     fn list_names_only_rules_of_its_owner_the_platforms_too() {
         stands(&naming_rule(0, 0), 2 + 2);
         stands(&naming_rule(1, 1), 2 + 2);
-        refused(&naming_rule(1, 2), 8, 14);
-        refused(&naming_rule(1, 0), 8, 14);
-        refused(&naming_rule(0, 1), 8, 14);
+        refused(&naming_rule(1, 2), 8, 15);
+        refused(&naming_rule(1, 0), 8, 15);
+        refused(&naming_rule(0, 1), 8, 15);
     }
 
     fn shared_items_are_judged_by_each_lists_owner() {
         let shared = |first: u32, second: u32| {
+            let rules = [rule(first, 0, 0, NONE), rule(second, 0, 1, NONE)];
             let lists = [list(first, 0, 1), list(second, 0, 1)];
-            between(rule(0, 0, NONE, NONE), lists, [item(1, 1), call(0)])
+            between(&rules, lists, [item(1, 1), call(0)])
         };
         stands(&shared(0, 2), 4);
-        refused(&shared(2, 1), 8, 15);
-        refused(&shared(1, 2), 8, 14);
+        refused(&shared(2, 1), 8, 16);
+        refused(&shared(1, 2), 8, 15);
     }
 
     fn item_in_no_list_clashes_with_nobody() {
         let lists = [list(1, 1, 1), list(1, 1, 1)];
-        stands(&between(rule(1, 0, NONE, NONE), lists, [ask(0, 2), call(0)]), 4);
+        stands(&between(&[rule(1, 0, 0, 1)], lists, [ask(0, 2), call(0)]), 4);
     }
 
     fn expression_in_no_rule_clashes_with_nobody() {

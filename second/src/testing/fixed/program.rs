@@ -7,7 +7,7 @@ use super::*;
 use crate::program::run;
 use crate::testing::recorded::printed;
 
-fn bytes(words: &[u32]) -> Vec<u8> {
+pub fn bytes(words: &[u32]) -> Vec<u8> {
     words.iter().flat_map(|word| word.to_be_bytes()).collect()
 }
 
