@@ -15,14 +15,13 @@ use Rattle.rulebook.specs.Lists.{start}
 use Rattle.rulebook.specs.Arbitration.{unmarkPort, unmarkPorts, evaluated, storeResult, storeResults, chooses, chosen, order, decide, arbitrate}
 use Rattle.rulebook.specs.Events.{only, markedIn}
 use Rattle.words.specs.Flags.{flagged}
-use Rattle.words.proofs.Fill.{none-of-zeros, raise-more}
+use Rattle.words.proofs.Fill.{raised-flag, none-of-zeros, raise-more}
 use Rattle.laws.proofs.Tests.{split}
 use Rattle.laws.proofs.Walks.{any-at}
 use Rattle.laws.proofs.Order.{each-weaker, order-there}
 use Rattle.lists.specs.Runs.{Ran, nothing}
 use Rattle.lists.proofs.Along.{ran-none}
 use Rattle.arbitration.specs.Outcomes.{Marked}
-use Rattle.arbitration.proofs.Passes.{raised-flag}
 use Rattle.arbitration.proofs.Picking.{none-chosen}
 
 -- one port

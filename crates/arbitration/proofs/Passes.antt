@@ -1,22 +1,21 @@
 -- The passes over the rules make up the rulebook's arbitration. Assumes nothing.
 use Prim.Native.Nat.{ℕ, zero, suc, _+_, _-_, _<_, _≤_}
 use mathlib.Core.Path.{_≡_, refl, sym, ap, ap₂, fun-ext, _∙_}
-use mathlib.Core.Bool.{Bool, true, false, cond, _||_, not, or-false, or-true, or-assoc}
+use mathlib.Core.Bool.{Bool, true, false, cond, _||_, not, or-false, or-assoc}
 use mathlib.Core.List.{List}
 use native.Mathlib.Omega.{arith}
-use native.Mathlib.Numerals.{add-one}
 use native.Mathlib.Nat.{sub-zero}
 use lib.ListN.{length, set, replicate}
-use lib.Seq.{set-out, getD-set-same, getD-set-other}
+use lib.Seq.{set-out}
 use lib.Dec.{eqb}
-use borrow.Author.Tests.{ne-eqb, eqb-true, eqb-false}
+use borrow.Author.Tests.{ne-eqb}
 use Rattle.rulebook.specs.Words.{word, any, each}
 use Rattle.rulebook.specs.Table.{rules, noList, triggered}
 use Rattle.rulebook.specs.Lists.{start, resultIn, previousIn, listFor, choice, choiceIn}
 use Rattle.rulebook.specs.Arbitration.{unmarkPorts, evaluated, storeResult, storeResults, chooses, chosen, order, runChosen, decide, arbitrate}
 use Rattle.words.specs.Flags.{flagged}
-use Rattle.words.proofs.Fill.{none-of-zeros}
-use Rattle.walks.proofs.Walks.{any-end}
+use Rattle.words.proofs.Fill.{raised-flag, none-of-zeros}
+use Rattle.walks.proofs.Walks.{any-step, any-end}
 use Rattle.laws.proofs.Tests.{split}
 use Rattle.laws.proofs.Fields.{digit-small}
 use Rattle.laws.proofs.Items.{result-small}
@@ -33,19 +32,6 @@ choice-small : (t : List ℕ) (r previous result : ℕ) → choice t r previous 
 unfolding choice
 choice-small t r previous result =
     small (eqb (triggered t (listFor t r result)) 0 || not (eqb result previous)) (listFor t r result) (list-small t r result)
-
--- a flag put up
-pub raised-flag : (flags : List ℕ) (l k : ℕ) → l < length flags → flagged (set flags l 1) k ≡ (flagged flags k || eqb l k)
-unfolding flagged
-raised-flag flags l k h =
-    split (eqb l k)
-    (λ e. let s : l ≡ k = eqb-true l k e in rw (e, or-true) (rw (← s, getD-set-same flags l 1 0 h)))
-    (λ e. rw (e, or-false, getD-set-other flags l k 1 0 (λ z. eqb-false l k e (sym z))))
-
--- a turn of the loop that chooses
-any-step : (i e : ℕ) (p : ℕ → Bool) → i < e → any i (e - i) p ≡ (p i || any (i + 1) (e - (i + 1)) p)
-unfolding any
-any-step i e p h = let m : e - i ≡ suc (e - (i + 1)) = omega arith in rw (m, add-one)
 
 module _ (t results s flags : List ℕ) (r l : ℕ) (long : length flags ≡ 256) (hl : l ≡ pickBy t results s r) where
   pub chose-one : (k : ℕ) → flagged (set flags l 1) k ≡ (flagged flags k || choosesBy t results s k r)

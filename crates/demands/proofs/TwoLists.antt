@@ -12,6 +12,7 @@ use Rattle.rulebook.specs.Expressions.{operator, expressionNests, expressionWit
 use Rattle.rulebook.specs.Reasons.{hasHeader, knownEdition, countsInside, exactLength, portFields, expressionFields, itemFields, ownFields}
 use Rattle.rulebook.specs.Reasons.{networkHas, held, mayShow, expressionNames, listOrNone, itemNames, names}
 use Rattle.rulebook.specs.Reasons.{itemNests, listNests, listWithin, nesting, strangersPort, ruleOwned, itemOwned, owners, itemCost, listCost}
+use Rattle.rulebook.specs.Reasons.{ruleReaches, itemReaches, listReaches, reachesWithin, reachedBy, reached}
 use Rattle.rulebook.specs.Reasons.{costWithin, bound, affordable, breaks, lowest, orNext, firstOf, check}
 use Rattle.rulebook.specs.State.{thing, ownerOf, packPort, packRule, portFits, ruleFits, thingFits, fitsAt, fits}
 use Rattle.rulebook.specs.Lists.{Run, traceWord, setPort, effect, act, valueIn, undefinedIn, unready, resultIn, choice, choiceIn, setResult, runItem}
@@ -35,7 +36,8 @@ pub claim : bothRun ≡ true
 unfolding digit byItem first all any sum listed each part stranger operator expressionNests expressionWithin expressionMentions mentions condition
     expressionHolds holds hasHeader knownEdition countsInside exactLength portFields expressionFields itemFields ownFields networkHas
     held mayShow expressionNames listOrNone itemNames names itemNests listNests listWithin nesting strangersPort ruleOwned itemOwned
-    owners itemCost listCost costWithin bound affordable breaks lowest orNext firstOf check thing ownerOf packPort packRule portFits
+    owners ruleReaches itemReaches listReaches reachesWithin reachedBy reached itemCost listCost costWithin bound affordable
+    breaks lowest orNext firstOf check thing ownerOf packPort packRule portFits
     ruleFits thingFits fitsAt fits traceWord setPort effect act valueIn undefinedIn unready resultIn choice choiceIn setResult runItem
     runItems runList unmarkPort unmarkPorts evaluated storeResult storeResults chooses chosen ofPriority orderBelow order runIf
     runChosen decide arbitrate only request happen wellFormed named present suited known sentByOwner

@@ -9,6 +9,7 @@ use Rattle.laws.specs.Acceptance.{Rules}
 use Rattle.laws.specs.Chosen.{Arbitrated}
 use Rattle.laws.specs.Cleared.{ClearCounts}
 use Rattle.laws.specs.Levels.{Levels}
+use Rattle.laws.specs.Reached.{Unreached, ListsStarted}
 use Rattle.stranger.specs.Logs.{Entry, stateAfter}
 use Rattle.stranger.specs.Statements.{Demand3}
 use Rattle.demands.specs.Calls.{Played}
@@ -21,6 +22,8 @@ pub record OfTable (t : List ℕ) (reason place b : ℕ) : Type 0 where
   pub accepts : (reason ≡ 0) ↔ Rules t
   -- Q-5: "condition kind 9, 'at or above', for mode ports only"
   pub levels : reason ≡ 0 → Levels t
+  -- Q-6: "Refuse a table in which a list is reached by no rule that isn't nested-only"
+  pub started : ListsStarted t reason place
 
 pub record OfFresh (t s : List ℕ) (k : ℕ) (s′ : List ℕ) : Type 0 where
   pub answered : FreshAnswered t s k s′
@@ -37,6 +40,8 @@ pub record OfEvent (t s trace : List ℕ) (e k n : ℕ) (s′ trace′ : List �
   pub lists : k ≡ 0 → Arbitrated t e s s′ (take n trace′)
   -- Q-2: "a clear marks the port .. for the next tick unless arbitrated sooner"
   pub clears : k ≡ 0 → ClearCounts t e s s′ (take n trace′)
+  -- Q-6: "Every event call meets it as answer 1."
+  pub unreached : (l : ℕ) → Unreached t l → k ≡ 1
   -- the log goes on: calls that led from s₀ to s, and this one
   pub taken : k ≡ 0 → (s₀ : List ℕ) (xs : List Entry) → Played t s₀ xs → stateAfter s₀ xs ≡ s
       → Played t s₀ (xs ++ record { event = e; state = s′; words = take n trace′ } ∷ [])

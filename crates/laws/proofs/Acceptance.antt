@@ -1,4 +1,4 @@
--- The check gives 0 exactly if all nine rules hold, and reason k at place p exactly if no earlier reason holds and p is the lowest
+-- The check gives 0 exactly if all ten rules hold, and reason k at place p exactly if no earlier reason holds and p is the lowest
 -- word that breaks rule k. By induction on the rules in their order: no law here knows how many they are or how they are numbered,
 -- but `Rules`, which names them. Assumes nothing.
 use mathlib.Core.Path.{_≡_, refl, sym, _∙_, ap}
@@ -25,7 +25,7 @@ place-of e = ap (λ (w : Verdict). w .place) e
 
 -- One rule: it holds and is broken nowhere, or it fails at the lowest word that breaks it.
 
-abbrev Holds : List ℕ → Link → Type 0
+abbrev pub Holds : List ℕ → Link → Type 0
 Holds t (ofTable k rule) = rule t ≡ true
 Holds t (ofWords k rule) = Everywhere rule t
 
@@ -114,33 +114,38 @@ pub reason-exactly : (t : List ℕ) (k p : ℕ) → 1 ≤ k → (check t ≡ ver
 unfolding check
 reason-exactly t k p one = (given-of t k p one reasons, verdict-of t k p)
 
--- The nine rules as statements.
+-- The ten rules as statements.
 
 data All (t : List ℕ) : List Link → Type 0 where
   none : All t []
   and : {link : Link} {links : List Link} → Holds t link → All t links → All t (link ∷ links)
 
--- no rule has reason 0
-abbrev numbered : List Link → Bool
-numbered [] = true
-numbered (link ∷ links) = ltb 0 (reasonOf link) && numbered links
+-- a test that holds of each rule's number
+abbrev numbersPass : (ℕ → Bool) → List Link → Bool
+numbersPass q [] = true
+numbersPass q (link ∷ links) = q (reasonOf link) && numbersPass q links
 
 all-one : (t : List ℕ) (link : Link) (links : List Link) (next : Verdict) → 1 ≤ reasonOf link → orNext t link next .reason ≡ 0
     → (next .reason ≡ 0 → All t links) → Judged t link → All t (link ∷ links)
 all-one t link links next one z below (holds h u pass) = and h (below (sym (reason-of (pass next)) ∙ z))
 all-one t link links next one z below (fails q b low is) = let e : reasonOf link ≡ 0 = sym (reason-of (is next)) ∙ z in absurd (omega arith)
 
-all-of : (t : List ℕ) (links : List Link) → numbered links ≡ true → firstOf t links .reason ≡ 0 → All t links
+-- no rule has reason 0
+all-of : (t : List ℕ) (links : List Link) → numbersPass (ltb 0) links ≡ true → firstOf t links .reason ≡ 0 → All t links
 unfolding firstOf
 all-of t [] n z = none
 all-of t (link ∷ links) n z =
-    all-one t link links (firstOf t links) (ltb-true 0 (reasonOf link) (and-left (ltb 0 (reasonOf link)) (numbered links) n)) z
-    (all-of t links (and-right (ltb 0 (reasonOf link)) (numbered links) n)) (judged t link)
+    all-one t link links (firstOf t links) (ltb-true 0 (reasonOf link) (and-left (ltb 0 (reasonOf link)) (numbersPass (ltb 0) links) n)) z
+    (all-of t links (and-right (ltb 0 (reasonOf link)) (numbersPass (ltb 0) links) n)) (judged t link)
 
 unbroken : (t : List ℕ) (link : Link) → Holds t link → (i : ℕ) → broken link t i ≡ false
 unfolding broken breaks
 unbroken t (ofTable k rule) h i = rw h
 unbroken t (ofWords k rule) h i = word-kept rule t k i (λ lt. rw (h i lt))
+
+unbroken-holds : (t : List ℕ) (link : Link) → ((i : ℕ) → broken link t i ≡ false) → Judged t link → Holds t link
+unbroken-holds t link u (holds h v pass) = h
+unbroken-holds t link u (fails q b low is) = clash b (u q)
 
 all-pass : (t : List ℕ) {links : List Link} → All t links → firstOf t links ≡ verdict 0 0
 unfolding firstOf
@@ -148,13 +153,13 @@ all-pass t none = refl
 all-pass t (and {link = link} h a) = passed t link _ (unbroken t link h) (judged t link) ∙ all-pass t a
 
 rules-of : (t : List ℕ) → All t reasons → Rules t
-rules-of t (and a (and b (and c (and d (and e (and f (and g (and h (and i none))))))))) =
-    record { header = a; edition = b; counts = c; exact = d; fields = e; named = f; nested = g; owned = h; cost = i }
+rules-of t (and a (and b (and c (and d (and e (and f (and g (and h (and i (and j none)))))))))) =
+    record { header = a; edition = b; counts = c; exact = d; fields = e; named = f; nested = g; owned = h; reached = i; cost = j }
 
 of-rules : (t : List ℕ) → Rules t → All t reasons
 of-rules t r =
     and (r .header) (and (r .edition) (and (r .counts) (and (r .exact)
-    (and (r .fields) (and (r .named) (and (r .nested) (and (r .owned) (and (r .cost) none))))))))
+    (and (r .fields) (and (r .named) (and (r .nested) (and (r .owned) (and (r .reached) (and (r .cost) none)))))))))
 
 pub accepted-exactly : (t : List ℕ) → (accepted t ≡ true) ↔ Rules t
 unfolding check
@@ -172,3 +177,18 @@ reason-given t n = reason-exactly t (check t .reason) (check t .place) (one (che
 pub no-place : (t : List ℕ) → check t .reason ≡ 0 → check t .place ≡ 0
 unfolding check
 no-place t z = place-of (all-pass t (all-of t reasons refl z))
+
+-- What a reason that is given says: its number is some rule's, and what stands before its rule holds.
+
+given-number : (t : List ℕ) (k p : ℕ) (q : ℕ → Bool) (links : List Link) → numbersPass q links ≡ true → GivenBy t k p links → q k ≡ true
+given-number t k p q (link ∷ links) h (here r b low) = rw r at (and-left (q (reasonOf link)) (numbersPass q links) h)
+given-number t k p q (link ∷ links) h (later u g) = given-number t k p q links (and-right (q (reasonOf link)) (numbersPass q links) h) g
+
+pub number-given : (t : List ℕ) (k p : ℕ) (q : ℕ → Bool) → numbersPass q reasons ≡ true → Given t k p → q k ≡ true
+number-given t k p q h g = given-number t k p q reasons h g
+
+-- the first rule holds, and the rest of the chain is left, where the reason is another's
+pub kept-first : (t : List ℕ) (k p : ℕ) (link : Link) {links : List Link} → (reasonOf link ≡ k → ⊥) → GivenBy t k p (link ∷ links)
+    → Holds t link × GivenBy t k p links
+kept-first t k p link isnt (here r b low) = absurd (isnt r)
+kept-first t k p link isnt (later u g) = (unbroken-holds t link u (judged t link), g)

@@ -74,19 +74,20 @@ all-fails p i (suc n) h =
 
 module _ (t : List ℕ) (below : ℕ → Bool) where
   -- a rule that does not nest has a list that does not
-  rule-fails : (r : ℕ) → ruleNests t below r ≡ false → (x : ℕ) × RuleNames t r x × (below x ≡ false)
+  pub rule-fails : (r : ℕ) → ruleNests t below r ≡ false → (x : ℕ) × RuleNames t r x × (below x ≡ false)
   unfolding ruleNests
   rule-fails r h =
       split (eqb (trueList t r) noList || below (trueList t r))
       (λ a. let m = or-none (eqb (falseList t r) noList) (below (falseList t r)) (rw a at h) in (falseList t r, (m .0, inr refl), m .1))
       (λ a. let m = or-none (eqb (trueList t r) noList) (below (trueList t r)) a in (trueList t r, (m .0, inl refl), m .1))
 
-  rule-fails← : (r x : ℕ) → RuleNames t r x → below x ≡ false → ruleNests t below r ≡ false
+  pub rule-fails← : (r x : ℕ) → RuleNames t r x → below x ≡ false → ruleNests t below r ≡ false
   unfolding ruleNests
   rule-fails← r x n h =
       ⊎-elim (λ e. rw (rw e at (n .0), rw e at h)) (λ e. rw (rw e at (n .0), rw e at h, and-false)) (n .1)
 
-  item-fails : (l i : ℕ) → firstItem t l ≤ i → i < firstItem t l + itemCount t l → itemNests t below i ≡ false → (x : ℕ) × NamesList t l x × (below x ≡ false)
+  pub item-fails : (l i : ℕ) → firstItem t l ≤ i → i < firstItem t l + itemCount t l → itemNests t below i ≡ false
+      → (x : ℕ) × NamesList t l x × (below x ≡ false)
   item-fails l i a b h =
       split (eqb (itemKind t i) itemList)
       (λ e. (itemA t i, record { item = i; from = a; below = b; how = inl (eqb-true _ _ e, refl) }, sym (nests-list t below i e) ∙ h))
@@ -95,13 +96,13 @@ module _ (t : List ℕ) (below : ℕ → Bool) where
       (w .0, record { item = i; from = a; below = b; how = inr (eqb-true _ _ g, w .1) }, w .2))
       (λ g. clash (nests-act t below i e g) h))
 
-  item-fails← : (l x : ℕ) (n : NamesList t l x) → below x ≡ false → itemNests t below (n .item) ≡ false
+  pub item-fails← : (l x : ℕ) (n : NamesList t l x) → below x ≡ false → itemNests t below (n .item) ≡ false
   item-fails← l x n h =
       ⊎-elim (λ w. nests-list t below (n .item) (eq-eqb _ _ (w .0)) ∙ (rw (w .1) at h))
       (λ w. nests-rule t below (n .item) (rw (w .0)) (eq-eqb _ _ (w .0)) ∙ rule-fails← (itemA t (n .item)) x (w .1) h) (n .how)
 
 -- a list that is named is there
-named-there : (t : List ℕ) → NamesThere t → (l x : ℕ) → l < lists t → NamesList t l x → x < lists t
+pub named-there : (t : List ℕ) → NamesThere t → (l x : ℕ) → l < lists t → NamesList t l x → x < lists t
 named-there t f l x h n =
     let r : firstItem t l + itemCount t l ≤ items t = f .ranges l h in
     let b : n .item < firstItem t l + itemCount t l = n .below in

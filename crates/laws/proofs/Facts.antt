@@ -111,10 +111,14 @@ list-of t l f n d o =
       owned = λ i a b. all-at (itemOwned t (listOwner t l)) (firstItem t l) (itemCount t l) i o a b;
     }
 
+pub exact-of : (t : List ℕ) → exactLength t ≡ true → length t ≡ tableLength t
+unfolding exactLength
+exact-of t h = eqb-true _ _ h
+
 pub facts-of : (t : List ℕ) → Rules t → Facts t
-unfolding exactLength affordable ownFields names nesting
+unfolding affordable ownFields names nesting
 facts-of t r =
-    let exact : length t ≡ tableLength t = eqb-true _ _ (r .exact) in
+    let exact : length t ≡ tableLength t = exact-of t (r .exact) in
     record {
       counts = counts-of t (r .counts);
       exact = exact;

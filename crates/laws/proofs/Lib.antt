@@ -25,3 +25,5 @@ pub mod Marks
 pub mod Unmarked
 pub mod Cleared
 pub mod Levels
+pub mod Reached
+pub mod Started

@@ -1,11 +1,11 @@
 -- Where each word stands: the part of the table at a named word's place, and the thing of the state at a thing's index. Assumes
 -- nothing.
 use mathlib.Core.Path.{_≡_, ap, _∙_}
-use mathlib.Core.Bool.{cond}
+use mathlib.Core.Bool.{Bool, true, false, cond}
 use mathlib.Core.List.{List}
 use Prim.Native.Nat.{ℕ, _+_, _-_, _*_, _/_, _%_, _≤_, _<_}
 use native.Mathlib.Omega.{arith}
-use lib.Dec.{ltb}
+use lib.Dec.{ltb, eqb}
 use borrow.Author.Tests.{lt-ltb, le-ltb}
 use Rattle.rulebook.specs.Table.{ports, networks, sources, expressions, rules, lists, items, portsFrom, networksFrom, sourcesFrom, expressionsFrom, rulesFrom}
 use Rattle.rulebook.specs.Table.{listsFrom, itemsFrom}
@@ -106,6 +106,26 @@ module _ (t : List ℕ) (i : ℕ) where
 
   pub in-items : itemsFrom t ≤ i → part t i ≡ atItem (i - itemsFrom t)
   in-items a = past-lists a
+
+-- no list stands before the lists
+
+other : (l : ℕ) (b : Bool) (x y : Part) → (x ≡ atList l → ⊥) → (y ≡ atList l → ⊥) → cond b x y ≡ atList l → ⊥
+other l true x y hx hy = hx
+other l false x y hx hy = hy
+
+zero-not-one : _≡_ {A = ℕ} 0 1 → ⊥
+zero-not-one e = omega arith
+
+pub no-list-before : (t : List ℕ) (i l : ℕ) → i < listsFrom t → part t i ≡ atList l → ⊥
+unfolding part
+no-list-before t i l b =
+    simp (lt-ltb i (listsFrom t) b)
+    (other l (ltb i portsFrom) _ _ (λ e. zero-not-one (cc))
+    (other l (ltb i (networksFrom t)) _ _ (λ e. zero-not-one (cc))
+    (other l (ltb i (sourcesFrom t)) _ _
+    (other l (eqb ((i - networksFrom t) % 2) 0) _ _ (λ e. zero-not-one (cc)) (λ e. zero-not-one (cc)))
+    (other l (ltb i (expressionsFrom t)) _ _ (λ e. zero-not-one (cc))
+    (other l (ltb i (rulesFrom t)) _ _ (λ e. zero-not-one (cc)) (λ e. zero-not-one (cc)))))))
 
 -- and so by a thing's number
 

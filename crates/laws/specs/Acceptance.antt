@@ -1,5 +1,5 @@
--- "A table is accepted exactly if document 01's rules hold of it": the nine rules as statements, and what it is for reason k to be
--- given at place p.
+-- "A table is accepted exactly if document 01's rules hold of it": the ten rules as statements, in the order of their reasons (10 before
+-- 9), and what it is for reason k to be given at place p.
 use mathlib.Core.Path.{_≡_}
 use mathlib.Core.Bool.{Bool, true, false, _&&_, not}
 use mathlib.Core.List.{List, _∷_}
@@ -7,7 +7,8 @@ use Prim.Native.Nat.{ℕ, _<_}
 use lib.ListN.{length}
 use lib.Dec.{ltb, eqb}
 use Rattle.rulebook.specs.Table.{Part, part}
-use Rattle.rulebook.specs.Reasons.{hasHeader, knownEdition, countsInside, exactLength, ownFields, names, nesting, owners, affordable, breaks}
+use Rattle.rulebook.specs.Reasons.{hasHeader, knownEdition, countsInside, exactLength, ownFields, names, nesting, owners, reached, affordable}
+use Rattle.rulebook.specs.Reasons.{breaks}
 use Rattle.rulebook.specs.Reasons.{Link, ofTable, ofWords, reasonOf, reasons}
 
 -- every word of the table keeps a rule
@@ -23,6 +24,7 @@ pub record Rules (t : List ℕ) : Type 0 where
   pub named : Everywhere names t
   pub nested : Everywhere nesting t
   pub owned : Everywhere owners t
+  pub reached : Everywhere reached t
   pub cost : affordable t ≡ true
 
 -- Word i breaks a rule. A rule of the whole table is broken, if at all, at place 0.

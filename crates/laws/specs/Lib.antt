@@ -6,3 +6,4 @@ pub mod Chosen
 pub mod Callable
 pub mod Cleared
 pub mod Levels
+pub mod Reached

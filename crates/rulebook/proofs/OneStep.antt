@@ -62,10 +62,10 @@ pub sent-by-owner : (t : List ℕ) (e : ℕ) → sentByOwner t e ≡ true → eq
 unfolding sentByOwner
 sent-by-owner t e h k = eqb-true (eventOwner e) (ownerOf t (named e)) (rw k at h)
 
--- each rule has its own number, in document 01's order; that the rules themselves stand in that order is `Rules`' (laws/proofs/Acceptance)
+-- each rule has its own number, in the documents' order, 10 before 9; that the rules themselves stand in that order is `Rules`' (laws/proofs/Acceptance)
 abbrev numbersOf : List Link → List ℕ
 numbersOf [] = []
 numbersOf (link ∷ links) = reasonOf link ∷ numbersOf links
 
-pub reasons-in-order : numbersOf reasons ≡ 1 ∷ 2 ∷ 3 ∷ 4 ∷ 5 ∷ 6 ∷ 7 ∷ 8 ∷ 9 ∷ []
+pub reasons-in-order : numbersOf reasons ≡ 1 ∷ 2 ∷ 3 ∷ 4 ∷ 5 ∷ 6 ∷ 7 ∷ 8 ∷ 10 ∷ 9 ∷ []
 reasons-in-order = refl

@@ -1,6 +1,7 @@
--- "Table reasons, in order": nine rules, and the check, which gives the first reason whose rule is broken, and the place.
+-- "Table reasons, in order": ten rules, and the check, which gives the first reason whose rule is broken, and the place.
 -- Rules 5, 6 and 7 are judged of every word of the table, used or not. Rule 8 is judged of networks, sources, rules and lists; an
--- expression counts there through the rules that have it, an item through the lists that hold it.
+-- expression counts there through the rules that have it, an item through the lists that hold it. Rule 10 is judged of lists. Its number
+-- is document 02's: it stands before rule 9.
 use Prim.Native.Nat.{ℕ, zero, suc, _+_, max}
 use mathlib.Core.Bool.{Bool, true, false, cond, _&&_, _||_, not}
 use mathlib.Core.List.{List, [], _∷_}
@@ -14,7 +15,7 @@ use Rattle.rulebook.specs.Table.{networkOwner, networkPort, networkZero,
 use Rattle.rulebook.specs.Table.{sourceOwner, sourcePort, sourceZero}
 use Rattle.rulebook.specs.Table.{expressionKind, conditionPort, conditionValue, conditionZero, left, right}
 use Rattle.rulebook.specs.Table.{conditionNotEqual, conditionSet, conditionCleared, conditionAtOrAbove}
-use Rattle.rulebook.specs.Table.{ruleOwner, firstResult, ruleExpression, trueList, falseList, noList}
+use Rattle.rulebook.specs.Table.{ruleOwner, firstResult, nestedOnly, ruleExpression, trueList, falseList, noList}
 use Rattle.rulebook.specs.Table.{listOwner, firstItem, itemCount, itemKind, itemA, itemB}
 use Rattle.rulebook.specs.Table.{itemCall, itemClear, itemStart, itemStop, itemAsk, itemList, itemRule, byItem, platform, stranger}
 use Rattle.rulebook.specs.Expressions.{deepest, operator, isNot, expressionWithin, mentions}
@@ -199,6 +200,41 @@ owners t (atRule r) = ruleOwned t r
 owners t (atList l) = all (firstItem t l) (itemCount t l) (itemOwned t (listOwner t l))
 owners t (atItem i) = true
 
+-- Rule 10: no list is there that nothing starts. Document 02, Q-6: "Refuse a table in which a list is reached by no rule that isn't
+-- nested-only, whether directly, by a named list, or by a rule item. It is reason 10, placed at the lowest such list word. It stands
+-- after owner clashes and before the sum of costs." A rule reaches both of its lists, whatever it can give.
+
+-- rule r has a list of which `below` holds
+unfoldable pub ruleReaches : List ℕ → (ℕ → Bool) → ℕ → Bool
+ruleReaches t below r =
+    not (eqb (trueList t r) noList) && below (trueList t r) || not (eqb (falseList t r) noList) && below (falseList t r)
+
+unfoldable pub itemReaches : List ℕ → (ℕ → Bool) → ℕ → Bool
+itemReaches t below i = byItem t i below (ruleReaches t below) false
+
+unfoldable pub listReaches : List ℕ → ℕ → (ℕ → Bool) → ℕ → Bool
+listReaches t x below l = eqb l x || any (firstItem t l) (itemCount t l) (itemReaches t below)
+
+-- list l is list x or reaches it, in d levels with its own
+unfoldable pub reachesWithin : ℕ → List ℕ → ℕ → ℕ → Bool
+reachesWithin zero t x l = false
+reachesWithin (suc d) t x l = listReaches t x (reachesWithin d t x) l
+
+-- list x is reached by rule r, which isn't nested-only
+unfoldable pub reachedBy : List ℕ → ℕ → ℕ → Bool
+reachedBy t x r = eqb (nestedOnly t r) 0 && ruleReaches t (reachesWithin deepest t x) r
+
+unfoldable pub reached : List ℕ → Part → Bool
+reached t inHeader = true
+reached t (atPort p) = true
+reached t (atNetwork n) = true
+reached t (atWaits n) = true
+reached t (atSource k) = true
+reached t (atExpression e) = true
+reached t (atRule r) = true
+reached t (atList l) = any 0 (rules t) (reachedBy t l)
+reached t (atItem i) = true
+
 -- Rule 9: B, the sum over all lists of their cost, is at most 4,096. "A list costs 1 plus its items. Items 0 to 4 cost 1, item 5
 -- its list's cost, item 6 costs 1 plus the dearer of that rule's lists (none: 0)."
 
@@ -250,7 +286,7 @@ abbrev pub reasonOf : Link → ℕ
 reasonOf (ofTable k rule) = k
 reasonOf (ofWords k rule) = k
 
--- "Table reasons, in order"
+-- "Table reasons, in order"; document 02, Q-6: 10 stands "after owner clashes and before the sum of costs"
 abbrev pub reasons : List Link
 reasons =
     ofTable 1 hasHeader
@@ -261,6 +297,7 @@ reasons =
     ∷ ofWords 6 names
     ∷ ofWords 7 nesting
     ∷ ofWords 8 owners
+    ∷ ofWords 10 reached
     ∷ ofTable 9 affordable
     ∷ []
 

@@ -6,19 +6,19 @@ use mathlib.Core.List.{List, [], _∷_}
 use native.Mathlib.Omega.{arith}
 use lib.ListN.{length}
 use lib.Dec.{ltb}
-use borrow.Author.Tests.{ltb-true, ltb-false, eqb-true}
+use borrow.Author.Tests.{ltb-true, ltb-false}
 use Rattle.rulebook.specs.Table.{Part, tableLength}
-use Rattle.rulebook.specs.Reasons.{hasHeader, knownEdition, countsInside, exactLength, ownFields, names, nesting, owners, affordable, bound, accepted, lowest}
-use Rattle.rulebook.specs.Reasons.{Link, ofTable, ofWords, firstOf, check}
+use Rattle.rulebook.specs.Reasons.{hasHeader, knownEdition, countsInside, exactLength, ownFields, names, nesting, owners, reached, affordable, bound}
+use Rattle.rulebook.specs.Reasons.{accepted, lowest, Link, ofTable, ofWords, firstOf, check}
 use Rattle.rulebook.specs.State.{stateLength}
 use Rattle.laws.specs.Facts.{Counts}
 use Rattle.laws.proofs.Tests.{split}
-use Rattle.laws.proofs.Facts.{facts, counts-of}
+use Rattle.laws.proofs.Facts.{facts, counts-of, exact-of}
 use Rattle.tables.specs.declared.Checked.{Checked}
 use Rattle.tables.specs.Finding.{Finding, finding, promised}
 use Rattle.session.specs.Promises.{Opens}
-use Rattle.tables.proofs.Chain.{from-header, from-edition, from-counts, from-length, from-fields, from-names, from-nesting, from-owners, from-cost}
-use Rattle.tables.proofs.Chain.{none-left, kept, broken, kept-by-all, broken-at}
+use Rattle.tables.proofs.Chain.{from-header, from-edition, from-counts, from-length, from-fields, from-names, from-nesting, from-owners}
+use Rattle.tables.proofs.Chain.{from-reached, from-cost, none-left, kept, broken, kept-by-all, broken-at}
 
 pub longest : (t : List ℕ) → Counts t → tableLength t ≤ 3185
 longest t c =
@@ -30,10 +30,6 @@ longest t c =
     let g = c .lists in
     let h = c .items in
     omega arith
-
-exact-is : (t : List ℕ) → exactLength t ≡ true → length t ≡ tableLength t
-unfolding exactLength
-exact-is t e = eqb-true (length t) (tableLength t) e
 
 -- places: each rule's is inside the table, of which no more than its longest length is judged word by word
 
@@ -52,8 +48,9 @@ fields-small t l =
     inside t 5 ownFields from-names l
     (inside t 6 names from-nesting l
     (inside t 7 nesting from-owners l
-    (inside t 8 owners from-cost l
-    (small t 9 affordable [] (rw (none-left t) (omega arith))))))
+    (inside t 8 owners from-reached l
+    (inside t 10 reached from-cost l
+    (small t 9 affordable [] (rw (none-left t) (omega arith)))))))
 
 counts-small : (t : List ℕ) → firstOf t from-counts .place ≤ 3185
 counts-small t =
@@ -65,7 +62,7 @@ counts-small t =
     (λ c. rw (broken t 3 countsInside from-length c) (omega arith))
   where
     exact : exactLength t ≡ true → countsInside t ≡ true → length t ≤ 3185
-    exact e c = let l = longest t (counts-of t c) in omega (arith, exact-is t e)
+    exact e c = let l = longest t (counts-of t c) in omega (arith, exact-of t e)
 
 pub place-small : (t : List ℕ) → check t .place ≤ 3185
 place-small t = rw (from-header t) (small t 1 hasHeader from-edition (small t 2 knownEdition from-counts (counts-small t)))

@@ -16,7 +16,7 @@ use Rattle.rulebook.specs.State.{Thing, thing, freshThing, freshAt, fresh, fres
 use Rattle.laws.proofs.Walks.{listed-length, listed-at}
 use Rattle.tables.specs.declared.Checked.{Checked}
 use Rattle.tables.specs.declared.Checked.the-variants.{Accepted, TooShort, WrongEdition, WrongCounts, WrongLength as LengthDiffers, Misfit, Misnamed}
-use Rattle.tables.specs.declared.Checked.the-variants.{TooDeep, OwnersClash, TooDear}
+use Rattle.tables.specs.declared.Checked.the-variants.{TooDeep, OwnersClash, Unreached, TooDear}
 use Rattle.tables.proofs.Checked.{the-type}
 use Rattle.tables.specs.Finding.{Finding, finding, promised}
 use Rattle.states.specs.declared.Made.{Made}
@@ -51,11 +51,12 @@ reason-of (Misfit i) f = refl
 reason-of (Misnamed i) f = refl
 reason-of (TooDeep i) f = refl
 reason-of (OwnersClash i) f = refl
+reason-of (Unreached i) f = refl
 reason-of TooDear f = refl
 
 -- what `let .. else` knows of such an answer: its variant is one of the others
 abbrev others : List ℕ
-others = 1 ∷ 2 ∷ 3 ∷ 4 ∷ 5 ∷ 6 ∷ 7 ∷ 8 ∷ 9 ∷ []
+others = 1 ∷ 2 ∷ 3 ∷ 4 ∷ 5 ∷ 6 ∷ 7 ∷ 8 ∷ 9 ∷ 10 ∷ []
 
 pub is-refused : (t : List ℕ) (r : Checked) → OneOf others (tagOf the-type r) → finding r ≡ promised t → accepted t ≡ false
 unfolding promised

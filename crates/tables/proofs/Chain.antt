@@ -1,21 +1,20 @@
 -- The check as a chain: what is left of it once the rules before a reason are kept, and what it gives where one is broken.
 -- Assumes nothing.
-use Prim.Native.Nat.{ℕ, _+_, _<_, _≤_, min}
+use Prim.Native.Nat.{ℕ, _<_, _≤_, min}
 use mathlib.Core.Path.{_≡_, refl, _∙_}
-use mathlib.Core.Bool.{Bool, true, false, false≢true, _&&_}
+use mathlib.Core.Bool.{Bool, true, false}
 use mathlib.Core.List.{List, [], _∷_}
 use native.Mathlib.Omega.{arith}
-use lib.Dec.{leb, eqb}
+use lib.Dec.{eqb}
 use lib.ListN.{length}
-use borrow.Author.Tests.{lt-leb, le-leb, leb-true, not-false}
-use Rattle.rulebook.specs.Words.{between}
-use Rattle.rulebook.specs.Table.{Part, ports, networks, sources, expressions, rules, lists, items, listsFrom, tableLength, atList, part}
-use Rattle.rulebook.specs.Expressions.{deepest}
-use Rattle.rulebook.specs.Reasons.{hasHeader, knownEdition, countsInside, exactLength, ownFields, names, nesting, owners, affordable, bound}
-use Rattle.rulebook.specs.Reasons.{verdict, listWithin, breaks, lowest, Link, ofTable, ofWords, firstOf, check}
+use borrow.Author.Tests.{lt-leb, le-leb, not-false}
+use Rattle.rulebook.specs.Table.{Part, tableLength, part}
+use Rattle.rulebook.specs.Reasons.{hasHeader, knownEdition, countsInside, exactLength, ownFields, names, nesting, owners, reached, affordable, bound}
+use Rattle.rulebook.specs.Reasons.{verdict, breaks, lowest, Link, ofTable, ofWords, firstOf, check}
+use Rattle.laws.specs.Acceptance.{Everywhere}
 use Rattle.laws.proofs.Acceptance.{table-passes, table-fails, words-pass, words-fail}
 use Rattle.laws.proofs.Walks.{first-before}
-use Rattle.laws.proofs.Parts.{part-list}
+use Rattle.laws.proofs.Facts.{at-list}
 use Rattle.cost.specs.Costs.{Nested}
 use Rattle.tables.specs.Finding.{refused, promised}
 
@@ -24,8 +23,11 @@ use Rattle.tables.specs.Finding.{refused, promised}
 abbrev pub from-cost : List Link
 from-cost = ofTable 9 affordable ∷ []
 
+abbrev pub from-reached : List Link
+from-reached = ofWords 10 reached ∷ from-cost
+
 abbrev pub from-owners : List Link
-from-owners = ofWords 8 owners ∷ from-cost
+from-owners = ofWords 8 owners ∷ from-reached
 
 abbrev pub from-nesting : List Link
 from-nesting = ofWords 7 nesting ∷ from-owners
@@ -93,28 +95,13 @@ accepts t b e h g =
     let same : b ≡ bound t = omega arith in
     rw (e, same)
 
--- what the counts' limits say of the lists
+-- a rule that no word was found to break; of rule 7, so of every list
 
-both : (a b : Bool) → (a && b) ≡ true → (a ≡ true) × (b ≡ true)
-both true b h = (refl, h)
-both false b h = absurd (false≢true h)
+pub kept-everywhere : (rule : List ℕ → Part → Bool) (t : List ℕ) (n r : ℕ) → length t ≡ n → r ≡ lowest rule t → n ≤ r → Everywhere rule t
+unfolding lowest breaks
+kept-everywhere rule t n r long found none i b =
+    not-false (rule t (part t i)) (first-before (breaks rule t) 0 (length t) i (omega arith) (omega arith))
 
-last-but-one : (p n s e r l i : Bool) → (p && n && s && e && r && l && i) ≡ true → l ≡ true
-last-but-one p n s e r l i h = both (p && n && s && e && r) l (both (p && n && s && e && r && l) i h .0) .1
-
-pub few-lists : (t : List ℕ) → countsInside t ≡ true → lists t ≤ 256
-unfolding countsInside
-few-lists t h =
-    let inside : between 0 255 (lists t) ≡ true =
-    last-but-one (between 1 64 (ports t)) (between 0 8 (networks t)) (between 0 32 (sources t)) (between 1 512 (expressions t))
-    (between 1 256 (rules t)) (between 0 255 (lists t)) (between 0 2047 (items t)) h in
-    let few : lists t ≤ 255 = leb-true (lists t) 255 (both (leb 0 (lists t)) (leb (lists t) 255) inside .1) in
-    omega arith
-
--- a table without a word that nests too deep: every list keeps rule 7
-pub no-deep-list : (t : List ℕ) (n r : ℕ) → length t ≡ n → n ≡ tableLength t → r ≡ lowest nesting t → n ≤ r → Nested t
-unfolding lowest breaks nesting
-no-deep-list t n r long exact found none l there =
-    let here : part t (listsFrom t + l) ≡ atList l = part-list t l there in
-    let kept : breaks nesting t (listsFrom t + l) ≡ false = first-before (breaks nesting t) 0 (length t) (listsFrom t + l) (omega arith) (omega arith) in
-    not-false (listWithin deepest t l) (rw here at kept)
+pub no-deep-list : (t : List ℕ) → length t ≡ tableLength t → Everywhere nesting t → Nested t
+unfolding nesting
+no-deep-list t exact kept = at-list t exact nesting kept

@@ -6,7 +6,7 @@ use mathlib.Core.Path.{_≡_, refl, sym, ap, _∙_}
 use mathlib.Core.List.{List}
 use Rattle.tables.specs.declared.Checked.{Checked}
 use Rattle.tables.specs.declared.Checked.the-variants.{Accepted, TooShort, WrongEdition, WrongCounts, WrongLength}
-use Rattle.tables.specs.declared.Checked.the-variants.{Misfit, Misnamed, TooDeep, OwnersClash, TooDear}
+use Rattle.tables.specs.declared.Checked.the-variants.{Misfit, Misnamed, TooDeep, OwnersClash, Unreached, TooDear}
 use Rattle.tables.specs.Finding.{Finding, finding, promised}
 
 -- the answer that tells a reason, a place and B
@@ -21,7 +21,8 @@ answer k i b =
     (cond (eqb k 6) (Misnamed i)
     (cond (eqb k 7) (TooDeep i)
     (cond (eqb k 8) (OwnersClash i)
-    TooDear))))))))
+    (cond (eqb k 10) (Unreached i)
+    TooDear)))))))))
 
 abbrev answering : Finding → Checked
 answering x = answer (x .reason) (x .place) (x .bound)
@@ -36,6 +37,7 @@ back (Misfit i) = refl
 back (Misnamed i) = refl
 back (TooDeep i) = refl
 back (OwnersClash i) = refl
+back (Unreached i) = refl
 back TooDear = refl
 
 pub findings-apart : (r s : Checked) → finding r ≡ finding s → r ≡ s

@@ -1,4 +1,4 @@
--- The table check's answer in document 01's numbers: reason and place, 0 and 0 for an accepted table, and B, 0 for a refused one.
+-- The table check's answer in the documents' numbers: reason and place, 0 and 0 for an accepted table, and B, 0 for a refused one.
 use Prim.Native.Nat.{ℕ}
 use mathlib.Core.Path.{_≡_}
 use mathlib.Core.Bool.{cond}
@@ -6,7 +6,7 @@ use mathlib.Core.List.{List}
 use Rattle.rulebook.specs.Reasons.{check, accepted, bound as boundOf}
 use Rattle.tables.specs.declared.Checked.{Checked}
 use Rattle.tables.specs.declared.Checked.the-variants.{Accepted, TooShort, WrongEdition, WrongCounts, WrongLength}
-use Rattle.tables.specs.declared.Checked.the-variants.{Misfit, Misnamed, TooDeep, OwnersClash, TooDear}
+use Rattle.tables.specs.declared.Checked.the-variants.{Misfit, Misnamed, TooDeep, OwnersClash, Unreached, TooDear}
 
 pub record Finding : Type 0 where
   pub reason : ℕ
@@ -26,6 +26,7 @@ finding (Misfit i) = refused 5 i
 finding (Misnamed i) = refused 6 i
 finding (TooDeep i) = refused 7 i
 finding (OwnersClash i) = refused 8 i
+finding (Unreached i) = refused 10 i
 finding TooDear = refused 9 0
 
 -- a table check's answer in three numbers: the reason, the place and B, 0 where there is none

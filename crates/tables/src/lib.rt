@@ -9,12 +9,14 @@ use names::first_misnamed;
 use nesting::find_depths;
 use nesting::first_deep;
 use owners::first_clash;
+use reach::first_unreached;
 use words::sections::Layout;
 use words::sections::read_layout;
 use words::table::edition;
 use words::word;
 
-// A case for each answer: accepted, with B, and the nine reasons in their order, with the place where there is one.
+// A case for each answer: accepted, with B, and the ten reasons in their order, 10 before 9, with the place where there is
+// one.
 pub enum Checked {
     Accepted(u32),
     TooShort,
@@ -25,6 +27,7 @@ pub enum Checked {
     Misnamed(usize),
     TooDeep(usize),
     OwnersClash(usize),
+    Unreached(usize),
     TooDear,
 }
 
@@ -81,6 +84,11 @@ pub fn numbers(checked: Checked) -> InNumbers
         },
         Checked::OwnersClash(i) => InNumbers {
             reason: 8,
+            place: i,
+            bound: 0,
+        },
+        Checked::Unreached(i) => InNumbers {
+            reason: 10,
             place: i,
             bound: 0,
         },
@@ -148,6 +156,10 @@ pub fn check(t: &[u32]) -> Checked
     let clash = first_clash(t, h);
     if clash < length {
         return Checked::OwnersClash(clash);
+    }
+    let unreached = first_unreached(t, h, &depths);
+    if unreached < length {
+        return Checked::Unreached(unreached);
     }
     let b = bound(t, h, &depths);
     if 4096 < b {

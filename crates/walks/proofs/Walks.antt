@@ -7,6 +7,7 @@ use native.Mathlib.Numerals.{add-one}
 use native.Mathlib.Omega.{arith}
 use Rattle.rulebook.specs.Words.{first, all, any, sum, each}
 use Rattle.laws.proofs.Tests.{split}
+use Rattle.laws.proofs.Walks.{first-before as none-before}
 
 -- what is left before a turn and after it, and at the end
 left-more : (i e : ℕ) → i < e → e - i ≡ suc (e - (i + 1))
@@ -50,13 +51,15 @@ module _ (i e : ℕ) (p : ℕ → Bool) where
   unfolding all
   all-end h = rw (left-none i e h)
 
-  pub any-turn : i < e → p i ≡ false → any i (e - i) p ≡ any (i + 1) (e - (i + 1)) p
+  pub any-step : i < e → any i (e - i) p ≡ (p i || any (i + 1) (e - (i + 1)) p)
   unfolding any
-  any-turn h y = rw (left-more i e h, y, add-one)
+  any-step h = rw (left-more i e h, add-one)
+
+  pub any-turn : i < e → p i ≡ false → any i (e - i) p ≡ any (i + 1) (e - (i + 1)) p
+  any-turn h y = any-step h ∙ rw y
 
   pub any-here : i < e → p i ≡ true → any i (e - i) p ≡ true
-  unfolding any
-  any-here h y = rw (left-more i e h, y)
+  any-here h y = any-step h ∙ rw y
 
   pub any-end : e ≤ i → any i (e - i) p ≡ false
   unfolding any
@@ -97,23 +100,22 @@ first-before i (suc m) n p h =
     ∙ first-before (suc i) m n p (omega (arith, rw (first-step i m p false e) at h))
     ∙ sym (first-step i m p false e)))
 
-pub first-after : (i m n : ℕ) (p : ℕ → Bool) → i + m ≤ first i m p → first i (m + n) p ≡ first (i + m) n p
+-- a range in which p holds nowhere, alone and before another
+pub first-past : (i m n : ℕ) (p : ℕ → Bool) → ((k : ℕ) → i ≤ k → k < i + m → p k ≡ false) → first i (m + n) p ≡ first (i + m) n p
 unfolding first
-first-after i zero n p h = rw (zero-add, add-zero)
-first-after i (suc m) n p h =
+first-past i zero n p h = rw (zero-add, add-zero)
+first-past i (suc m) n p h =
     rw (suc-add m n)
-    (split (p i) (λ e. absurd (omega (arith, rw (first-step i m p true e) at h)))
-    (λ e.
-    first-step i (m + n) p false e
-    ∙ first-after (suc i) m n p (omega (arith, rw (first-step i m p false e) at h))
-    ∙ same-first {i = suc i + m} {j = i + suc m} {m = n} {n = n} p (omega arith) refl))
+    (first-step i (m + n) p false (h i (omega arith) (omega arith))
+    ∙ first-past (suc i) m n p (λ k a b. h k (omega arith) (omega arith))
+    ∙ same-first {i = suc i + m} {j = i + suc m} {m = n} {n = n} p (omega arith) refl)
 
--- a range in which p holds nowhere
+pub first-after : (i m n : ℕ) (p : ℕ → Bool) → i + m ≤ first i m p → first i (m + n) p ≡ first (i + m) n p
+first-after i m n p h = first-past i m n p (λ k a b. none-before p i m k a (omega arith))
+
 pub first-none : (i n : ℕ) (p : ℕ → Bool) → ((k : ℕ) → i ≤ k → p k ≡ false) → first i n p ≡ i + n
 unfolding first
-first-none i zero p h = omega arith
-first-none i (suc n) p h =
-    first-step i n p false (h i (omega arith)) ∙ first-none (suc i) n p (λ k g. h k (omega arith)) ∙ omega arith
+first-none i n p h = rw add-zero at (first-past i n 0 p (λ k a b. h k a))
 
 -- One of two tests by a third, as code says it that branches nowhere.
 pub either : (a b c : Bool) → cond a b c ≡ (a && b || not a && c)

@@ -1,13 +1,15 @@
 -- A loop that fills an array of words, one store a turn. Assumes nothing.
 use Prim.Native.Nat.{ℕ, zero, suc, _+_, _<_}
-use mathlib.Core.Path.{_≡_, refl, _∙_}
-use mathlib.Core.Bool.{Bool, true, false, cond, not}
+use mathlib.Core.Path.{_≡_, refl, sym, _∙_}
+use mathlib.Core.Bool.{Bool, true, false, cond, _||_, not, or-true, or-false}
 use mathlib.Core.List.{List}
 use native.Mathlib.Omega.{arith}
 use lib.ListN.{length, getD, set, replicate}
 use lib.Seq.{getD-set-same, getD-set-other}
 use lib.Dec.{eqb}
 use borrow.Author.Count.{below-more}
+use borrow.Author.Tests.{eqb-true, eqb-false}
+use Rattle.laws.proofs.Tests.{split}
 use Rattle.words.specs.Flags.{flagged}
 
 -- what holds of the words before l, and of v, holds of the words before l + 1 once v is stored at l
@@ -27,6 +29,14 @@ pub raise-more : (q : ℕ → Bool) (flags : List ℕ) (l v : ℕ) (b : Bool) �
 unfolding flagged
 raise-more q flags l v b inside hv hb before =
     set-more (λ k w. not (eqb w 0) ≡ q k) flags l v inside (rw hv (up-if b ∙ hb)) before
+
+-- a flag put up
+pub raised-flag : (flags : List ℕ) (l k : ℕ) → l < length flags → flagged (set flags l 1) k ≡ (flagged flags k || eqb l k)
+unfolding flagged
+raised-flag flags l k h =
+    split (eqb l k)
+    (λ e. let s : l ≡ k = eqb-true l k e in rw (e, or-true) (rw (← s, getD-set-same flags l 1 0 h)))
+    (λ e. rw (e, or-false, getD-set-other flags l k 1 0 (λ z. eqb-false l k e (sym z))))
 
 -- among zeros no flag is up
 

@@ -1,15 +1,13 @@
 -- Which part stands at a place, by the places of the sections in a layout. Assumes nothing.
 use Prim.Native.Nat.{ℕ, _-_, _/_, _%_, _<_, _≤_}
 use mathlib.Core.Path.{_≡_, sym}
-use mathlib.Core.Bool.{Bool, true, false, cond}
 use mathlib.Core.List.{List}
 use native.Mathlib.Omega.{arith}
-use lib.Dec.{ltb, eqb}
-use borrow.Author.Tests.{lt-ltb, eq-eqb, ne-eqb}
-use Rattle.rulebook.specs.Table.{Part, portsFrom, networksFrom, sourcesFrom, expressionsFrom, rulesFrom, listsFrom}
+use borrow.Author.Tests.{eq-eqb, ne-eqb}
+use Rattle.rulebook.specs.Table.{expressionsFrom}
 use Rattle.rulebook.specs.Table.{inHeader, atPort, atNetwork, atWaits, atSource, atExpression, atRule, atList, atItem, part}
 use Rattle.rulebook.specs.Words.{digit}
-use Rattle.laws.proofs.Parts.{in-header, in-ports, in-networks, in-sources, in-expressions, in-rules, in-lists, in-items}
+use Rattle.laws.proofs.Parts.{in-header, in-ports, in-networks, in-sources, in-expressions, in-rules, in-lists, in-items, no-list-before}
 use Rattle.words.specs.declared.sections.Layout.{Layout}
 use Rattle.words.specs.Sections.{Laid}
 
@@ -38,6 +36,10 @@ module _ (t : List ℕ) (h : Layout) (laid : Laid t h) (i : ℕ) where
   pub list-part : h .list0 ≤ i → i < h .item0 → atList (i - h .list0) ≡ part t i
   list-part a b = rw (laid .list0) (sym (in-lists t i (omega arith) (omega arith)))
 
+  -- no list stands before the lists
+  pub before-lists : (l : ℕ) → i < h .list0 → part t i ≡ atList l → ⊥
+  before-lists l b = no-list-before t i l (omega arith)
+
   pub item-part : h .item0 ≤ i → atItem (i - h .item0) ≡ part t i
   item-part a = rw (laid .item0) (sym (in-items t i (omega arith)))
 
@@ -45,23 +47,3 @@ module _ (t : List ℕ) (h : Layout) (laid : Laid t h) (i : ℕ) where
 pub expressions-near : (t : List ℕ) → expressionsFrom t < 1024
 unfolding digit
 expressions-near t = omega arith
-
--- no list stands before the lists
-
-other : (l : ℕ) (b : Bool) (x y : Part) → (x ≡ atList l → ⊥) → (y ≡ atList l → ⊥) → cond b x y ≡ atList l → ⊥
-other l true x y hx hy = hx
-other l false x y hx hy = hy
-
-zero-not-one : _≡_ {A = ℕ} 0 1 → ⊥
-zero-not-one e = omega arith
-
-pub before-lists : (t : List ℕ) (h : Layout) → Laid t h → (i l : ℕ) → i < h .list0 → part t i ≡ atList l → ⊥
-unfolding part
-before-lists t h laid i l b =
-    simp (lt-ltb i (listsFrom t) (omega arith))
-    (other l (ltb i portsFrom) _ _ (λ e. zero-not-one (cc))
-    (other l (ltb i (networksFrom t)) _ _ (λ e. zero-not-one (cc))
-    (other l (ltb i (sourcesFrom t)) _ _
-    (other l (eqb ((i - networksFrom t) % 2) 0) _ _ (λ e. zero-not-one (cc)) (λ e. zero-not-one (cc)))
-    (other l (ltb i (expressionsFrom t)) _ _ (λ e. zero-not-one (cc))
-    (other l (ltb i (rulesFrom t)) _ _ (λ e. zero-not-one (cc)) (λ e. zero-not-one (cc)))))))

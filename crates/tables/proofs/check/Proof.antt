@@ -7,10 +7,14 @@ use borrow.Author.Tests.{le-leb, lt-leb, eq-eqb, ne-eqb, not-true, not-false}
 use mathlib.Core.Bool.{true}
 use Rattle.rulebook.specs.Words.{word, field}
 use Rattle.rulebook.specs.Reasons as Reasons
-use Rattle.rulebook.specs.Reasons.{hasHeader, knownEdition, exactLength, ownFields, names, nesting, owners, Link, firstOf}
-use Rattle.tables.proofs.Chain.{from-header, from-edition, from-counts, from-length, from-fields, from-names, from-nesting, from-owners, from-cost}
-use Rattle.tables.proofs.Chain.{none-left, kept, broken, kept-by-all, broken-at, refuses, dear, cheap, accepts, few-lists, no-deep-list}
+use Rattle.rulebook.specs.Reasons.{hasHeader, knownEdition, exactLength, ownFields, names, nesting, owners, reached, Link, firstOf}
+use Rattle.tables.proofs.Chain.{from-header, from-edition, from-counts, from-length, from-fields, from-names, from-nesting, from-owners}
+use Rattle.tables.proofs.Chain.{from-reached, from-cost, none-left, kept, broken, kept-by-all, broken-at, refuses}
+use Rattle.tables.proofs.Chain.{dear, cheap, accepts, kept-everywhere, no-deep-list}
+use Rattle.rulebook.specs.Table.{noList}
+use Rattle.laws.proofs.Facts.{counts-of}
 use Rattle.nesting.proofs.Levels.{no-round}
+use Rattle.reach.specs.Raised.{Judged}
 use borrow.Author.Needs.{needs}
 use Rattle.tables.proofs.check.Statement.{statement}
 use Rattle.tables.proofs.check.Tie as tie
@@ -38,8 +42,11 @@ at-names c = before-depths (depths-found c .before)
 abbrev at-nesting : tie.After-first-clash → tie.After-first-deep
 at-nesting c = c .before .before
 
-abbrev at-owners : tie.After-bound → tie.After-first-clash
+abbrev at-owners : tie.After-first-unreached → tie.After-first-clash
 at-owners c = c .before .before .before
+
+abbrev at-reached : tie.After-bound → tie.After-first-unreached
+at-reached c = c .before .before .before
 
 abbrev layout-read : tie.After-edition → tie.After-read-layout
 layout-read c = c .before .before
@@ -73,8 +80,8 @@ left-length c = left-counts (c .before) ∙ kept _ 3 _ _ (counts-kept c)
 abbrev layout : tie.Else3 → tie.After-read-layout
 layout c = layout-read (at-edition (c .before))
 
-few : (c : tie.Else3) → layout c .read-layout .result .lists ≤ 256
-few c = let some = few-lists _ (counts-kept c) in omega (arith, layout c .read-layout .ensures .lists .value)
+few : (c : tie.Else3) → layout c .read-layout .result .lists ≤ noList
+few c = let some = counts-of _ (counts-kept c) .lists in omega (arith, layout c .read-layout .ensures .lists .value)
 
 left-fields : (c : tie.After-first-misfit) → Left (table (at-edition (at-length c .before))) from-fields
 unfolding exactLength
@@ -95,11 +102,18 @@ left-owners c =
     left-nesting (at-nesting c)
     ∙ kept-by-all _ 7 nesting _ _ _ (at-fields (at-names (at-nesting c)) .before .if4 .left) (at-nesting c .first-deep .ensures) (c .before .if7 .left)
 
-left-cost : (c : tie.After-bound) → Left (table (at-edition (at-length (at-fields (at-names (at-nesting (at-owners c)))) .before))) from-cost
-left-cost c =
+left-reached : (c : tie.After-first-unreached) → Left (table (at-edition (at-length (at-fields (at-names (at-nesting (at-owners c)))) .before))) from-reached
+left-reached c =
     left-owners (at-owners c)
     ∙ kept-by-all _ 8 owners _ _ _ (at-fields (at-names (at-nesting (at-owners c))) .before .if4 .left) (at-owners c .first-clash .ensures)
     (c .before .before .if8 .left)
+
+left-cost : (c : tie.After-bound)
+    → Left (table (at-edition (at-length (at-fields (at-names (at-nesting (at-owners (at-reached c))))) .before))) from-cost
+left-cost c =
+    left-reached (at-reached c)
+    ∙ kept-by-all _ 10 reached _ _ _ (at-fields (at-names (at-nesting (at-owners (at-reached c)))) .before .if4 .left)
+    (at-reached c .first-unreached .ensures) (c .before .before .if9 .left)
 
 -- the exits
 
@@ -135,7 +149,7 @@ returns-6 c =
 find-depths-requires : tie.Need-find-depths-requires
 find-depths-requires c κs =
     let here = at-length (at-fields (before-depths c)) in
-    record { laid = layout here .read-layout .ensures; few = few here; found = no-round (table (at-edition (here .before))) }
+    record { laid = layout here .read-layout .ensures; few = omega (arith, few here); found = no-round (table (at-edition (here .before))) }
 
 returns-7 : tie.Need-returns-7
 returns-7 c =
@@ -149,24 +163,48 @@ returns-8 c =
     (left-owners (c .before)
     ∙ broken-at _ 8 owners _ _ _ (at-fields (at-names (at-nesting (c .before))) .before .if4 .left) (c .before .first-clash .ensures) (c .if8 .taken))
 
-bound-requires : tie.Need-bound-requires
-bound-requires c κs =
-    let deep = at-nesting (c .before .before) in
+-- what the rules before say of the whole table: its names, its nesting, and its lists' depths
+judged : (c : tie.After-first-clash)
+    → let deep = at-nesting c in let here = at-length (at-fields (at-names deep)) in
+    Judged (table (at-edition (here .before))) (layout here .read-layout .result) (depths-found deep .find-depths .last .1 .1 .0)
+judged c =
+    let deep = at-nesting c in
     let misfit = at-fields (at-names deep) in
     let here = at-length misfit in
-    let laid = layout here .read-layout .ensures in
+    let long = misfit .before .if4 .left in
     record {
-      searched = record { laid = laid; few = few here; found = depths-found deep .find-depths .ensures };
-      nested = no-deep-list _ _ _ (misfit .before .if4 .left) (laid .length) (deep .first-deep .ensures) (c .before .before .before .if7 .left);
+      sorted = record { laid = layout here .read-layout .ensures; few = few here; found = depths-found deep .find-depths .ensures };
+      whole = long;
+      named = kept-everywhere names _ _ _ long (at-names deep .first-misnamed .ensures) (depths-found deep .before .before .if6 .left);
+      nested = kept-everywhere nesting _ _ _ long (deep .first-deep .ensures) (c .before .if7 .left);
     }
 
+first-unreached-requires : tie.Need-first-unreached-requires
+first-unreached-requires c κs = judged (c .before .before)
+
 returns-9 : tie.Need-returns-9
-returns-9 c = refuses _ 9 0 refl (left-cost (c .before) ∙ broken _ 9 _ _ (dear _ _ (c .before .bound .ensures) (c .if9 .taken)))
+returns-9 c =
+    refuses _ 10 _ refl
+    (left-reached (c .before)
+    ∙ broken-at _ 10 reached _ _ _ (at-fields (at-names (at-nesting (at-owners (c .before)))) .before .if4 .left) (c .before .first-unreached .ensures)
+    (c .if9 .taken))
+
+bound-requires : tie.Need-bound-requires
+bound-requires c κs =
+    let known = judged (at-owners (c .before .before)) in
+    let laid = known .sorted .laid in
+    record {
+      searched = record { laid = laid; few = omega (arith, known .sorted .few); found = known .sorted .found };
+      nested = no-deep-list _ (known .whole ∙ laid .length) (known .nested);
+    }
 
 returns-10 : tie.Need-returns-10
-returns-10 c =
-    accepts _ _ (left-cost (c .before) ∙ kept _ 9 _ _ (cheap _ _ (c .before .bound .ensures) (c .if9 .left)) ∙ none-left _)
-    (c .before .bound .ensures) (c .if9 .left)
+returns-10 c = refuses _ 9 0 refl (left-cost (c .before) ∙ broken _ 9 _ _ (dear _ _ (c .before .bound .ensures) (c .if10 .taken)))
+
+returns-11 : tie.Need-returns-11
+returns-11 c =
+    accepts _ _ (left-cost (c .before) ∙ kept _ 9 _ _ (cheap _ _ (c .before .bound .ensures) (c .if10 .left)) ∙ none-left _)
+    (c .before .bound .ensures) (c .if10 .left)
 
 pub check-spec : {M : Type 1} → statement M
 check-spec =
@@ -192,6 +230,9 @@ check-spec =
     (λ c κs. search needs)
     returns-8
     (λ c. search needs)
-    bound-requires
+    first-unreached-requires
     returns-9
-    returns-10)
+    (λ c. search needs)
+    bound-requires
+    returns-10
+    returns-11)

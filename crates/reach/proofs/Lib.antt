@@ -1,0 +1,4 @@
+-- Laws that belong to no one function.
+pub mod Raised
+pub mod Rounds
+pub mod Place

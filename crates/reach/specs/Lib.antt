@@ -1,0 +1,2 @@
+-- What the contracts of rule 10 cite beside the rulebook.
+pub mod Raised
