@@ -27,9 +27,9 @@
  * the local arrays have 1 KiB each.
  *
  * What a call costs: all but herringcart_state_words check the whole table each time, for nothing is kept. Measured
- * on an Arm Neoverse V1 an event takes some 16 ns for each word of the table (docs/BENCHMARKS.md): 0.2 us with 12 words,
- * 48 us with 2,892. Tables made to be slow to check take up to 0.9 ms a call. The slowest that are known run 4,080 rule items
- * in one event: 1.8 ms, and 3.1 ms while a port is undefined. Whoever has a deadline measures with the table that is to be deployed.
+ * on an Arm Neoverse N1 an event takes some 30 ns for each word of the table (docs/BENCHMARKS.md): 0.4 us with 12 words,
+ * 86 us with 2,892. Tables made to be slow to check take up to 1.4 ms a call. The slowest that are known run 4,080 rule items
+ * in one event: 3.5 ms, and 5.2 ms while a port is undefined. Whoever has a deadline measures with the table that is to be deployed.
  */
 #ifndef HERRINGCART_H
 #define HERRINGCART_H
@@ -42,9 +42,9 @@
 #include <stdint.h>
 
 /* The version of this header and of the archive beside it. docs/CHANGES.md says what each version changes. */
-#define HERRINGCART_VERSION "2.1"
-#define HERRINGCART_VERSION_MAJOR 2
-#define HERRINGCART_VERSION_MINOR 1
+#define HERRINGCART_VERSION "3.0"
+#define HERRINGCART_VERSION_MAJOR 3
+#define HERRINGCART_VERSION_MINOR 0
 
 #ifdef __cplusplus
 extern "C" {
@@ -58,7 +58,7 @@ extern "C" {
 /* The most stack a call takes, in bytes. */
 #define HERRINGCART_STACK_BYTES 16384
 
-/* Why a table is refused. */
+/* Why a table is refused, in the order in which the reasons are tried: 10 stands before 9. */
 enum herringcart_reason {
     HERRINGCART_ACCEPTED = 0,
     HERRINGCART_TOO_SHORT = 1,     /* fewer than 3 words */
@@ -69,6 +69,7 @@ enum herringcart_reason {
     HERRINGCART_MISNAMED = 6,      /* a word names an absent thing or one of a wrong kind */
     HERRINGCART_TOO_DEEP = 7,      /* an expression or list nests deeper than seven, or without end */
     HERRINGCART_OWNERS_CLASH = 8,
+    HERRINGCART_UNREACHED = 10,    /* a list is reached by no rule that isn't nested-only */
     HERRINGCART_TOO_DEAR = 9       /* all lists' cost is above 4,096 */
 };
 

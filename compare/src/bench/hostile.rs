@@ -25,12 +25,20 @@ pub fn all() -> Vec<Hostile> {
         Hostile { name, event, draft: rule_items(same_rules(draft)) }
     });
     let mut all = vec![
-        plain("lists 7 deep, deepest first", levels(7, Order::DeepFirst, false)),
-        plain("lists 7 deep, deepest last", levels(7, Order::DeepLast, false)),
-        plain("rules 7 deep, deepest first", levels(7, Order::DeepFirst, true)),
-        plain("rules 7 deep, deepest last", levels(7, Order::DeepLast, true)),
-        plain("lists beside a row of seven", beside(false)),
-        plain("rules beside a row of seven", beside(true)),
+        plain("lists 7 deep, deepest first", started(levels(7, Order::DeepFirst, false))),
+        plain("lists 7 deep, deepest last", started(levels(7, Order::DeepLast, false))),
+        plain("rules 7 deep, deepest first", started(levels(7, Order::DeepFirst, true))),
+        plain("rules 7 deep, deepest last", started(levels(7, Order::DeepLast, true))),
+        plain("lists beside a row of seven", started(beside(false))),
+        plain("rules beside a row of seven", started(beside(true))),
+        plain(
+            "lists 7 deep, the last reached by none",
+            unreached(levels(7, Order::DeepLast, false)),
+        ),
+        plain(
+            "rules 7 deep, the last reached by none",
+            unreached(levels(7, Order::DeepLast, true)),
+        ),
         plain("lists 8 deep, the last only", levels(8, Order::DeepLast, false)),
         plain("lists, the last one a ring", ring(false, false)),
         plain("lists, each a ring at its last item", ring(true, false)),
@@ -95,6 +103,27 @@ fn levels(deep: usize, order: Order, by_rules: bool) -> Draft {
                 _ => list_item(number(below, at)),
             };
             draft.items.push(item);
+        }
+    }
+    draft
+}
+
+/// With rules that start every list, so that each is read to its end for what it
+/// reaches, and the table is refused for its cost alone.
+fn started(mut draft: Draft) -> Draft {
+    let lists: Vec<u32> = (0..draft.lists.len() as u32).collect();
+    let starts = lists.chunks(2).map(|pair| rule(0, pair[0], *pair.get(1).unwrap_or(&NO_LIST)));
+    draft.rules.extend(starts);
+    draft
+}
+
+/// The same but for the last list, which no other names.
+fn unreached(draft: Draft) -> Draft {
+    let mut draft = started(draft);
+    let last = draft.lists.len() as u32 - 1;
+    for rule in &mut draft.rules {
+        for list in [&mut rule.true_list, &mut rule.false_list] {
+            *list = if *list == last { NO_LIST } else { *list };
         }
     }
     draft
@@ -188,7 +217,7 @@ fn expressions(deep: usize) -> Draft {
 
 /// The slow expressions in the rules that the slow lists name.
 fn both() -> Draft {
-    let lists = beside(true);
+    let lists = started(beside(true));
     let mut draft = Draft { rules: lists.rules, ..expressions(7) };
     for (number, rule) in draft.rules.iter_mut().enumerate() {
         rule.expression = 12 + number as u32;

@@ -200,3 +200,14 @@ fn the_undefined_port_stays_so_and_no_rule_mentions_it() {
         assert!(!draft.rules.iter().flat_map(mentioned).any(|port| port == 63), "{name}");
     }
 }
+
+#[test]
+fn lists_that_nothing_starts_are_in_the_rows_that_say_so_alone() {
+    for Hostile { name, draft, .. } in hostile::all() {
+        let Check { reason, place, .. } = herringcart::check_table(&draft.words());
+        assert_eq!(reason == 10, name.ends_with("reached by none"), "{name}: reason {reason}");
+        // Such a row reads all other lists first.
+        let items = draft.words().len() - draft.items.len();
+        assert!(reason != 10 || place == items - 1, "{name}: place {place}");
+    }
+}

@@ -110,19 +110,41 @@ fn remove_expression(draft: &mut Draft, at: usize) {
     draft.rules.iter_mut().for_each(|rule| rename(&mut rule.expression));
 }
 
-/// A rule loses the list that is taken out.
+/// Whatever names the list that is taken out names the first list below it
+/// instead, which nothing else may start; where there is none, a rule has no
+/// list and an item is a call.
 fn remove_list(draft: &mut Draft, at: usize) {
-    draft.lists.remove(at);
+    let list = draft.lists.remove(at);
+    let items = draft.items.get(list.items()).unwrap_or_default().iter();
+    let mut below = items.flat_map(|item| named_lists(draft, item)).filter(|&list| list != at);
+    let heir = below.next().map(|list| moved_up(list as u32, at));
     for rule in &mut draft.rules {
         for name in [&mut rule.true_list, &mut rule.false_list] {
             match *name {
-                list if list as usize == at => *name = NO_LIST,
+                list if list as usize == at => *name = heir.unwrap_or(NO_LIST),
                 NO_LIST => {}
                 _ => move_up(name, at),
             }
         }
     }
-    move_items(draft, &[item::LIST], at);
+    for item in draft.items.iter_mut().filter(|item| item.kind == item::LIST) {
+        match heir {
+            _ if item.a as usize != at => move_up(&mut item.a, at),
+            Some(list) => item.a = list,
+            None => *item = Item::default(),
+        }
+    }
+}
+
+/// The lists that an item names, directly or by a rule.
+fn named_lists(draft: &Draft, item: &Item) -> Vec<usize> {
+    match item.kind {
+        item::LIST => vec![item.a as usize],
+        item::RULE => {
+            draft.rules.get(item.a as usize).map_or(vec![], |rule| rule.lists().collect())
+        }
+        _ => vec![],
+    }
 }
 
 fn remove_item(draft: &mut Draft, at: usize) {

@@ -26,7 +26,7 @@
 /// What a table check gives.
 #[derive(Clone, Copy, PartialEq, Eq, Debug)]
 pub struct Check {
-    /// 0, or the first of document 01's reasons 1 to 9 that holds.
+    /// 0, or the first of the documents' reasons 1 to 10 that holds, in their order: 10 before 9.
     pub reason: u32,
     /// The lowest word that breaks the rule; 0 for reasons 0 to 4 and 9.
     pub place: usize,
