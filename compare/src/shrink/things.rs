@@ -111,8 +111,8 @@ fn remove_expression(draft: &mut Draft, at: usize) {
 }
 
 /// Whatever names the list that is taken out names the first list below it
-/// instead, which nothing else may start; where there is none, a rule has no
-/// list and an item is a call.
+/// instead, for that one may have no other start; where there is none, a rule has
+/// no list and an item is a call.
 fn remove_list(draft: &mut Draft, at: usize) {
     let list = draft.lists.remove(at);
     let items = draft.items.get(list.items()).unwrap_or_default().iter();
