@@ -21,7 +21,7 @@ pub fn refusal(table: &Table, event: Event) -> u32 {
 fn malformed(event: Event) -> bool {
     let tick_with_more = event.kind == event::TICK && event != Event::default();
     let value_out_of_place = event.kind != event::MODE_REQUEST && event.value != 0;
-    event.kind > event::WAKEUP_CLEAR || event.zero != 0 || tick_with_more || value_out_of_place
+    event.kind > event::HEARD || event.zero != 0 || tick_with_more || value_out_of_place
 }
 
 /// The owner of the port, source or network an event speaks of, if it may.
@@ -38,7 +38,9 @@ fn owner_of_thing(table: &Table, event: Event) -> Option<u32> {
             };
             open.then_some(port.owner)
         }
-        event::BUS_OFF => present(Section::Networks).then(|| table.network(number).owner),
+        event::BUS_OFF | event::HEARD => {
+            present(Section::Networks).then(|| table.network(number).owner)
+        }
         _ => present(Section::Sources).then(|| table.source(number).owner),
     }
 }
@@ -67,6 +69,7 @@ impl Run<'_> {
                 }
             }
             event::BUS_OFF => self.bus_off(number),
+            event::HEARD => self.heard(number),
             _ => self.turn_source(number, source::NONE, 0),
         }
         Ok(())
@@ -100,6 +103,14 @@ impl Run<'_> {
         }
     }
 
+    /// Heard waits for the next tick, so nothing is shown yet; only check takes note of it.
+    fn heard(&mut self, number: usize) {
+        let old = self.state.network(number);
+        if old.state == network::CHECK {
+            self.state.set_network(number, NetworkState { heard: 1, ..old });
+        }
+    }
+
     fn tick(&mut self) -> Result<(), EighthLevel> {
         for number in 0..self.table.count(Section::Networks) {
             self.tick_network(number);
@@ -128,7 +139,8 @@ impl Run<'_> {
             (mode::SILENT, network::SILENT..) => (network::SILENT, 0, 0),
             (mode::FULL, network::NONE | network::SILENT) => (network::CHECK, 0, e_ticks),
             (_, network::RECOVER) if left == 0 => (network::CHECK, old.counter, e_ticks),
-            (_, network::CHECK) if left == 0 => (network::FULL, 0, 0),
+            // heard ends the check "whatever remains", "unless none or silent is asked".
+            (_, network::CHECK) if left == 0 || old.heard == 1 => (network::FULL, 0, 0),
             _ => (old.state, old.counter, left),
         };
         self.turn_network(number, state, counter, remaining);
@@ -145,13 +157,16 @@ impl Run<'_> {
         }
     }
 
-    /// Its port is written where what it shows changes, whatever the port holds.
+    /// Its port is written where what it shows changes, whatever the port holds. Outside check
+    /// nothing heard is kept.
     fn turn_network(&mut self, number: usize, state: u32, counter: u32, remaining: u32) {
         let old = self.state.network(number);
         if shown(old.state) != shown(state) {
             self.write_port(self.table.network(number).port, shown(state));
         }
-        self.state.set_network(number, NetworkState { state, counter, remaining, ..old });
+        let heard = if state == network::CHECK { old.heard } else { 0 };
+        let turned = NetworkState { state, counter, heard, remaining, ..old };
+        self.state.set_network(number, turned);
     }
 
     /// Its port is written where its status changes, whatever the port holds.

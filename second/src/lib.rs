@@ -1,6 +1,6 @@
 //! The second program of Herringcart: document 01's rules written again, with
-//! document 02's requests, from the documents and their
-//! readings alone, as the judge of the first.
+//! document 02's requests, from the documents and
+//! their readings alone, as the judge of the first.
 
 // The rules, in the document's order.
 pub mod words;

@@ -87,7 +87,10 @@ fn network_fits(waits: Waits, state: NetworkState) -> bool {
         network::RECOVER => state.counter >= 1,
         _ => state.counter == 0,
     };
+    // heard "may be 1 only in check".
+    let heard_fits = state.heard == 0 || state.state == network::CHECK;
     state.zero == 0
+        && heard_fits
         && state.asked <= mode::FULL
         && state.state <= network::RECOVER
         && counter_fits

@@ -45,7 +45,7 @@ layout! {
     Item { kind: 4, a: 12, b: 16 }
     PortState { defined: 1, marked: 1, value: 8, zero: 6, remaining: 16 }
     RuleState { last: 2, zero: 30 }
-    NetworkState { asked: 2, state: 3, counter: 8, zero: 3, remaining: 16 }
+    NetworkState { asked: 2, state: 3, counter: 8, heard: 1, zero: 2, remaining: 16 }
     SourceState { status: 2, zero: 14, remaining: 16 }
     Event { kind: 4, owner: 4, index: 8, value: 8, zero: 8 }
     TraceWord { kind: 4, owner: 4, a: 8, b: 16 }
@@ -109,6 +109,7 @@ pub mod event {
     pub const WAKEUP_VALID: u32 = 4;
     pub const BUS_OFF: u32 = 5;
     pub const WAKEUP_CLEAR: u32 = 6;
+    pub const HEARD: u32 = 7;
 }
 
 pub const EDITION: u32 = 1;

@@ -3,6 +3,7 @@
 
 pub mod cleared;
 pub mod draft;
+pub mod heard;
 pub mod levels;
 pub mod numbers;
 pub mod prng;
@@ -16,6 +17,7 @@ pub mod wide;
 
 use cleared::clearing;
 use draft::{Draft, SEVEN};
+use heard::hearing;
 use levels::leveling;
 use numbers::renumbered;
 use prng::Prng;
@@ -73,6 +75,7 @@ enum Shape {
     Wide,
     Cleared,
     Levels,
+    Heard,
     Reached,
     Unreached,
     SevenDeep,
@@ -92,10 +95,10 @@ enum Shape {
 const ROUND: [Shape; 50] = {
     use Shape::*;
     [
-        Small, Rich, Refused, Cleared, AnyState, Unfit, Small, Refused, SevenDeep, Wide, Small,
-        Levels, Rich, TwoFaults, Small, BitsFlipped, Refused, Small, AnyState, Unfit, Rich, Wide,
+        Small, Rich, Refused, Cleared, AnyState, Unfit, Heard, Refused, SevenDeep, Wide, Small,
+        Levels, Rich, TwoFaults, Small, BitsFlipped, Refused, Heard, AnyState, Unfit, Rich, Wide,
         EightDeep, Unreached, Small, NamesTurned, Dearest, Cleared, Raw, Levels, Rich, Refused,
-        Unfit, Small, Reached, Wide, AnyState, Hostile, Cleared, Refused, Limits, Rich, Small,
+        Unfit, Heard, Reached, Wide, AnyState, Hostile, Cleared, Refused, Limits, Rich, Small,
         Brimful, NamesTurned, Unreached, Unfit, AnyState, Wide, Levels,
     ]
 };
@@ -130,8 +133,9 @@ fn make(rng: &mut Prng, shape: Shape, round: usize) -> Made {
         Shape::Dearest => dearest(rng),
         Shape::Brimful => brimful(rng),
         Shape::Wide => wide(rng),
-        Shape::Cleared => cleared(rng),
-        Shape::Levels => levels(rng),
+        Shape::Cleared => small_or_alone(rng, clearing),
+        Shape::Levels => small_or_alone(rng, leveling),
+        Shape::Heard => small_or_alone(rng, hearing),
         Shape::Reached => reached(rng),
         Shape::Unreached => refused_case(rng, not_reached),
         Shape::SevenDeep => seven_deep(rng),
@@ -290,17 +294,13 @@ fn wide(rng: &mut Prng) -> Made {
     from_mostly_fresh(rng, &draft, events)
 }
 
-/// Cleared events on a small table or alone, mostly from a fresh state.
-fn cleared(rng: &mut Prng) -> Made {
+/// What a request is tried with, on a small table or alone, mostly from a fresh state.
+fn small_or_alone(
+    rng: &mut Prng,
+    with: impl Fn(&mut Prng, Draft) -> (Draft, Vec<(u32, u32)>),
+) -> Made {
     let base = if rng.chance(50) { small(rng) } else { Draft::default() };
-    let (draft, events) = clearing(rng, base);
-    from_mostly_fresh(rng, &draft, events)
-}
-
-/// Levels on a small table or alone, mostly from a fresh state.
-fn levels(rng: &mut Prng) -> Made {
-    let base = if rng.chance(50) { small(rng) } else { Draft::default() };
-    let (draft, events) = leveling(rng, base);
+    let (draft, events) = with(rng, base);
     from_mostly_fresh(rng, &draft, events)
 }
 

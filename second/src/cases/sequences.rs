@@ -48,13 +48,16 @@ pub fn sequence(
 
 /// Events that are taken, with a few of any kind strewn in.
 pub fn strewn(rng: &mut Prng, draft: &Draft, taken: &[Event]) -> Vec<(u32, u32)> {
+    strew(rng, draft, taken.iter().map(|event| (event.word(), 0)).collect())
+}
+
+/// Events with their answers, with a few of any kind strewn in.
+pub fn strew(rng: &mut Prng, draft: &Draft, mut events: Vec<(u32, u32)>) -> Vec<(u32, u32)> {
     let strays = 1 + rng.below(4);
-    let strays = sequence(rng, draft, strays, 6);
-    let mut all: Vec<(u32, u32)> = taken.iter().map(|event| (event.word(), 0)).collect();
-    for stray in strays {
-        all.insert(rng.below(all.len() + 1), stray);
+    for stray in sequence(rng, draft, strays, 6) {
+        events.insert(rng.below(events.len() + 1), stray);
     }
-    all
+    events
 }
 
 fn numbers<T>(things: &[T]) -> Vec<usize> {
@@ -78,12 +81,12 @@ fn event_ports(draft: &Draft) -> Vec<usize> {
 impl Sender<'_> {
     /// A tick where the table has nothing of the kind drawn.
     fn taken(&mut self) -> Event {
-        let kind = self.rng.weighed(&[34, 26, 12, 9, 5, 10, 4]) as u32;
+        let kind = self.rng.weighed(&[34, 26, 12, 9, 5, 10, 4, 8]) as u32;
         let focus = match kind {
             event::TICK => return Event::default(),
             event::MODE_REQUEST => &self.focus[0],
             event::EVENT_REQUEST => &self.focus[1],
-            event::BUS_OFF => &self.focus[3],
+            event::BUS_OFF | event::HEARD => &self.focus[3],
             _ => &self.focus[2],
         };
         let Some(number) = self.rng.pick_any(focus) else {
@@ -91,7 +94,7 @@ impl Sender<'_> {
         };
         let owner = match kind {
             event::MODE_REQUEST | event::EVENT_REQUEST => self.draft.ports[number].owner,
-            event::BUS_OFF => self.draft.networks[number].0.owner,
+            event::BUS_OFF | event::HEARD => self.draft.networks[number].0.owner,
             _ => self.draft.sources[number].owner,
         };
         let value = if kind == event::MODE_REQUEST { self.value(number) } else { 0 };
@@ -127,7 +130,7 @@ impl Sender<'_> {
     }
 
     fn malformed(&mut self, taken: Event) -> Event {
-        let kind = self.rng.within(event::WAKEUP_CLEAR + 1, 15);
+        let kind = self.rng.within(event::HEARD + 1, 15);
         let zero = self.rng.within(1, 255);
         match self.rng.below(4) {
             0 => Event { kind, ..taken },
@@ -144,11 +147,11 @@ impl Sender<'_> {
     /// the owner may be wrong besides, for 5 comes before 6.
     fn without_thing(&mut self) -> Event {
         let (draft, owner) = (self.draft, self.rng.within(0, 15));
-        let kind = self.rng.within(event::MODE_REQUEST, event::WAKEUP_CLEAR);
+        let kind = self.rng.within(event::MODE_REQUEST, event::HEARD);
         let (count, closed) = match kind {
             event::MODE_REQUEST => (draft.ports.len(), open_mode_ports(draft)),
             event::EVENT_REQUEST => (draft.ports.len(), event_ports(draft)),
-            event::BUS_OFF => (draft.networks.len(), numbers(&draft.networks)),
+            event::BUS_OFF | event::HEARD => (draft.networks.len(), numbers(&draft.networks)),
             _ => (draft.sources.len(), numbers(&draft.sources)),
         };
         let wrong: Vec<usize> = (0..count).filter(|number| !closed.contains(number)).collect();

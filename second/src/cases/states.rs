@@ -76,7 +76,9 @@ fn fit_network(rng: &mut Prng, waits: Waits) -> NetworkState {
         network::RECOVER => (counter, rng.within(1, waits.l1.max(waits.l2))),
         _ => (0, 0),
     };
-    NetworkState { asked, state, counter, zero: 0, remaining }
+    // only in check may something have been heard.
+    let heard = if state == network::CHECK { rng.within(0, 1) } else { 0 };
+    NetworkState { asked, state, counter, heard, zero: 0, remaining }
 }
 
 fn fit_source(rng: &mut Prng, source: Source) -> SourceState {
@@ -96,7 +98,8 @@ pub enum Misfit {
     Length,
     PortZeroField,
     RuleZeroField,
-    NetworkZeroField,
+    NetworkUpperZeroBit,
+    NetworkLowerZeroBit,
     SourceZeroField,
     ImmediateModeMarked,
     UndefinedEvent,
@@ -118,13 +121,18 @@ pub enum Misfit {
     NetworkStateAboveFour,
     CounterOutOfPlace,
     CounterMissing,
+    HeardInNone,
+    HeardInSilent,
+    HeardInFull,
+    HeardInRecover,
 }
 
-pub const MISFITS: [Misfit; 25] = [
+pub const MISFITS: [Misfit; 30] = [
     Misfit::Length,
     Misfit::PortZeroField,
     Misfit::RuleZeroField,
-    Misfit::NetworkZeroField,
+    Misfit::NetworkUpperZeroBit,
+    Misfit::NetworkLowerZeroBit,
     Misfit::SourceZeroField,
     Misfit::ImmediateModeMarked,
     Misfit::UndefinedEvent,
@@ -146,6 +154,10 @@ pub const MISFITS: [Misfit; 25] = [
     Misfit::NetworkStateAboveFour,
     Misfit::CounterOutOfPlace,
     Misfit::CounterMissing,
+    Misfit::HeardInNone,
+    Misfit::HeardInSilent,
+    Misfit::HeardInFull,
+    Misfit::HeardInRecover,
 ];
 
 /// A state that fits but for this one condition; None where the table has
@@ -230,26 +242,31 @@ fn spoil_network(rng: &mut Prng, draft: &Draft, parts: &mut Parts, misfit: Misfi
     let most = waits.l1.max(waits.l2);
     let at_rest = rng.pick(&[network::NONE, network::SILENT, network::FULL]);
     let counter = rng.within(1, 255);
+    let turned = |state: u32, counter: u32, remaining: u32| NetworkState {
+        asked: old.asked,
+        state,
+        counter,
+        remaining,
+        ..Default::default()
+    };
+    let heard = |state: u32| NetworkState { heard: 1, ..turned(state, 0, 0) };
     parts.networks[number] = match misfit {
-        Misfit::NetworkZeroField => NetworkState { zero: bit(rng, 3), ..old },
+        Misfit::NetworkUpperZeroBit => NetworkState { zero: 2, ..old },
+        Misfit::NetworkLowerZeroBit => NetworkState { zero: 1, ..old },
         Misfit::AskedAboveTwo => NetworkState { asked: 3, ..old },
-        Misfit::NetworkStateAboveFour => {
-            NetworkState { state: rng.within(5, 7), counter: 0, remaining: 0, ..old }
-        }
+        Misfit::NetworkStateAboveFour => turned(rng.within(5, 7), 0, 0),
         Misfit::CheckRemaining => {
             NetworkState { state: network::CHECK, remaining: outside(rng, waits.e_ticks), ..old }
         }
-        Misfit::RecoverRemaining => {
-            let remaining = outside(rng, most);
-            NetworkState { state: network::RECOVER, counter, remaining, ..old }
-        }
-        Misfit::SettledRemaining => {
-            let remaining = rng.within(1, 65535);
-            NetworkState { state: at_rest, counter: 0, remaining, ..old }
-        }
-        Misfit::CounterOutOfPlace => NetworkState { state: at_rest, counter, remaining: 0, ..old },
-        Misfit::CounterMissing => {
-            NetworkState { state: network::RECOVER, counter: 0, remaining: most, ..old }
+        Misfit::RecoverRemaining => turned(network::RECOVER, counter, outside(rng, most)),
+        Misfit::SettledRemaining => turned(at_rest, 0, rng.within(1, 65535)),
+        Misfit::CounterOutOfPlace => turned(at_rest, counter, 0),
+        Misfit::CounterMissing => turned(network::RECOVER, 0, most),
+        Misfit::HeardInNone => heard(network::NONE),
+        Misfit::HeardInSilent => heard(network::SILENT),
+        Misfit::HeardInFull => heard(network::FULL),
+        Misfit::HeardInRecover => {
+            NetworkState { heard: 1, ..turned(network::RECOVER, counter, rng.within(1, most)) }
         }
         _ => return None,
     };

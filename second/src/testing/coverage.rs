@@ -4,6 +4,7 @@ use std::cmp::Ordering;
 use std::collections::{BTreeMap, BTreeSet};
 use std::fmt;
 
+use super::heard::{self, Heard};
 use super::names;
 use crate::cases::refused::{COST_4097, DEPTH_8_EXPRESSION, DEPTH_8_LIST, RING};
 use crate::cases::states::{MISFITS, Misfit};
@@ -32,6 +33,7 @@ pub enum Row {
     Distance(u32),
     NetworkTurn(u32, u32),
     BusOffIgnored(u32),
+    Heard(Heard),
     SourceTurn(u32, u32),
     Unfit(usize),
     Limit(usize),
@@ -56,7 +58,11 @@ pub const TIMER_STARTED: &str = "timer started";
 pub const TIMER_STOPPED: &str = "timer stopped";
 pub const TIMER_EXPIRED: &str = "timer expired";
 pub const NETWORK_SHOWN: &str = "countdown checked: network shows full";
-pub const NETWORK_SETTLED: &str = "countdown checked: network settled";
+pub const NETWORK_SETTLED: &str = "countdown checked: network settled, nothing heard";
+pub const SETTLED_LOST: &str =
+    "countdown checked: network settled, heard before the L-th tick only";
+pub const SETTLED_HEARD: &str = "countdown checked: network settled, heard";
+pub const SETTLED_HEARD_LAST: &str = "countdown checked: network settled, heard where 1 remains";
 pub const SOURCE_EXPIRED: &str = "countdown checked: source expires";
 pub const SOURCE_ENDED: &str = "countdown ended by its own operator";
 pub const UNREADY_BY_SKIPPED: &str = "rule unready only by a port on a skipped side";
@@ -80,8 +86,12 @@ pub const LEVEL_ON_EVENT: &str = "at or above refused: event";
 pub const LEVEL_ON_ABSENT: &str = "at or above refused: absent port";
 pub const LEVEL_CLASH: &str = "owners clash only by at or above";
 pub const STRUCK_OUT: &str = "strangers' taken events struck out";
+pub const STRUCK_OUT_HEARD: &str = "strangers' taken heards struck out";
+pub const STRUCK_OUT_REFUSED: &str = "strangers' heards of a network that is in check struck out";
+pub const STRUCK_OUT_SAME: &str =
+    "strangers' taken events struck out, heard taken at the same tick";
 
-const SPECIAL: [&str; 44] = [
+const SPECIAL: [&str; 50] = [
     TWO_CHOSEN,
     CHOSEN_AND_NAMED,
     DEPTH_7_EXPRESSION,
@@ -103,6 +113,9 @@ const SPECIAL: [&str; 44] = [
     TIMER_EXPIRED,
     NETWORK_SHOWN,
     NETWORK_SETTLED,
+    SETTLED_LOST,
+    SETTLED_HEARD,
+    SETTLED_HEARD_LAST,
     SOURCE_EXPIRED,
     SOURCE_ENDED,
     UNREADY_BY_SKIPPED,
@@ -126,6 +139,9 @@ const SPECIAL: [&str; 44] = [
     LEVEL_ON_ABSENT,
     LEVEL_CLASH,
     STRUCK_OUT,
+    STRUCK_OUT_HEARD,
+    STRUCK_OUT_REFUSED,
+    STRUCK_OUT_SAME,
 ];
 
 /// Every way a network can go; any other is a failure of the rules.
@@ -163,8 +179,16 @@ const SOURCE_TURNS: [(u32, u32); 9] = {
     ]
 };
 
-const EVENTS: [&str; 7] =
-    ["tick", "mode request", "event request", "wakeup", "wakeup valid", "bus-off", "wakeup clear"];
+const EVENTS: [&str; 8] = [
+    "tick",
+    "mode request",
+    "event request",
+    "wakeup",
+    "wakeup valid",
+    "bus-off",
+    "wakeup clear",
+    "heard",
+];
 const ITEMS: [&str; 7] =
     ["outside call", "clear event", "start timer", "stop timer", "network request", "list", "rule"];
 const EXPRESSIONS: [&str; 10] =
@@ -172,7 +196,7 @@ const EXPRESSIONS: [&str; 10] =
 const ARGUMENTS: [&str; 2] = ["left", "right"];
 const EVENT_VALUES: [&str; 2] = ["clear", "set"];
 const PORTS: [&str; 2] = ["immediate", "deferred"];
-const NETWORK_STATES: [&str; 5] = ["none", "silent", "check", "full", "recover"];
+pub const NETWORK_STATES: [&str; 5] = ["none", "silent", "check", "full", "recover"];
 const STATUSES: [&str; 4] = ["none", "pending", "validated", "expired"];
 
 impl Row {
@@ -218,6 +242,7 @@ impl fmt::Display for Row {
             Row::BusOffIgnored(state) => {
                 format!("bus-off ignored in {}", NETWORK_STATES[state as usize])
             }
+            Row::Heard(heard) => heard.to_string(),
             Row::SourceTurn(from, to) => format!("source: {}", turn(&STATUSES, from, to)),
             Row::Unfit(misfit) => format!("state unfit: {:?}", MISFITS[misfit]),
             Row::Limit(section) => {
@@ -251,7 +276,7 @@ impl Coverage {
         let rows = (0..=10)
             .map(Row::Reason)
             .chain((0..=6).map(Row::Answer))
-            .chain((0..=6).map(Row::EventTaken))
+            .chain((event::TICK..=event::HEARD).map(Row::EventTaken))
             .chain((0..=6).map(Row::ItemRun))
             .chain((expression::EQUAL..=expression::AT_OR_ABOVE).map(Row::Evaluated))
             .chain(settling.map(Row::Settled))
@@ -264,11 +289,13 @@ impl Coverage {
             .chain((1..=LEVELS).map(Row::Distance))
             .chain(NETWORK_TURNS.map(|(from, to)| Row::NetworkTurn(from, to)))
             .chain(ignoring.map(Row::BusOffIgnored))
+            .chain(heard::rows().map(Row::Heard))
             .chain(SOURCE_TURNS.map(|(from, to)| Row::SourceTurn(from, to)))
             .chain(MISFITS.map(Row::unfit))
             .chain(SECTIONS.map(Row::limit))
             .chain(SPECIAL.map(Row::Special))
-            .chain(names::ROWS.map(Row::Special));
+            .chain(names::ROWS.map(Row::Special))
+            .chain(heard::ROWS.map(Row::Special));
         Coverage(rows.map(|row| (row, 0)).collect())
     }
 

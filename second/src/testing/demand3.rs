@@ -1,10 +1,11 @@
 //! Demand 3 on a run from a fresh state: nobody waits longer because of a stranger.
 
 use super::coverage::{self, Met, Row};
+use super::heard::takes_heard;
 use super::log::{Entry, hold, run};
+use super::traces::modes_asked;
 use crate::cases::Case;
 use crate::cases::draft::Draft;
-use crate::events::shown;
 use crate::words::*;
 
 /// Every countdown that starts in the log ends at its own tick.
@@ -34,16 +35,67 @@ pub fn try_countdowns(draft: &Draft, log: &[Entry], met: &mut Met) -> Result<(),
 /// Only a bus-off that makes the network recover is taken.
 fn taken_bus_off(draft: &Draft, entry: &Entry, network: usize) -> bool {
     let before = draft.network_in(&entry.before, network).state;
-    entry.event.kind == event::BUS_OFF
-        && entry.event.index as usize == network
-        && (before == network::CHECK || before == network::FULL)
+    entry.is_of(event::BUS_OFF, network) && (before == network::CHECK || before == network::FULL)
 }
 
 /// The exception is readable off the trace.
 fn asks_another_mode(entry: &Entry, network: usize) -> bool {
-    let words = entry.trace.iter().map(|&word| TraceWord::of(word));
-    let mut requests = words.filter(|word| word.kind == item::NETWORK_REQUEST);
-    requests.any(|word| word.a as usize == network && word.b != mode::FULL)
+    modes_asked(entry, network).any(|mode| mode != mode::FULL)
+}
+
+/// A network's way back to full after a taken bus-off, in ticks from there.
+struct Back {
+    l: u32,
+    e: u32,
+    counter: u32,
+    /// The ticks that had passed at the first heard from the L-th tick on.
+    heard: Option<u32>,
+    /// Whether there was a heard before that tick.
+    lost: bool,
+}
+
+impl Back {
+    fn of(draft: &Draft, network: usize, bus_off: &Entry) -> Self {
+        let (named, waits) = draft.networks[network];
+        let counter = (draft.network_in(&bus_off.before, network).counter + 1).min(255);
+        let l = if counter <= named.threshold { waits.l1 } else { waits.l2 };
+        Back { l, e: waits.e_ticks, counter, heard: None, lost: false }
+    }
+
+    fn hear(&mut self, ticks: u32) {
+        if ticks < self.l {
+            self.lost = true;
+        } else {
+            self.heard = self.heard.or(Some(ticks));
+        }
+    }
+
+    /// The tick at which it settles.
+    fn end(&self) -> u32 {
+        let unheard = self.l + self.e;
+        self.heard.map_or(unheard, |ticks| unheard.min(ticks + 1))
+    }
+
+    /// What its port shows, then its state, counter and remaining, after so many ticks.
+    fn at(&self, ticks: u32) -> [u32; 4] {
+        if ticks < self.l {
+            [3, network::RECOVER, self.counter, self.l - ticks]
+        } else if ticks < self.end() {
+            [2, network::CHECK, self.counter, self.l + self.e - ticks]
+        } else {
+            [2, network::FULL, 0, 0]
+        }
+    }
+
+    /// How it was settled. A check of one tick doesn't tell whether what was heard before is lost.
+    fn row(&self) -> &'static str {
+        match self.heard {
+            Some(_) if self.end() < self.l + self.e => coverage::SETTLED_HEARD,
+            Some(_) => coverage::SETTLED_HEARD_LAST,
+            None if self.lost && self.e > 1 => coverage::SETTLED_LOST,
+            None => coverage::NETWORK_SETTLED,
+        }
+    }
 }
 
 fn follow_network(
@@ -53,28 +105,29 @@ fn follow_network(
     following: &[&Entry],
     met: &mut Met,
 ) -> Result<(), String> {
-    let (named, waits) = draft.networks[network];
-    let counter = (draft.network_in(&bus_off.before, network).counter + 1).min(255);
-    let l = if counter <= named.threshold { waits.l1 } else { waits.l2 };
+    let mut back = Back::of(draft, network, bus_off);
+    let Network { owner, port, .. } = draft.networks[network].0;
     let mut ticks = 0;
     for entry in following {
         if taken_bus_off(draft, entry, network) {
             return Ok(());
         }
-        if entry.is_tick() {
-            ticks += 1;
-            let state = draft.network_in(&entry.after, network).state;
-            let full = shown(state) == shown(network::FULL);
-            hold(full == (ticks >= l), || format!("state {state} at tick {ticks}, L is {l}"))?;
-            let settled = state == network::FULL;
-            hold(settled == (ticks >= l + waits.e_ticks), || format!("settled at tick {ticks}"))?;
-            if full {
-                met.insert(Row::Special(coverage::NETWORK_SHOWN));
-            }
-            if settled {
-                met.insert(Row::Special(coverage::NETWORK_SETTLED));
-                return Ok(());
-            }
+        if entry.is_of(event::HEARD, network) {
+            hold(entry.event.owner == owner, || format!("heard from {}", entry.event.owner))?;
+            back.hear(ticks);
+        }
+        ticks += entry.is_tick() as u32;
+        let shown = PortState::of(entry.after[port as usize]).value;
+        let NetworkState { state, counter, remaining, .. } =
+            draft.network_in(&entry.after, network);
+        let (found, due) = ([shown, state, counter, remaining], back.at(ticks));
+        hold(found == due, || format!("{found:?} after {ticks} ticks, not {due:?}"))?;
+        if ticks == back.l {
+            met.insert(Row::Special(coverage::NETWORK_SHOWN));
+        }
+        if ticks == back.end() {
+            met.insert(Row::Special(back.row()));
+            return Ok(());
         }
         // A tick's own lists run after the networks have moved.
         if asks_another_mode(entry, network) {
@@ -124,31 +177,91 @@ pub fn try_struck_out(
     met: &mut Met,
 ) -> Result<(), String> {
     let owners = owners_of_words(draft);
-    for operator in 0..16 {
-        if operator != PLATFORM && !owners.contains(&operator) {
-            continue;
-        }
-        let ours = |owner: u32| owner == operator || owner == PLATFORM;
+    let has_words = |operator: &u32| *operator == PLATFORM || owners.contains(operator);
+    for operator in (0..16).filter(has_words) {
+        let side = Side { draft, owners: &owners, operator };
         let (kept, struck): (Vec<&Entry>, Vec<&Entry>) =
-            log.iter().partition(|entry| ours(entry.event.owner));
-        if struck.iter().any(|entry| entry.answer == 0) {
-            met.insert(Row::Special(coverage::STRUCK_OUT));
-        }
+            log.iter().partition(|entry| side.has(entry.event.owner));
         let events = kept.iter().map(|entry| entry.event.word()).collect();
         let alone = run(&Case { events, ..case.clone() });
-        let view = |entry: &Entry| {
-            let words = entry.after.iter().zip(&owners).filter(|(_, owner)| ours(**owner));
-            let words: Vec<u32> = words.map(|(&word, _)| word).collect();
-            let trace = entry.trace.iter().filter(|&&word| ours(TraceWord::of(word).owner));
-            (entry.answer, words, trace.copied().collect::<Vec<u32>>())
+        side.try_same(&kept, &alone.iter().collect::<Vec<&Entry>>())?;
+        side.meet(&kept, &struck, met);
+    }
+    Ok(())
+}
+
+/// An operator and the platform, or the platform alone.
+struct Side<'a> {
+    draft: &'a Draft,
+    /// Whose each word of a state is.
+    owners: &'a [u32],
+    operator: u32,
+}
+
+impl Side<'_> {
+    fn has(&self, owner: u32) -> bool {
+        owner == self.operator || owner == PLATFORM
+    }
+
+    fn has_network(&self, network: usize) -> bool {
+        self.has(self.draft.networks[network].0.owner)
+    }
+
+    /// What it sees of an event: the answer, its words and its trace words.
+    fn view(&self, entry: &Entry) -> (u32, Vec<u32>, Vec<u32>) {
+        let words = entry.after.iter().zip(self.owners).filter(|(_, owner)| self.has(**owner));
+        let trace = entry.trace.iter().filter(|&&word| self.has(TraceWord::of(word).owner));
+        (entry.answer, words.map(|(&word, _)| word).collect(), trace.copied().collect())
+    }
+
+    /// The ticks at which its networks take what was heard, each with the network.
+    fn heards_taken(&self, log: &[&Entry]) -> Vec<(usize, usize)> {
+        let ticks = log.iter().filter(|entry| entry.answer == 0 && entry.is_tick());
+        let taking = |entry: &Entry| {
+            let networks = (0..self.draft.networks.len()).filter(|&n| self.has_network(n));
+            networks.filter(|&n| takes_heard(self.draft, entry, n)).collect::<Vec<usize>>()
         };
-        for (number, (with, without)) in kept.iter().zip(&alone).enumerate() {
-            hold(view(with) == view(without), || {
+        let by_tick = ticks.enumerate().map(|(tick, entry)| (tick, taking(entry)));
+        by_tick.flat_map(|(tick, networks)| networks.into_iter().map(move |n| (tick, n))).collect()
+    }
+
+    fn try_same(&self, with: &[&Entry], without: &[&Entry]) -> Result<(), String> {
+        let operator = self.operator;
+        let (taken, alone) = (self.heards_taken(with), self.heards_taken(without));
+        hold(taken == alone, || {
+            format!("operator {operator}'s networks take heard at {taken:?}, alone at {alone:?}")
+        })?;
+        for (number, (with, without)) in with.iter().zip(without).enumerate() {
+            hold(self.view(with) == self.view(without), || {
                 format!("strangers changed what operator {operator} sees at kept event {number}")
             })?;
         }
+        Ok(())
     }
-    Ok(())
+
+    fn meet(&self, kept: &[&Entry], struck: &[&Entry], met: &mut Met) {
+        let in_check = |entry: &Entry, network: usize| {
+            self.draft.network_in(&entry.before, network).state == network::CHECK
+        };
+        for entry in struck {
+            let heard = entry.event.kind == event::HEARD;
+            let network = entry.event.index as usize;
+            let row = match entry.answer {
+                0 if heard => coverage::STRUCK_OUT_HEARD,
+                6 if heard && self.has_network(network) && in_check(entry, network) => {
+                    coverage::STRUCK_OUT_REFUSED
+                }
+                _ => continue,
+            };
+            met.insert(Row::Special(row));
+        }
+        if struck.iter().any(|entry| entry.answer == 0) {
+            met.insert(Row::Special(coverage::STRUCK_OUT));
+            if !self.heards_taken(kept).is_empty() {
+                met.insert(Row::Special(coverage::STRUCK_OUT_SAME));
+            }
+        }
+    }
 }
 
 /// Whose each word of a state is.

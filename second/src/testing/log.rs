@@ -19,6 +19,11 @@ impl Entry {
     pub fn is_tick(&self) -> bool {
         self.event.kind == event::TICK
     }
+
+    /// Whether its event is of this kind and speaks of the thing of this number.
+    pub fn is_of(&self, kind: u32, number: usize) -> bool {
+        (self.event.kind, self.event.index as usize) == (kind, number)
+    }
 }
 
 /// Fails with what went wrong unless it holds.

@@ -5,6 +5,7 @@ mod clears;
 pub mod coverage;
 mod demand3;
 mod fixed;
+mod heard;
 mod levels;
 mod log;
 mod names;

@@ -2,6 +2,7 @@
 
 use super::clears::Clears;
 use super::coverage::{self, Met, Row};
+use super::heard::{self, Heards};
 use super::levels::{self, Levels};
 use super::log::{Entry, hold, run};
 use super::skipping::Skipping;
@@ -40,8 +41,8 @@ pub fn try_case(made: &Made) -> Result<Met, String> {
     reach::try_reach(&case.table, checked, &mut met)?;
     if checked.reason == 0 {
         let draft = read(&case.table);
-        if known.fit && marked_immediate_event(&draft, &case.state) {
-            met.insert(Row::Special(coverage::FITS_MARKED_IMMEDIATE));
+        if known.fit {
+            meet_fit(&draft, &case.state, &mut met);
         }
         try_table(&draft, checked.b, &mut met)?;
         try_log(case, &draft, &log, checked.b, &mut met)?;
@@ -58,11 +59,14 @@ fn read(words: &[u32]) -> Draft {
     Draft::of(&Table::of(words).expect("an accepted table has its header"))
 }
 
-/// Q-2 lets such a state fit.
-fn marked_immediate_event(draft: &Draft, state: &[u32]) -> bool {
+/// What let a state have and still fit.
+fn meet_fit(draft: &Draft, state: &[u32], met: &mut Met) {
     let immediate = |port: &Port| port.kind == port::EVENT && port.deferred == 0;
     let mut ports = draft.ports.iter().zip(state);
-    ports.any(|(port, &word)| immediate(port) && PortState::of(word).marked == 1)
+    if ports.any(|(port, &word)| immediate(port) && PortState::of(word).marked == 1) {
+        met.insert(Row::Special(coverage::FITS_MARKED_IMMEDIATE));
+    }
+    heard::meet_fit(draft, state, met);
 }
 
 fn try_fresh(case: &Case, reason: u32) -> Result<(), String> {
@@ -124,11 +128,13 @@ fn try_log(
     let skipping = Skipping { draft, mentions };
     let levels = Levels::of(draft, mentions);
     let mut clears = Clears::over(draft, mentions);
+    let mut heards = Heards::over(draft);
     for (number, entry) in log.iter().enumerate() {
         hold(entry.answer <= 6, || format!("event {number} answered {}", entry.answer))?;
         if entry.answer != 0 {
             let unchanged = entry.before == entry.after && entry.trace.is_empty();
             hold(unchanged, || format!("refused event {number} changed something"))?;
+            heard::meet_refused(draft, entry, met);
             continue;
         }
         hold(entry.trace.len() <= b, || format!("event {number} wrote past B"))?;
@@ -140,6 +146,7 @@ fn try_log(
         meet(draft, entry, b, met);
         levels.meet(entry, met);
         let tried = skipping.meet(entry, met).and_then(|()| clears.follow(entry, met));
+        let tried = tried.and_then(|()| heards.follow(entry, met));
         tried.map_err(|what| format!("event {number}: {what}"))?;
     }
     Ok(())
@@ -209,7 +216,7 @@ fn meet_turns(draft: &Draft, entry: &Entry, met: &mut Met) {
         if before.state != after.state {
             met.insert(Row::NetworkTurn(before.state, after.state));
         }
-        if entry.event.kind == event::BUS_OFF && entry.event.index as usize == number {
+        if entry.is_of(event::BUS_OFF, number) {
             meet_bus_off(draft.networks[number], before, after, met);
         }
     }

@@ -23,6 +23,14 @@ pub fn rule_items(entry: &Entry) -> impl Iterator<Item = TraceWord> {
     words.filter(|word| word.kind == item::RULE)
 }
 
+/// The modes that network requests asked a network for, in order.
+pub fn modes_asked(entry: &Entry, network: usize) -> impl Iterator<Item = u32> {
+    let words = entry.trace.iter().map(|&word| TraceWord::of(word));
+    let requests =
+        words.filter(move |word| (word.kind, word.a) == (item::NETWORK_REQUEST, network as u32));
+    requests.map(|word| word.b)
+}
+
 /// A rule was certainly evaluated if its stored result changed or a rule item says so.
 pub fn evaluated(draft: &Draft, entry: &Entry) -> Vec<usize> {
     let first = draft.ports.len();

@@ -56,6 +56,55 @@ fixed_cases! {
         assert_eq!(shown, expected);
     }
 
+    /// Settled at the tick after the first heard from the L-th tick on; one before is lost.
+    fn heard_settles_a_network_at_the_next_tick_from_its_l_th_on() {
+        // L 3 and E 5: heard after 0, 1, 2, ... ticks.
+        for (heard, settled) in [8, 8, 8, 4, 5, 6, 7, 8].into_iter().enumerate() {
+            let mut play = recovering(9);
+            for tick in 1..=9 {
+                if tick == heard + 1 {
+                    play.take(send(HEARD, 1, 0));
+                }
+                play.ticks(1);
+                let due = match tick {
+                    0..3 => [0x80C0_0000, 0xA008_0003 - tick as u32],
+                    _ if tick < settled => [0x8080_0000, 0x9008_0008 - tick as u32],
+                    _ => [0x8080_0000, 0x9800_0000],
+                };
+                assert_eq!([play.state[1], play.state[11]], due, "heard {heard}, tick {tick}");
+            }
+        }
+    }
+
+    fn only_the_first_heard_counts_and_an_early_one_does_not() {
+        let mut play = recovering(9);
+        play.take(send(HEARD, 1, 0));
+        play.ticks(3);
+        assert_eq!(play.state[11], 0x9008_0005);
+        play.ticks(1);
+        play.take(send(HEARD, 1, 0));
+        play.take(send(HEARD, 1, 0));
+        play.ticks(1);
+        assert_eq!(play.state[11], 0x9800_0000);
+    }
+
+    fn only_its_owner_can_shorten_the_check() {
+        let mut play = recovering(9);
+        // Operator 2's own network is in check too, and heard of.
+        play.take(request(2, 3, 5));
+        play.ticks(3);
+        play.take(send(HEARD, 2, 1));
+        assert_eq!([play.state[11], play.state[12]], [0x9008_0005, 0x9004_0003]);
+        for owner in [0, 2, 15] {
+            assert_eq!(play.answer(send(HEARD, owner, 0)), 6);
+        }
+        play.ticks(1);
+        assert_eq!([play.state[11], play.state[12]], [0x9008_0004, 0x9800_0000]);
+        play.take(send(HEARD, 1, 0));
+        play.ticks(1);
+        assert_eq!([play.state[11], play.state[12]], [0x9800_0000, 0x9800_0000]);
+    }
+
     fn list_asking_for_another_mode_before_the_tick_is_the_exception() {
         let mut play = recovering(9);
         assert_eq!(play.take(request(1, 0, 6)), [0xF101_0000, 0x4100_0000]);
@@ -154,6 +203,28 @@ fixed_cases! {
         assert_ne!(with.state[12], without.state[12]);
         // Three ticks to show full, one more counted; the source has expired.
         assert_eq!([with.state[11], with.state[13]], [0x9008_0004, 0xC000_0000]);
+    }
+
+    fn with_a_strangers_heards_struck_out_the_same_is_heard_at_the_same_ticks() {
+        let (mut with, mut without) = (recovering(9), recovering(9));
+        let mut settled = None;
+        for tick in 1..=6 {
+            with.take(request(2, 3, 5));
+            with.take(send(HEARD, 2, 1));
+            assert_eq!(with.answer(send(HEARD, 2, 0)), 6);
+            if tick == 6 {
+                with.take(send(HEARD, 1, 0));
+                without.take(send(HEARD, 1, 0));
+            }
+            with.ticks(1);
+            without.ticks(1);
+            assert_eq!(with.state[11], without.state[11]);
+            if settled.is_none() && with.state[11] == 0x9800_0000 {
+                settled = Some(tick);
+            }
+        }
+        assert_eq!(settled, Some(6));
+        assert_eq!([with.state[12], without.state[12]], [0x9800_0000, 0]);
     }
 
     fn to_the_platform_every_operator_is_a_stranger() {

@@ -51,19 +51,19 @@ fixed_cases! {
         answers(&ticks, 4);
     }
 
-    fn kind_above_6_is_4() {
-        let kinds: Vec<u32> = (7..16).map(|kind| send(kind, 1, 0)).collect();
+    fn kind_above_7_is_4() {
+        let kinds: Vec<u32> = (8..16).map(|kind| send(kind, 1, 0)).collect();
         answers(&kinds, 4);
     }
 
     fn low_byte_is_4_in_every_kind() {
         let kinds: Vec<u32> =
-            (0..7).flat_map(|kind| [send(kind, 1, 0) | 1, send(kind, 1, 0) | 0x80]).collect();
+            (0..8).flat_map(|kind| [send(kind, 1, 0) | 1, send(kind, 1, 0) | 0x80]).collect();
         answers(&kinds, 4);
     }
 
     fn value_outside_kind_1_is_4() {
-        let kinds: Vec<u32> = (2..7).map(|kind| send(kind, 1, 0) | 0x100).collect();
+        let kinds: Vec<u32> = (2..8).map(|kind| send(kind, 1, 0) | 0x100).collect();
         answers(&kinds, 4);
     }
 
@@ -79,6 +79,7 @@ fixed_cases! {
             (WAKEUP_VALID, 1),
             (BUS_OFF, 1),
             (WAKEUP_CLEAR, 1),
+            (HEARD, 1),
         ];
         answers(&one_past.map(|(kind, index)| send(kind, 1, index)), 5);
         answers(&one_past.map(|(kind, _)| send(kind, 1, 255)), 5);
@@ -100,24 +101,25 @@ fixed_cases! {
     }
 
     fn answer_5_comes_before_6() {
-        answers(&[request(2, 5, 0), send(BUS_OFF, 2, 1), request(2, 1, 0)], 5);
+        answers(&[request(2, 5, 0), send(BUS_OFF, 2, 1), send(HEARD, 2, 1), request(2, 1, 0)], 5);
     }
 
     fn another_owner_is_6_the_platform_too() {
         for owner in [0, 2, 15] {
             answers(&[request(owner, 0, 5), send(EVENT_REQUEST, owner, 3)], 6);
             answers(
-                &[WAKEUP, WAKEUP_VALID, BUS_OFF, WAKEUP_CLEAR].map(|kind| send(kind, owner, 0)),
+                &[WAKEUP, WAKEUP_VALID, BUS_OFF, WAKEUP_CLEAR, HEARD]
+                    .map(|kind| send(kind, owner, 0)),
                 6,
             );
         }
     }
 
     fn answers_4_5_6_read_the_table_only() {
-        // The bus-off is ignored in none and the clear finds nothing: both are done.
+        // Bus-off and heard are ignored in none and the clear finds nothing: all are done.
         let mut play = Play::fresh(&BASE);
         let before = play.state.clone();
-        for kind in [BUS_OFF, WAKEUP_VALID, WAKEUP_CLEAR] {
+        for kind in [BUS_OFF, WAKEUP_VALID, WAKEUP_CLEAR, HEARD] {
             assert_eq!(play.take(send(kind, 1, 0)), [0; 0]);
         }
         assert_eq!(play.state, before);

@@ -1,11 +1,13 @@
 //! Fixed cases: each a few words long, its outcome worked out by hand from
-//! documents 01 and 02 and named after the sentence or reading it tells apart.
+//! documents 01 and 02 and named after the sentence or reading it tells
+//! apart.
 //!
 //! Expected words stand in hex, so that no layout is judged by itself:
 //! - port state: 80000000 defined, 40000000 marked, value times 00400000, remaining;
 //! - rule state: 00000000 false, 40000000 true, 80000000 undefined;
 //! - network state: 40000000 asked silent, 80000000 asked full; 08000000 silent,
-//!   10000000 check, 18000000 full, 20000000 recover; counter times 00080000; remaining;
+//!   10000000 check, 18000000 full, 20000000 recover; counter times 00080000; 00040000 heard;
+//!   remaining;
 //! - source state: 40000000 pending, 80000000 validated, C0000000 expired; remaining.
 
 /// Defines cases and lists them for the runner.
@@ -22,6 +24,7 @@ mod clears;
 mod demand3;
 mod events;
 mod expressions;
+mod heard;
 mod levels;
 mod levels_checked;
 mod lists;
@@ -55,6 +58,7 @@ pub fn all() -> Vec<(&'static str, fn())> {
         events::CASES,
         sources::CASES,
         networks::CASES,
+        heard::CASES,
         timers::CASES,
         arbitration::CASES,
         expressions::CASES,

@@ -5,7 +5,7 @@ use super::*;
 const BUS_OFF: u32 = 0x5100_0000;
 
 /// Port 0 the network's; its state is [port, rule, network].
-fn with_network(first: u32, waits: u32) -> Vec<u32> {
+pub fn with_network(first: u32, waits: u32) -> Vec<u32> {
     table(
         &[deferred(mode(1))],
         &[[first, waits]],
@@ -18,20 +18,20 @@ fn with_network(first: u32, waits: u32) -> Vec<u32> {
 }
 
 /// Threshold 2, L1 3, L2 10, E-ticks 5.
-fn usual() -> Vec<u32> {
+pub fn usual() -> Vec<u32> {
     with_network(0x1000_2000, 0x030A_0005)
 }
 
 /// From a network in this state, with an undefined port, to port and network.
 #[track_caller]
-fn turns_in(table: &[u32], network: u32, event: u32, port_and_network: [u32; 2]) {
+pub fn turns_in(table: &[u32], network: u32, event: u32, port_and_network: [u32; 2]) {
     let mut play = Play::of(table, &[0, 0, network]);
     play.take(event);
     assert_eq!([play.state[0], play.state[2]], port_and_network, "from {network:08X}");
 }
 
 #[track_caller]
-fn turns(network: u32, event: u32, port_and_network: [u32; 2]) {
+pub fn turns(network: u32, event: u32, port_and_network: [u32; 2]) {
     turns_in(&usual(), network, event, port_and_network);
 }
 

@@ -51,6 +51,18 @@ fixed_cases! {
         assert_eq!(lines, format!("{EIGHT_LINES}{tick}{bus_off}"));
     }
 
+    fn program_prints_what_heard_does() {
+        let events = bytes(&[0x1100_0500, 0, 0x7100_0000, 0, 0x8100_0000]);
+        let lines = printed(&bytes(&MARKED), &events);
+        let after = |answer: u32, network: &str| {
+            format!("{answer}\n81400000\n80800000\n40000000\n{network}\n")
+        };
+        let tick = after(0, "90000005");
+        let (heard, taken) = (after(0, "90040005"), after(0, "98000000"));
+        let malformed = after(4, "98000000");
+        assert_eq!(lines, format!("{EIGHT_LINES}{tick}{heard}{taken}{malformed}"));
+    }
+
     fn program_prints_a_refused_events_answer_and_the_unchanged_state_and_goes_on() {
         let events = bytes(&[0x1200_0500, 0x2100_0500, 0x2100_0000, 0]);
         let lines = printed(&bytes(&MARKED), &events);

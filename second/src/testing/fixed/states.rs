@@ -65,7 +65,7 @@ fixed_cases! {
     fn fit_zero_fields() {
         unfit(0, &[0x8001_0000, 0x8020_0000]);
         unfit(5, &[0x0000_0001, 0x2000_0000]);
-        unfit(7, &[0x0001_0000, 0x0004_0000]);
+        unfit(7, &[0x0001_0000, 0x0002_0000, 0x1001_0005, 0x1002_0005]);
         unfit(8, &[0x0001_0000, 0x2000_0000]);
     }
 
@@ -159,6 +159,28 @@ fixed_cases! {
     fn fit_counter_is_0_at_rest_free_in_check_at_least_1_in_recover() {
         unfit(7, &[0x0008_0000, 0x0808_0000, 0x1808_0000, 0x2000_0001]);
         fit(7, &[0x1000_0005, 0x1008_0005, 0x17F8_0005, 0x27F8_0001]);
+    }
+
+    fn fit_heard_in_check() {
+        fit(7, &[0x1004_0005, 0x1004_0001, 0x500C_0003, 0x97FC_0005]);
+        // By all else it is judged as ever: remaining, asked, the zero bits below.
+        unfit(7, &[0x1004_0000, 0x1004_0006, 0xD004_0005, 0x1005_0005, 0x1006_0005]);
+    }
+
+    fn fit_heard_in_no_other_state() {
+        for state in [0x0000_0000, 0x0800_0000, 0x1800_0000, 0x2008_0003] {
+            for asked in [0, 0x4000_0000, 0x8000_0000] {
+                fit(7, &[asked + state]);
+                unfit(7, &[asked + state + 0x0004_0000]);
+            }
+        }
+        unfit(7, &[0x2804_0000, 0x3004_0000, 0x3804_0000]);
+    }
+
+    fn fresh_has_heard_nothing() {
+        let mut state = FRESH.map(|word| word | 0x0004_0000);
+        assert_eq!(fresh(&BASE, &mut state), 0);
+        assert_eq!(state[7], 0);
     }
 
     fn fit_remaining_of_a_source() {
