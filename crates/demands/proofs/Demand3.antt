@@ -11,7 +11,7 @@ use Rattle.rulebook.specs.Table.{networks, networkOwner, sources, sourceOwner, 
 use Rattle.rulebook.specs.Reasons.{accepted, bound}
 use Rattle.rulebook.specs.State.{fresh, stateRecover, statusNone, statusPending, statusExpired}
 use Rattle.rulebook.specs.Lists.{networkIn}
-use Rattle.rulebook.specs.Events.{eventWakeup, eventBusOff, statusIn, takes}
+use Rattle.rulebook.specs.Events.{eventWakeup, eventBusOff, eventHeard, statusIn, takes, listens}
 use Rattle.rulebook.specs.Step.{firstFault, refusedEvent}
 use Rattle.laws.proofs.Tests.{split, and-right}
 use Rattle.laws.proofs.Facts.{facts}
@@ -19,11 +19,12 @@ use Rattle.laws.proofs.FitKept.{Fits}
 use Rattle.laws.proofs.Happen.{Taken}
 use Rattle.laws.proofs.Steps.{fresh-fits}
 use Rattle.stranger.specs.Logs.{Entry, Follows, Log, stateAfter}
-use Rattle.stranger.specs.Demand.{busOffTaken, becomesPending, ownersEvent}
+use Rattle.stranger.specs.Demand.{busOffTaken, heardTaken, becomesPending, ownersEvent}
+use Rattle.stranger.specs.Demand as demand
 use Rattle.stranger.specs.Statements.{newly}
 use Rattle.stranger.proofs.Logs.{log-fits}
-use Rattle.stranger.proofs.NotEmpty.{kind-is, index-is, wakeup-known, bus-off-known}
-use Rattle.stranger.proofs.Exactly.{bus-off-exactly, wakeup-exactly}
+use Rattle.stranger.proofs.NotEmpty.{kind-is, index-is, wakeup-known, bus-off-known, heard-known}
+use Rattle.stranger.proofs.Exactly.{bus-off-exactly, heard-kept, wakeup-exactly}
 use Rattle.stranger.proofs.Demand3 as stranger
 use Rattle.manager.specs.Promises.{MakesFreshIn, TakesEventIn}
 use Rattle.demands.specs.Calls.{Played}
@@ -89,12 +90,26 @@ module _ (t : List ℕ) (h : accepted t ≡ true) (xs : List Entry) (played : Pl
       (bus-off-exactly t h i b s x (follows t s trace _ k n s′ trace′ p z) fit) ∙ off in
       (z, eqb-true _ _ (and-right (not (eqb (networkIn t i s .state) stateRecover)) _ now))
 
+  hears : (i : ℕ) → i < networks t → listens (networkIn t i s) ≡ true
+      → (k n : ℕ) (s′ trace′ : List ℕ) → TakesEventIn t s trace (ownersEvent eventHeard (networkOwner t i) i) k n s′ trace′ → (k ≡ 0) ×
+      (networkIn t i s′ .heard ≡ 1)
+  unfolding heardTaken demand.hears
+  hears i b on k n s′ trace′ p =
+      let o = networkOwner t i in let few = facts t h .counts .networks in
+      let z : k ≡ 0 = answer-alike _ k n s′ trace′ p ∙ heard-known t h i b in
+      let x : Entry = record { event = ownersEvent eventHeard o i; state = s′; words = take n trace′ } in (
+        z,
+        heard-kept t h i b s x (follows t s trace _ k n s′ trace′ p z) fit
+            (rw (kind-is eventHeard o i (omega arith), index-is eventHeard o i (omega arith), eq-eqb i i refl, on)),
+      )
+
 answered-after : (t : List ℕ) → accepted t ≡ true → AnsweredAfter t (fresh t)
 answered-after t h =
     record {
       alike = λ xs p trace e k n s′ trace′ room q. answer-alike t h xs p trace room e k n s′ trace′ q;
       wakes = λ xs p i b one idle trace k n s′ trace′ room q. wakes t h xs p trace room i b one idle k n s′ trace′ q;
       falls = λ xs p i b took trace k n s′ trace′ room q. falls t h xs p trace room i b took k n s′ trace′ q;
+      hears = λ xs p i b on trace k n s′ trace′ room q. hears t h xs p trace room i b on k n s′ trace′ q;
     }
 
 -- The demand, from whatever state `make_fresh` made.

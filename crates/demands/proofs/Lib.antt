@@ -2,7 +2,7 @@
 pub mod Demand1
 pub mod Demand2
 pub mod Demand3
-pub mod Cleared
+pub mod Requests
 pub mod Conclusions
 pub mod Given
 pub mod Words

@@ -1,6 +1,6 @@
 -- A state of 32-bit words stays one, and a trace's new words are such: whatever an event writes is a packed word. Assumes nothing.
 use mathlib.Core.Path.{_≡_}
-use mathlib.Core.Bool.{Bool, true, _&&_, _||_}
+use mathlib.Core.Bool.{Bool, true, _&&_}
 use mathlib.Core.List.{List, [], _∷_, _++_}
 use Prim.Native.Nat.{ℕ, zero, suc, _<_, _^_}
 use lib.ListN.{set, drop}
@@ -8,11 +8,11 @@ use lib.Dec.{leb, ltb, eqb}
 use borrow.Author.Tests.{ltb-true}
 use Rattle.rulebook.specs.Words.{word}
 use Rattle.rulebook.specs.Table.{ports, networks, sources, portKind, portTimer, deferred}
-use Rattle.rulebook.specs.State.{sourceIndex, valueOf, timerStarted, Network, statusNone, statusPending, statusExpired}
+use Rattle.rulebook.specs.State.{sourceIndex, valueOf, timerStarted, Network, statusPending}
 use Rattle.rulebook.specs.Lists.{Run, traceWord, setPort, networkIn, setNetwork, setResult, act, judge}
 use Rattle.rulebook.specs.Arbitration.{arbitrate}
-use Rattle.rulebook.specs.Events.{request, statusIn, setSource, moveSource, wake, validate, clear, shown, moveNetwork, takes, busOff}
-use Rattle.rulebook.specs.Events.{tickNetwork, remainingIn, tickSource, tickTimer, tickThings, arbitrateMarked, tick, happen}
+use Rattle.rulebook.specs.Events.{request, statusIn, setSource, moveSource, shown, moveNetwork, tickNetwork, remainingIn, tickSource, tickTimer}
+use Rattle.rulebook.specs.Events.{tickThings, arbitrateMarked, tick, happen}
 use Rattle.rulebook.specs.Step.{step}
 use Rattle.rulebook.proofs.Width.{port-word, rule-word, network-word, source-word, trace-word}
 use Rattle.laws.specs.Facts.{Facts}
@@ -21,7 +21,9 @@ use Rattle.laws.proofs.Walks.{each-keeps}
 use Rattle.laws.proofs.Facts.{facts}
 use Rattle.laws.proofs.Order.{each-both}
 use Rattle.laws.proofs.Runs.{KeptByActs, decide-keeps, KeptByWrites, arbitrate-keeps}
-use Rattle.laws.proofs.Happen.{happen-cases}
+use Rattle.laws.proofs.FitKept.{Fits}
+use Rattle.laws.proofs.FitEvents.{source-to, network-to}
+use Rattle.laws.proofs.Happen.{Taken, Event, aTick, aMode, aRequest, ofSource, ofNetwork, event}
 use Rattle.laws.proofs.Steps.{step-cases}
 use Rattle.demands.specs.Idle.{Words}
 
@@ -93,18 +95,6 @@ module _ (t : List ℕ) where
       split (eqb (shown (c .state)) (shown (networkIn t n s .state))) (λ e. rw e (put-network t n c s h))
       (λ e. rw e (put-port _ _ _ _ _ (put-network t n c s h)))
 
-  woken : (k : ℕ) (s : List ℕ) → Words s → Words (wake t k s)
-  unfolding wake
-  woken k s h = split (eqb (statusIn t k s) statusNone || eqb (statusIn t k s) statusExpired) (λ e. rw e (move-source k _ _ s h)) (λ e. rw e h)
-
-  validated : (k : ℕ) (s : List ℕ) → Words s → Words (validate t k s)
-  unfolding validate
-  validated k s h = split (eqb (statusIn t k s) statusPending) (λ e. rw e (move-source k _ _ s h)) (λ e. rw e h)
-
-  off-bus : (n : ℕ) (s : List ℕ) → Words s → Words (busOff t n s)
-  unfolding busOff
-  off-bus n s h = split (takes (networkIn t n s)) (λ e. rw e (move-network n _ s h)) (λ e. rw e h)
-
   ticked-source : (k : ℕ) (s : List ℕ) → Words s → Words (tickSource t k s)
   unfolding tickSource
   ticked-source k s h =
@@ -143,18 +133,22 @@ module _ (t : List ℕ) where
         split (eqb (deferred t p) 1) (λ e. rw e (record { state = put-port p 1 v 0 s h; words = tt }))
         (λ e. rw e (arbitrated _ _ (put-port p 0 v 0 s h)))
 
-    happened : (e : ℕ) (s : List ℕ) → Words s → Packed (happen t e s)
-    unfolding tick arbitrateMarked clear
-    happened e s h =
-        happen-cases Packed t e s
-        (λ k. arbitrated _ _ (ticked s h)) (λ k. asked _ _ s h) (λ k. asked _ _ s h)
-        (λ k. record { state = woken _ s h; words = tt }) (λ k. record { state = validated _ s h; words = tt })
-        (λ k. record { state = off-bus _ s h; words = tt }) (λ k. record { state = move-source _ _ _ s h; words = tt })
+    happened : (e : ℕ) (s : List ℕ) → Taken t e → Fits t s → Words s → Packed (happen t e s)
+    unfolding tick arbitrateMarked
+    happened e s w fit h = go (happen t e) (event t e w)
+      where
+        go : (g : List ℕ → Run) → Event t e g → Packed (g s)
+        go g (aTick k o) = arbitrated _ _ (ticked s h)
+        go g (aMode k of m free) = asked _ _ s h
+        go g (aRequest k of m) = asked _ _ s h
+        go g (ofSource k free of u c) = record { state = source-to t f Words e s u c (λ status r ok. move-source _ status r s h) h; words = tt }
+        go g (ofNetwork k of u c) =
+            record { state = network-to t f Words e s u c (of .there) fit (λ x ok same. move-network _ x s h) h; words = tt }
 
 pub step-words : (t s : List ℕ) (room e : ℕ) → Words s → Words (step t s room e .state) × Words (step t s room e .words)
 step-words t s room e h =
     step-cases (λ r. Words (r .state) × Words (r .words)) t s room e (λ k a b. (h, tt))
-    (λ c w. let p = happened t (facts t (c .table)) e s h in (p .state, p .words))
+    (λ c w. let p = happened t (facts t (c .table)) e s w (c .state) h in (p .state, p .words))
 
 pub drop-words : (n : ℕ) (ws : List ℕ) → Words ws → Words (drop n ws)
 drop-words zero ws h = h

@@ -12,6 +12,7 @@ use Rattle.laws.specs.Levels.{Levels}
 use Rattle.laws.specs.Reached.{Unreached, ListsStarted}
 use Rattle.stranger.specs.Logs.{Entry, stateAfter}
 use Rattle.stranger.specs.Statements.{Demand3}
+use Rattle.stranger.specs.Heard.{HeardCounts}
 use Rattle.demands.specs.Calls.{Played}
 use Rattle.demands.specs.Demand1.{TableAnswered, FreshAnswered, StateAnswered, EventAnswered}
 use Rattle.demands.specs.Demand2.{Steps}
@@ -40,6 +41,8 @@ pub record OfEvent (t s trace : List ℕ) (e k n : ℕ) (s′ trace′ : List �
   pub lists : k ≡ 0 → Arbitrated t e s s′ (take n trace′)
   -- Q-2: "a clear marks the port .. for the next tick unless arbitrated sooner"
   pub clears : k ≡ 0 → ClearCounts t e s s′ (take n trace′)
+  -- Q-8: "Hearing traffic ends the check"
+  pub heard : k ≡ 0 → HeardCounts t e s s′ (take n trace′)
   -- Q-6: "Every event call meets it as answer 1."
   pub unreached : (l : ℕ) → Unreached t l → k ≡ 1
   -- the log goes on: calls that led from s₀ to s, and this one

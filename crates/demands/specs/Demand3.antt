@@ -10,7 +10,7 @@ use Rattle.rulebook.specs.Table.{networks, networkOwner, sources, sourceOwner, 
 use Rattle.rulebook.specs.Reasons.{bound}
 use Rattle.rulebook.specs.State.{stateRecover, statusNone, statusPending, statusExpired}
 use Rattle.rulebook.specs.Lists.{networkIn}
-use Rattle.rulebook.specs.Events.{eventWakeup, eventBusOff, statusIn, takes}
+use Rattle.rulebook.specs.Events.{eventWakeup, eventBusOff, eventHeard, statusIn, takes, listens}
 use Rattle.rulebook.specs.Step.{refusedEvent}
 use Rattle.stranger.specs.Logs.{Entry, stateAfter}
 use Rattle.stranger.specs.Demand.{ownersEvent}
@@ -32,6 +32,10 @@ pub record AnsweredAfter (t s : List ℕ) : Type 0 where
   pub falls : (xs : List Entry) → Played t s xs → (i : ℕ) → i < networks t → takes (networkIn t i (stateAfter s xs)) ≡ true
       → (trace : List ℕ) (k n : ℕ) (s′ trace′ : List ℕ) → bound t ≤ length trace
       → TakesEventIn t (stateAfter s xs) trace (ownersEvent eventBusOff (networkOwner t i) i) k n s′ trace′ → (k ≡ 0) × (networkIn t i s′ .state ≡ stateRecover)
+  -- a heard that its owner sends in check is kept for the next tick
+  pub hears : (xs : List Entry) → Played t s xs → (i : ℕ) → i < networks t → listens (networkIn t i (stateAfter s xs)) ≡ true
+      → (trace : List ℕ) (k n : ℕ) (s′ trace′ : List ℕ) → bound t ≤ length trace
+      → TakesEventIn t (stateAfter s xs) trace (ownersEvent eventHeard (networkOwner t i) i) k n s′ trace′ → (k ≡ 0) × (networkIn t i s′ .heard ≡ 1)
 
 abbrev pub Demand3OfCalls : Type 0
 Demand3OfCalls = (t s₀ : List ℕ) (k : ℕ) (s : List ℕ) → MakesFreshIn t s₀ k s → k ≡ 0 → Demand3 t s (Played t s) × AnsweredAfter t s

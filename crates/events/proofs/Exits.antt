@@ -9,14 +9,12 @@ use denote.Enum.Declared.{tagOf}
 use borrow.Author.Tests.{ne-eqb}
 use Rattle.rulebook.specs.Lists.{start}
 use Rattle.rulebook.specs.Arbitration.{arbitrate}
-use Rattle.rulebook.specs.Events.{eventKind, eventIndex, eventValue, only, request, tick, happen}
+use Rattle.rulebook.specs.Events.{eventKind, eventIndex, eventValue, only, request, tick, changed, happen}
 use Rattle.rulebook.specs.Step.{finish, handle}
 use Rattle.lists.specs.declared.Written.{Written}
 use Rattle.lists.specs.Runs.{Ran}
 use Rattle.things.specs.Requests.{Requested}
 use Rattle.things.proofs.Requests.{request-goes}
-use Rattle.things.proofs.Changes.{change-goes}
-use Rattle.things.specs.Changes.{changed}
 use Rattle.refusals.specs.Answers.{answerOf, eventChecked}
 use Rattle.refusals.proofs.Answers.{handle-taken, handle-refused}
 use Rattle.refusals.specs.declared.EventCheck.{EventCheck}
@@ -51,8 +49,8 @@ module _ (t : List ℕ) (e k : ℕ) (s : List ℕ) (is : k ≡ eventKind e) wher
   happens-request i hi z = rw (sym is ∙ z, hi)
 
   pub happens-change : (i : ℕ) → i ≡ eventIndex e → (k ≡ 0 → ⊥) → (k ≡ 1 → ⊥) → (k ≡ 2 → ⊥) → happen t e s ≡ start (changed t k i s)
-  happens-change i hi a b c =
-      change-goes t e s (ne-eqb _ _ (rw is at a)) (ne-eqb _ _ (rw is at b)) (ne-eqb _ _ (rw is at c)) ∙ rw (is, hi)
+  unfolding happen
+  happens-change i hi a b c = rw (hi, ← is, ne-eqb _ _ a, ne-eqb _ _ b, ne-eqb _ _ c)
 
 -- The answers.
 

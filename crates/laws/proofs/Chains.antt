@@ -101,15 +101,17 @@ module _ (t : List ℕ) (below : ℕ → Bool) where
       ⊎-elim (λ w. nests-list t below (n .item) (eq-eqb _ _ (w .0)) ∙ (rw (w .1) at h))
       (λ w. nests-rule t below (n .item) (rw (w .0)) (eq-eqb _ _ (w .0)) ∙ rule-fails← (itemA t (n .item)) x (w .1) h) (n .how)
 
--- a list that is named is there
+-- a list that a rule or a list names is there
+pub ruled-there : (t : List ℕ) → NamesThere t → (r l : ℕ) → r < rules t → RuleNames t r l → l < lists t
+ruled-there t f r l b n = let q = f .rules r b in there-or-none t l (⊎-elim (λ e. rw e (q .0)) (λ e. rw e (q .1)) (n .1)) (n .0)
+
 pub named-there : (t : List ℕ) → NamesThere t → (l x : ℕ) → l < lists t → NamesList t l x → x < lists t
 named-there t f l x h n =
     let r : firstItem t l + itemCount t l ≤ items t = f .ranges l h in
     let b : n .item < firstItem t l + itemCount t l = n .below in
     let i : itemNames t (n .item) ≡ true = f .named (n .item) (omega arith) in
     ⊎-elim (λ w. rw (w .1) (list-there t (n .item) i (w .0)))
-    (λ w. let q = f .rules (itemA t (n .item)) (rule-there t (n .item) i (w .0)) in
-    there-or-none t x (⊎-elim (λ e. rw e (q .0)) (λ e. rw e (q .1)) (w .1 .1)) (w .1 .0)) (n .how)
+    (λ w. ruled-there t f (itemA t (n .item)) x (rule-there t (n .item) i (w .0)) (w .1)) (n .how)
 
 list-chain→ : (t : List ℕ) → NamesThere t → (d l : ℕ) → l < lists t → listWithin d t l ≡ false → Chain (NamesList t) d l
 unfolding listWithin listNests

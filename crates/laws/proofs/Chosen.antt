@@ -13,7 +13,7 @@ use Rattle.rulebook.specs.Table.{rules, lists, deferred, nestedOnly, ruleExpres
 use Rattle.rulebook.specs.Expressions.{deepest, mentions}
 use Rattle.rulebook.specs.Lists.{Run, start, emit, resultIn, previousIn, listFor, choice, choiceIn, runItem, runItems, runList}
 use Rattle.rulebook.specs.Arbitration.{unmarkPorts, storeResults, evaluated, chooses, chosen, order, runChosen, decide, arbitrate}
-use Rattle.rulebook.specs.Events.{eventKind, eventIndex, eventValue, eventTick, eventMode, eventRequest, request, arbitrateMarked, tick, happen}
+use Rattle.rulebook.specs.Events.{eventKind, eventIndex, eventValue, eventTick, eventMode, eventRequest, eventWakeup, request, arbitrateMarked, tick, happen}
 use Rattle.laws.specs.Facts.{Facts}
 use Rattle.laws.specs.Sequence.{Before, Each, InOrder, times}
 use Rattle.laws.specs.Chosen.{Chosen, runAll, startWord, WrittenBy, byNone, byFirst, beforeLists, ListsRan}
@@ -193,9 +193,9 @@ module _ (t : List ℕ) (f : Facts t) (s : List ℕ) where
       (λ k. allMarked k (lists-ran t f _ _))
       (λ k. port-set e (eventValue e) (rw k) (rw k) (λ z. omega arith))
       (λ k. port-set e 1 (rw k) (rw k) (λ z. omega arith))
-      (λ k. other (omega arith)) (λ k. other (omega arith)) (λ k. other (omega arith)) (λ k. other (omega arith))
+      other
     where
-      other : {u : List ℕ} → 3 ≤ eventKind e → Arbitrated t e s u []
+      other : {u : List ℕ} → eventWakeup ≤ eventKind e → Arbitrated t e s u []
       other h =
           let neither : setsPort e ≡ false = rw (ne-eqb (eventKind e) eventMode (λ y. omega arith), ne-eqb (eventKind e) eventRequest (λ y. omega arith)) in
           noPort (λ z. omega arith) (λ z. clash z neither) refl

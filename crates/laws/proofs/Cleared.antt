@@ -15,7 +15,7 @@ use Rattle.rulebook.specs.Expressions.{deepest}
 use Rattle.rulebook.specs.State.{markedOf}
 use Rattle.rulebook.specs.Lists.{Run, start, traceWord, traceListStart, setPort, effect, act, setResult, judge}
 use Rattle.rulebook.specs.Arbitration.{unmarkPorts, arbitrate}
-use Rattle.rulebook.specs.Events.{eventKind, eventIndex, eventTick, only, request, clear, tickThings, markedIn}
+use Rattle.rulebook.specs.Events.{eventKind, eventIndex, eventTick, only, request, tickThings, markedIn}
 use Rattle.rulebook.specs.Events.{arbitrateMarked, tick, happen}
 use Rattle.laws.specs.Facts.{Facts}
 use Rattle.laws.specs.Chosen.{setsPort}
@@ -26,9 +26,8 @@ use Rattle.laws.proofs.Fields.{digit-small, trace-kind, trace-a}
 use Rattle.laws.proofs.Items.{clear-there, port-there}
 use Rattle.laws.proofs.Runs.{Within, item-there, KeptByActs, decide-keeps}
 use Rattle.laws.proofs.FitKept.{Fits, port-long}
-use Rattle.laws.proofs.FitEvents.{things-fit, happen-fits}
-use Rattle.laws.proofs.Happen.{wake-cases, validate-cases, bus-off-cases}
-use Rattle.laws.proofs.Happen.{Taken, Event, aTick, aMode, aRequest, aWakeup, aValid, aBusOff, aClear, event}
+use Rattle.laws.proofs.FitEvents.{things-fit, source-to, network-to, happen-fits}
+use Rattle.laws.proofs.Happen.{Taken, Event, aTick, aMode, aRequest, ofSource, ofNetwork, event}
 use Rattle.laws.proofs.Marks.{Marked, shows, hides, shown-marked, hidden-unmarked, port-written, port-marked-again, result-elsewhere}
 use Rattle.laws.proofs.Marks.{effect-length, effect-marks, network-marks, source-marks, things-mark, unmark-it, unmark-others, store-elsewhere}
 use Rattle.laws.proofs.Unmarked.{happen-quiet}
@@ -142,24 +141,19 @@ module _ (t : List ℕ) (f : Facts t) (p : ℕ) (b : p < ports t) where
       go g (aTick k u) z = arbitrate-tells ⊥ _ _ (long _ (things-fit t f s h)) (λ c. absurd c)
       go g (aMode k u m n) z = request-tells _ _ s (long s h)
       go g (aRequest k u m) z = request-tells _ _ s (long s h)
-      go g (aWakeup k u) z = told-by-none _ (long _ z)
-      go g (aValid k u) z = told-by-none _ (long _ z)
-      go g (aBusOff k u) z = told-by-none _ (long _ z)
-      go g (aClear k u) z = told-by-none _ (long _ z)
+      go g (ofSource k n of u c) z = told-by-none _ (long _ z)
+      go g (ofNetwork k of u c) z = told-by-none _ (long _ z)
 
-  happen-waits : (e : ℕ) (s : List ℕ) → Taken t e → (eventKind e ≡ eventTick → ⊥) → (setsPort e ≡ true → eventIndex e ≡ p → deferred t p ≡ 1) → Marked p s
-      → Marked p (happen t e s .state)
-  unfolding clear
-  happen-waits e s w no-tick late h = go (happen t e) (event t e w)
+  happen-waits : (e : ℕ) (s : List ℕ) → Taken t e → Fits t s → (eventKind e ≡ eventTick → ⊥) → (setsPort e ≡ true → eventIndex e ≡ p → deferred t p ≡ 1)
+      → Marked p s → Marked p (happen t e s .state)
+  happen-waits e s w fit no-tick late h = go (happen t e) (event t e w)
     where
       go : (g : List ℕ → Run) → Event t e g → Marked p (g s .state)
       go g (aTick k u) = absurd (no-tick k)
       go g (aMode k u m n) = request-marks (eventIndex e) _ s (late (rw k)) h
       go g (aRequest k u m) = request-marks (eventIndex e) _ s (late (rw k)) h
-      go g (aWakeup k u) = wake-cases (Marked p) t _ s (λ status r. source-marks t p b _ status r s h) h
-      go g (aValid k u) = validate-cases (Marked p) t _ s (λ status r. source-marks t p b _ status r s h) h
-      go g (aBusOff k u) = bus-off-cases (Marked p) t _ s (λ c. network-marks t p b _ c s h) h
-      go g (aClear k u) = source-marks t p b _ _ _ s h
+      go g (ofSource k n of u c) = source-to t f (Marked p) e s u c (λ status r ok. source-marks t p b _ status r s h) h
+      go g (ofNetwork k of u c) = network-to t f (Marked p) e s u c (of .there) fit (λ x ok same. network-marks t p b _ x s h) h
 
 pub clear-counts : (t : List ℕ) → Facts t → (e : ℕ) (s : List ℕ) → Taken t e → Fits t s → ClearCounts t e s (happen t e s .state) (happen t e s .words)
 unfolding markedIn only
@@ -168,7 +162,7 @@ clear-counts t f e s w h =
       marks = λ p b m. shows t p b (happen-tells t f p b e s w h .mark (inr m));
       atTick = λ p r m. mentions-more t (only p) (markedIn t (tickThings t s))
           (λ x e. rw (eqb-true x p e) (shows t p (there p m) (things-mark t p (there p m) s (stands p m)))) deepest (ruleExpression t r);
-      waits = λ p m a. shows t p (there p m) (happen-waits t f p (there p m) e s w (no-tick p a) (late p a) (stands p m));
+      waits = λ p m a. shows t p (there p m) (happen-waits t f p (there p m) e s w h (no-tick p a) (late p a) (stands p m));
       goes = λ p b k why r n. hides t p b
           (happen-quiet t f p b k e s w h (⊎-elim (λ a. inl a) (λ m. inr (hidden-unmarked t p b s (port-long t s h p b) m)) why) r n);
     }

@@ -56,7 +56,11 @@ module _ (c : Network) where
   unfolding digit packNetwork
   network-counter = omega arith
 
-  pub network-zero : field 13 3 (packNetwork c) ≡ 0
+  pub network-heard : networkOf (packNetwork c) .heard ≡ c .heard % 2
+  unfolding digit packNetwork
+  network-heard = omega arith
+
+  pub network-zero : field 14 2 (packNetwork c) ≡ 0
   unfolding digit packNetwork
   network-zero = omega arith
 

@@ -18,7 +18,8 @@ use Rattle.laws.proofs.Tests.{split, clash, part-of, and-left, and-righ
 use Rattle.laws.proofs.Tests.{or-intro, or-elim, and-one-false}
 use Rattle.laws.proofs.Walks.{all-at, all-from}
 use Rattle.laws.proofs.Fields.{digit-small, port-defined, port-marked, port-value, port-zero, port-remaining, rule-result, rule-zero, network-asked}
-use Rattle.laws.proofs.Fields.{network-state, network-counter, network-zero, network-remaining, source-status, source-zero, source-remaining}
+use Rattle.laws.proofs.Fields.{network-state, network-counter, network-heard, network-zero, network-remaining}
+use Rattle.laws.proofs.Fields.{source-status, source-zero, source-remaining}
 
 between-parts : (low high n : ℕ) → between low high n ≡ true → (low ≤ n) × (n ≤ high)
 between-parts low high n h = (leb-true _ _ (and-left _ (leb n high) h), leb-true _ _ (and-right (leb low n) _ h))
@@ -118,6 +119,8 @@ pub record NetworkOk (t : List ℕ) (n : ℕ) (c : Network) : Type 0 where
   pub recover : c .state ≡ stateRecover → (1 ≤ c .remaining) × (c .remaining ≤ max (l1 t n) (l2 t n))
   pub rest : (c .state ≡ stateCheck → ⊥) → (c .state ≡ stateRecover → ⊥) → (c .remaining ≡ 0) × (c .counter ≡ 0)
   pub counted : c .state ≡ stateRecover → 1 ≤ c .counter
+  pub heard₁ : c .heard < 2
+  pub listens : c .heard ≡ 1 → c .state ≡ stateCheck
 
 abbrev inCheck : ℕ → Bool
 inCheck w = eqb (networkOf w .state) stateCheck
@@ -151,12 +154,14 @@ network-ok t n w h =
         eqb-true _ _ (or-elim (inCheck w) _ (cond-no (inRecover w) _ _ calm (ne-eqb _ _ b)) (ne-eqb _ _ a)),
       );
       counted = λ a. leb-true _ _ (cond-yes (inRecover w) _ _ calm (eq-eqb _ _ a));
+      heard₁ = digit-small _ 2 w (omega arith);
+      listens = λ a. eqb-true _ _ (implies-elim (eqb (networkOf w .heard) 1) (inCheck w) (part-of _ (λ e. rw (networkFits, e, and-false) at h)) (eq-eqb _ _ a));
     }
 
 network-fits : (t : List ℕ) (n w : ℕ) → networkZeroOf w ≡ 0 → NetworkOk t n (networkOf w) → networkFits t n w ≡ true
 unfolding networkFits
 network-fits t n w z f =
-    and-both _ _ (and-both _ _ (and-both _ _ (and-both _ _
+    and-both _ _ (and-both _ _ (and-both _ _ (and-both _ _ (and-both _ _
     (eq-eqb _ _ z)
     (le-leb _ _ (f .modes)))
     (le-leb _ _ (f .states)))
@@ -166,13 +171,15 @@ network-fits t n w z f =
     (λ g. eq-eqb _ _ (f .rest (eqb-false _ _ h) (eqb-false _ _ g) .0)))))
     (cond-intro (inRecover w) _ _
     (λ h. le-leb _ _ (f .counted (eqb-true _ _ h)))
-    (λ h. or-intro (inCheck w) _ (λ g. eq-eqb _ _ (f .rest (eqb-false _ _ g) (eqb-false _ _ h) .1))))
+    (λ h. or-intro (inCheck w) _ (λ g. eq-eqb _ _ (f .rest (eqb-false _ _ g) (eqb-false _ _ h) .1)))))
+    (implies-intro (eqb (networkOf w .heard) 1) _ (λ h. eq-eqb _ _ (f .listens (eqb-true _ _ h))))
 
 -- a network whose fields fit their widths comes back from its word
 pub record NetworkSmall (c : Network) : Type 0 where
   pub asked₂ : c .asked < 4
   pub state₃ : c .state < 8
   pub counter₈ : c .counter < 256
+  pub heard₁ : c .heard < 2
   pub remaining₁₆ : c .remaining < 65536
 
 pub network-again : (c : Network) → NetworkSmall c → networkOf (packNetwork c) ≡ c
@@ -181,6 +188,7 @@ network-again c h i =
       asked = (network-asked c ∙ mod-eq-of-lt (h .asked₂)) i;
       state = (network-state c ∙ mod-eq-of-lt (h .state₃)) i;
       counter = (network-counter c ∙ mod-eq-of-lt (h .counter₈)) i;
+      heard = (network-heard c ∙ mod-eq-of-lt (h .heard₁)) i;
       remaining = (network-remaining c ∙ mod-eq-of-lt (h .remaining₁₆)) i;
     }
 
@@ -190,6 +198,7 @@ network-small t n c f =
       asked₂ = let h : c .asked ≤ 2 = f .modes in omega arith;
       state₃ = let h : c .state ≤ 4 = f .states in omega arith;
       counter₈ = f .counter₈;
+      heard₁ = f .heard₁;
       remaining₁₆ = f .remaining₁₆;
     }
 

@@ -15,16 +15,17 @@ use Rattle.rulebook.specs.State.{stateCheck, stateFull, stateRecover, statusNon
 use Rattle.rulebook.specs.Lists.{Run, start, setPort, networkIn}
 use Rattle.rulebook.specs.Arbitration.{arbitrate}
 use Rattle.rulebook.specs.Events.{eventIndex, eventValue, only, request, statusIn, setSource, moveSource, wake, validate, clear, shown, moved, moveNetwork}
-use Rattle.rulebook.specs.Events.{takes, wait, offBus, busOff, countedNetwork, tickedNetwork, tickNetwork, remainingIn, tickSource, tickTimer, tickThings}
-use Rattle.rulebook.specs.Events.{arbitrateMarked, tick, happen}
+use Rattle.rulebook.specs.Events.{takes, wait, offBus, busOff, listens, hearing, hear, countedNetwork, tickedNetwork, tickNetwork, remainingIn}
+use Rattle.rulebook.specs.Events.{tickSource, tickTimer, tickThings, arbitrateMarked, tick, happen}
 use Rattle.laws.specs.Facts.{Facts}
-use Rattle.laws.proofs.Tests.{split, part-of, and-left, and-right}
+use Rattle.laws.proofs.Tests.{split, part-of, and-left, and-right, or-none}
 use Rattle.laws.proofs.Walks.{each-keeps}
 use Rattle.laws.proofs.Fields.{digit-small}
 use Rattle.laws.proofs.Fit.{NetworkOk, SourceOk}
 use Rattle.laws.proofs.FitKept.{Fits, port-in, network-in, source-in, port-put, network-put, source-put, timer-deferred, plain-ok, timer-ok}
 use Rattle.laws.proofs.FitKept.{arbitrate-fits}
-use Rattle.laws.proofs.Happen.{Taken, Event, aTick, aMode, aRequest, aWakeup, aValid, aBusOff, aClear, event}
+use Rattle.laws.proofs.Happen.{Taken, OnSource, aWakeup, aValid, aClear, OnNetwork, aBusOff, aHeard}
+use Rattle.laws.proofs.Happen.{Event, aTick, aMode, aRequest, ofSource, ofNetwork, event}
 
 -- The port of a network or a source.
 
@@ -73,21 +74,6 @@ module _ (t : List ℕ) (f : Facts t) where
       (λ e. let z : (timeout t k ≡ 0 → ⊥) = eqb-false _ _ e in rw e
       (record { status₂ = omega arith; remaining₁₆ = cap; pending = λ a. (omega arith, omega arith); rest = λ a. absurd (a refl) }))
 
-  wake-fits : (k : ℕ) (s : List ℕ) → k < sources t → Fits t s → Fits t (wake t k s)
-  unfolding wake
-  wake-fits k s b h =
-      split (eqb (statusIn t k s) statusNone || eqb (statusIn t k s) statusExpired) (λ e. rw e (move-source-fits k _ _ s b (woken-ok k) h)) (λ e. rw e h)
-
-  validate-fits : (k : ℕ) (s : List ℕ) → k < sources t → Fits t s → Fits t (validate t k s)
-  unfolding validate
-  validate-fits k s b h =
-      split (eqb (statusIn t k s) statusPending) (λ e. rw e (move-source-fits k _ _ s b (idle-ok k statusValidated (omega arith) (λ z. omega arith)) h))
-      (λ e. rw e h)
-
-  clear-fits : (k : ℕ) (s : List ℕ) → k < sources t → Fits t s → Fits t (clear t k s)
-  unfolding clear
-  clear-fits k s b h = move-source-fits k _ _ s b (idle-ok k statusNone (omega arith) (λ z. omega arith)) h
-
   pub tick-source-fits : (k : ℕ) (s : List ℕ) → k < sources t → Fits t s → Fits t (tickSource t k s)
   unfolding tickSource
   tick-source-fits k s b h =
@@ -128,6 +114,8 @@ module _ (t : List ℕ) (f : Facts t) where
         recover = λ e. absurd (y e);
         rest = λ a d. (refl, refl);
         counted = λ e. absurd (y e);
+        heard₁ = omega arith;
+        listens = λ e. absurd (omega arith);
       }
 
   checking-ok : (n k r : ℕ) (c : Network) → NetworkOk t n c → k < 256 → 1 ≤ r → r ≤ eTicks t n → NetworkOk t n (moved stateCheck k r c)
@@ -142,6 +130,8 @@ module _ (t : List ℕ) (f : Facts t) where
         recover = λ e. absurd (omega arith);
         rest = λ a d. absurd (a refl);
         counted = λ e. absurd (omega arith);
+        heard₁ = omega arith;
+        listens = λ e. absurd (omega arith);
       }
 
   recovering-ok : (n k r : ℕ) (c : Network) → NetworkOk t n c → k < 256 → 1 ≤ k → 1 ≤ r → r ≤ max (l1 t n) (l2 t n) → NetworkOk t n (moved stateRecover k r c)
@@ -157,6 +147,8 @@ module _ (t : List ℕ) (f : Facts t) where
         recover = λ e. (x, y);
         rest = λ a d. absurd (d refl);
         counted = λ e. z;
+        heard₁ = omega arith;
+        listens = λ e. absurd (omega arith);
       }
 
   pub off-bus-ok : (n k : ℕ) (c : Network) → n < networks t → NetworkOk t n c → k < 256 → 1 ≤ k → NetworkOk t n (offBus t n k c)
@@ -166,11 +158,21 @@ module _ (t : List ℕ) (f : Facts t) where
       split (leb k (threshold t n)) (λ e. rw e (recovering-ok n k (l1 t n) c o x y (omega arith) (omega arith)))
       (λ e. rw e (recovering-ok n k (l2 t n) c o x y (omega arith) (omega arith)))
 
-  bus-off-fits : (n : ℕ) (s : List ℕ) → n < networks t → Fits t s → Fits t (busOff t n s)
-  unfolding busOff
-  bus-off-fits n s b h =
-      split (takes (networkIn t n s)) (λ e. rw e (move-network-fits n _ s b (off-bus-ok n _ _ b (network-in t s h n b) (omega arith) (omega arith)) h))
-      (λ e. rw e h)
+  pub hearing-ok : (n : ℕ) (c : Network) → NetworkOk t n c → listens c ≡ true → NetworkOk t n (hearing c)
+  unfolding listens
+  hearing-ok n c o e =
+      record {
+        counter₈ = o .counter₈;
+        remaining₁₆ = o .remaining₁₆;
+        modes = o .modes;
+        states = o .states;
+        check = o .check;
+        recover = o .recover;
+        rest = o .rest;
+        counted = o .counted;
+        heard₁ = omega arith;
+        listens = λ z. eqb-true _ _ e;
+      }
 
   counted-ok : (n : ℕ) (c : Network) → n < networks t → NetworkOk t n c → NetworkOk t n (countedNetwork t n c)
   unfolding countedNetwork
@@ -183,8 +185,9 @@ module _ (t : List ℕ) (f : Facts t) where
       (recovering-ok n (c .counter) (c .remaining - 1) c o (o .counter₈) (omega arith) (omega arith) (omega arith))))
       (λ e. split (eqb (c .state) stateCheck)
       (λ g. let p = o .check (eqb-true _ _ g) in
-      split (leb (c .remaining) 1) (λ d. rw (e, g, d) (resting-ok n stateFull c o (omega arith) (λ z. omega arith) (λ z. omega arith)))
-      (λ d. let m : 1 < c .remaining = leb-false _ _ d in rw (e, g, d)
+      split (eqb (c .heard) 1 || leb (c .remaining) 1)
+      (λ d. rw (e, g, d) (resting-ok n stateFull c o (omega arith) (λ z. omega arith) (λ z. omega arith)))
+      (λ d. let m : 1 < c .remaining = leb-false _ _ (or-none (eqb (c .heard) 1) _ d .1) in rw (e, g, d)
       (checking-ok n (c .counter) (c .remaining - 1) c o (o .counter₈) (omega arith) (omega arith))))
       (λ g. rw (e, g) o))
 
@@ -249,6 +252,29 @@ module _ (t : List ℕ) (f : Facts t) where
       → Fits t (request t p v s .state)
   request-fits p v s b nt v₈ ev h = request-cases (λ x. Fits t (x .state)) p v s b nt v₈ ev h (λ fit. fit) (λ fit. arbitrate-fits t f (only p) _ fit)
 
+  -- Kinds 3 to 7, once for all: a source moves to what fits it, a network to what fits it and asked as before, or the state stays.
+  -- What holds of every such move, and of the state, holds of what the event leaves.
+
+  pub source-to : (P : List ℕ → Type 0) (e : ℕ) (s : List ℕ) (g : List ℕ → List ℕ) → OnSource t e g
+      → ((status r : ℕ) → SourceOk t (eventIndex e) status r → P (moveSource t (eventIndex e) status r s)) → P s → P (g s)
+  unfolding wake validate clear
+  source-to P e s g (aWakeup k) moves stays =
+      split (eqb (statusIn t (eventIndex e) s) statusNone || eqb (statusIn t (eventIndex e) s) statusExpired)
+      (λ a. rw a (moves _ _ (woken-ok (eventIndex e)))) (λ a. rw a stays)
+  source-to P e s g (aValid k) moves stays =
+      split (eqb (statusIn t (eventIndex e) s) statusPending)
+      (λ a. rw a (moves _ _ (idle-ok (eventIndex e) statusValidated (omega arith) (λ z. omega arith)))) (λ a. rw a stays)
+  source-to P e s g (aClear k) moves stays = moves _ _ (idle-ok (eventIndex e) statusNone (omega arith) (λ z. omega arith))
+
+  pub network-to : (P : List ℕ → Type 0) (e : ℕ) (s : List ℕ) (g : List ℕ → List ℕ) → OnNetwork t e g → eventIndex e < networks t → Fits t s
+      → ((c : Network) → NetworkOk t (eventIndex e) c → c .asked ≡ networkIn t (eventIndex e) s .asked → P (moveNetwork t (eventIndex e) c s)) → P s → P (g s)
+  unfolding busOff offBus hear
+  network-to P e s g (aBusOff k) b h moves stays =
+      split (takes (networkIn t (eventIndex e) s))
+      (λ a. rw a (moves _ (off-bus-ok _ _ _ b (network-in t s h _ b) (omega arith) (omega arith)) refl)) (λ a. rw a stays)
+  network-to P e s g (aHeard k) b h moves stays =
+      split (listens (networkIn t (eventIndex e) s)) (λ a. rw a (moves _ (hearing-ok _ _ (network-in t s h _ b) a) refl)) (λ a. rw a stays)
+
   pub happen-fits : (e : ℕ) (s : List ℕ) → Taken t e → Fits t s → Fits t (happen t e s .state)
   happen-fits e s w h = go (happen t e) (event t e w)
     where
@@ -257,7 +283,5 @@ module _ (t : List ℕ) (f : Facts t) where
       go g (aMode k p m u) =
           request-fits (eventIndex e) (eventValue e) s (p .there) (λ z. omega arith) (digit-small _ 256 _ (omega arith)) (λ z. absurd (omega arith)) h
       go g (aRequest k p m) = request-fits (eventIndex e) 1 s (p .there) (λ z. omega arith) (omega arith) (λ z. omega arith) h
-      go g (aWakeup k p) = wake-fits (eventIndex e) s (p .there) h
-      go g (aValid k p) = validate-fits (eventIndex e) s (p .there) h
-      go g (aBusOff k p) = bus-off-fits (eventIndex e) s (p .there) h
-      go g (aClear k p) = clear-fits (eventIndex e) s (p .there) h
+      go g (ofSource k n of u c) = source-to (Fits t) e s u c (λ status r o. move-source-fits (eventIndex e) status r s (of .there) o h) h
+      go g (ofNetwork k of u c) = network-to (Fits t) e s u c (of .there) h (λ x o same. move-network-fits (eventIndex e) x s (of .there) o h) h

@@ -131,6 +131,8 @@ fit-kept t f =
             recover = o .recover;
             rest = o .rest;
             counted = o .counted;
+            heard₁ = o .heard₁;
+            listens = o .listens;
           });
       store = λ r b s c d h. rule-put t s h r b c (omega arith);
       unmark = λ p s b h. let o = port-in t s h p b in

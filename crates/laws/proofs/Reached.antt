@@ -22,9 +22,8 @@ use Rattle.laws.proofs.Tests.{split, clash, and-left, and-right, and-bo
 use Rattle.laws.proofs.Walks.{any-some}
 use Rattle.laws.proofs.Cases.{by-list, by-rule, by-other}
 use Rattle.laws.proofs.Facts.{at-list}
-use Rattle.laws.proofs.Items.{there-or-none}
 use Rattle.laws.proofs.Nesting.{nests-list, nests-rule, nests-act, within-item}
-use Rattle.laws.proofs.Chains.{NamesThere, names-there, named-there, rule-fails, rule-fails←, item-fails, item-fails←}
+use Rattle.laws.proofs.Chains.{NamesThere, names-there, ruled-there, named-there, rule-fails, rule-fails←, item-fails, item-fails←}
 
 -- To reach is not to have all that is named among what does not: what is known of nesting serves.
 
@@ -133,11 +132,8 @@ named-within t d l x h n =
     split (listWithin d t x) (λ a. a) (λ a. clash (within-item t d l (n .item) h (n .from) (n .below)) (item-fails← t (listWithin d t) l x n a))
 
 module _ (t : List ℕ) (f : NamesThere t) (nested : (l : ℕ) → l < lists t → listWithin deepest t l ≡ true) where
-  rule-there : (r l : ℕ) → r < rules t → RuleNames t r l → l < lists t
-  rule-there r l b n = let q = f .rules r b in there-or-none t l (⊎-elim (λ e. rw e (q .0)) (λ e. rw e (q .1)) (n .1)) (n .0)
-
   pub reached-there : (l : ℕ) → Reached t l → l < lists t
-  reached-there l (byRule r b s n) = rule-there r l b n
+  reached-there l (byRule r b s n) = ruled-there t f r l b n
   reached-there x (byList {l = l} q n) = named-there t f l x (reached-there l q) n
 
   one-more : (l x left : ℕ) (q : Chained t l) → q .left ≡ left → NamesList t l x → Chained t x
@@ -169,7 +165,7 @@ module _ (t : List ℕ) (f : NamesThere t) (nested : (l : ℕ) → l < lists t �
         used = 1;
         reaches = reaches-itself t 0 l;
         left = 7;
-        nests = nested l (rule-there r l b n);
+        nests = nested l (ruled-there t f r l b n);
         eight = omega arith;
       }
   chained x (byList {l = l} q n) = let p = chained l q in one-more l x (p .left) p refl n

@@ -81,7 +81,6 @@ module _ (t : List ℕ) (f : Facts t) where
   unfolding tick arbitrateMarked
   happen-shallow e s =
       happen-cases (λ x. x .deep ≡ false) t e s (λ k. arbitrate-shallow t f _ _) (λ k. request-shallow _ _ s) (λ k. request-shallow _ _ s) (λ k. refl)
-      (λ k. refl) (λ k. refl) (λ k. refl)
 
   request-paid : (p v : ℕ) (s : List ℕ) → written (request t p v s) ≤ bound t
   unfolding request
@@ -91,7 +90,6 @@ module _ (t : List ℕ) (f : Facts t) where
   unfolding tick arbitrateMarked
   happen-paid e s =
       happen-cases (λ x. written x ≤ bound t) t e s (λ k. arbitrate-paid t f _ _) (λ k. request-paid _ _ s) (λ k. request-paid _ _ s) (λ k. omega arith)
-      (λ k. omega arith) (λ k. omega arith) (λ k. omega arith)
 
 -- The two ways a step can go: refused, or done.
 

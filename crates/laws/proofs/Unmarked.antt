@@ -3,18 +3,18 @@ use mathlib.Core.Path.{_≡_, sym, ap, _∙_}
 use mathlib.Core.Bool.{Bool, true, false, _&&_}
 use mathlib.Core.Logic.{_⊎_, inl, inr, ⊎-elim}
 use mathlib.Core.List.{List, [], _∷_, _++_, List·Memᴰ·head, Memᴰ·append-left, Memᴰ·append-right}
-use Prim.Native.Nat.{ℕ, _<_}
+use Prim.Native.Nat.{ℕ, _≤_, _<_}
 use native.Mathlib.Omega.{arith}
 use lib.ListN.{length, length-set}
 use lib.Dec.{eqb}
-use borrow.Author.Tests.{eqb-true, eqb-false, eq-eqb}
+use borrow.Author.Tests.{eqb-true, eqb-false, eq-eqb, ne-eqb}
 use Rattle.rulebook.specs.Table.{ports, networks, sources, items, portKind, portMode, portEvent, portTimer, deferred, networkPort, sourcePort, listOwner}
 use Rattle.rulebook.specs.Table.{itemKind, itemA, itemB, itemClear}
 use Rattle.rulebook.specs.State.{sourceIndex, Network, packSource}
 use Rattle.rulebook.specs.Lists.{Run, start, setPort, networkIn, effect, act, setResult, judge}
 use Rattle.rulebook.specs.Arbitration.{unmarkPorts, arbitrate}
-use Rattle.rulebook.specs.Events.{eventKind, eventIndex, eventValue, eventTick, only, request, statusIn, setSource, moveSource}
-use Rattle.rulebook.specs.Events.{clear, shown, moveNetwork, tickThings, arbitrateMarked, tick, happen}
+use Rattle.rulebook.specs.Events.{eventKind, eventIndex, eventValue, eventTick, eventMode, eventRequest, eventWakeup, only, request, statusIn, setSource}
+use Rattle.rulebook.specs.Events.{moveSource, shown, moveNetwork, tickThings, arbitrateMarked, tick, happen}
 use Rattle.laws.specs.Facts.{Facts}
 use Rattle.laws.specs.Chosen.{setsPort}
 use Rattle.laws.specs.Cleared.{arbitrates, requestsLater, ClearTold}
@@ -24,9 +24,8 @@ use Rattle.laws.proofs.Items.{clear-alone, start-there, stop-there, kin
 use Rattle.laws.proofs.Runs.{Within, item-there, KeptByActs, decide-keeps}
 use Rattle.laws.proofs.Fields.{digit-small}
 use Rattle.laws.proofs.FitKept.{Fits, port-long}
-use Rattle.laws.proofs.FitEvents.{may-show, things-fit}
-use Rattle.laws.proofs.Happen.{wake-cases, validate-cases, bus-off-cases}
-use Rattle.laws.proofs.Happen.{Taken, Event, aTick, aMode, aRequest, aWakeup, aValid, aBusOff, aClear, event}
+use Rattle.laws.proofs.FitEvents.{may-show, things-fit, source-to, network-to}
+use Rattle.laws.proofs.Happen.{Taken, Event, aTick, aMode, aRequest, ofSource, ofNetwork, event}
 use Rattle.laws.proofs.Marks.{Unmarked, shows, marked-or-not, elsewhere, port-elsewhere, network-elsewhere, result-elsewhere, effect-length}
 use Rattle.laws.proofs.Marks.{unmark-it, unmark-others, store-elsewhere}
 
@@ -129,12 +128,15 @@ module _ (t : List ℕ) (f : Facts t) (p : ℕ) (b : p < ports t) (is : portKind
 
   pub happen-quiet : (e : ℕ) (s : List ℕ) → Taken t e → Fits t s → (arbitrates t e p ≡ true) ⊎ Unmarked p s → requestsLater t e p ≡ false
       → (ClearTold p (happen t e s .words) → ⊥) → Unmarked p (happen t e s .state)
-  unfolding tick arbitrateMarked clear
+  unfolding tick arbitrateMarked
   happen-quiet e s w h why late = go (happen t e) (event t e w) .mark
     where
       -- of an event that sets no port
       still : (eventKind e ≡ eventTick → ⊥) → setsPort e ≡ false → Unmarked p s
       still n k = ⊎-elim (λ a. clash (own-port e n a .0) k) (λ u. u) why
+
+      no-port : eventWakeup ≤ eventKind e → setsPort e ≡ false
+      no-port k = rw (ne-eqb (eventKind e) eventMode (λ z. omega arith), ne-eqb (eventKind e) eventRequest (λ z. omega arith))
 
       asked : (v : ℕ) → (eventKind e ≡ eventTick → ⊥) → setsPort e ≡ true → Quiet (request t (eventIndex e) v s)
       asked v n sets = request-quiet (eventIndex e) v s (port-long t s h p b) (at-once e sets late) (⊎-elim (λ a. inl (own-port e n a .1)) (λ u. inr u) why)
@@ -144,10 +146,7 @@ module _ (t : List ℕ) (f : Facts t) (p : ℕ) (b : p < ports t) (is : portKind
           arbitrate-quiet _ (tickThings t s) long (⊎-elim (λ m. inl (shows t p b m)) (λ m. inr m) (marked-or-not t p b (tickThings t s) long))
       go g (aMode k u m n) = asked (eventValue e) (λ z. omega arith) (rw k)
       go g (aRequest k u m) = asked 1 (λ z. omega arith) (rw k)
-      go g (aWakeup k u) = let v = still (λ z. omega arith) (rw k) in
-          unmarked-quiet _ (wake-cases (Unmarked p) t _ s (λ status r. source-quiet _ status r s (u .there) v) v)
-      go g (aValid k u) = let v = still (λ z. omega arith) (rw k) in
-          unmarked-quiet _ (validate-cases (Unmarked p) t _ s (λ status r. source-quiet _ status r s (u .there) v) v)
-      go g (aBusOff k u) = let v = still (λ z. omega arith) (rw k) in
-          unmarked-quiet _ (bus-off-cases (Unmarked p) t _ s (λ c. network-quiet _ c s (u .there) v) v)
-      go g (aClear k u) = unmarked-quiet _ (source-quiet _ _ _ s (u .there) (still (λ z. omega arith) (rw k)))
+      go g (ofSource k n of u c) = let v = still (λ z. omega arith) (no-port k) in
+          unmarked-quiet _ (source-to t f (Unmarked p) e s u c (λ status r ok. source-quiet _ status r s (of .there) v) v)
+      go g (ofNetwork k of u c) = let v = still (λ z. omega arith) (no-port k) in
+          unmarked-quiet _ (network-to t f (Unmarked p) e s u c (of .there) h (λ x ok same. network-quiet _ x s (of .there) v) v)

@@ -64,6 +64,7 @@ fn ask(t: &[u32], h: Layout, s: &mut [u32], n: u32, mode: u32)
         asked: mode,
         state: c.state,
         counter: c.counter,
+        heard: c.heard,
         remaining: c.remaining,
     };
     state::set_network(t, h, s, n, asking);

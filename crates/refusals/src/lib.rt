@@ -8,7 +8,7 @@ ghost use Rattle.words.specs.State.{thingOf};
 ghost use Rattle.refusals.specs.Answers.{passes, eventChecked};
 use names::held;
 use words::numbers::EVENT_BUS_OFF;
-use words::numbers::EVENT_CLEAR;
+use words::numbers::EVENT_HEARD;
 use words::numbers::EVENT_MODE;
 use words::numbers::EVENT_REQUEST;
 use words::numbers::EVENT_TICK;
@@ -30,7 +30,8 @@ fn named(e: u32) -> Thing
     if of_port {
         return Thing::Port(index);
     }
-    if kind == EVENT_BUS_OFF {
+    let of_network = (kind == EVENT_BUS_OFF) | (kind == EVENT_HEARD);
+    if of_network {
         return Thing::Network(index);
     }
     Thing::Source(index)
@@ -103,7 +104,7 @@ fn well_formed(e: u32) -> Check
     let value = event::value(e);
     let zero = event::zero(e);
     passed_if(
-        (kind <= EVENT_CLEAR)
+        (kind <= EVENT_HEARD)
             & (zero == 0)
             & (!(kind == EVENT_TICK) | (owner == 0) & (index == 0))
             & ((kind == EVENT_MODE) | (value == 0)),

@@ -8,10 +8,10 @@ use Rattle.rulebook.specs.Reasons.{hasHeader, knownEdition, countsInside
 use Rattle.rulebook.specs.State.{thing, ownerOf, packPort, packRule, packNetwork, portFits, ruleFits, networkFits, thingFits, fitsAt, fits, freshPort, freshThing, freshAt, fresh, freshAnswer, freshState}
 use Rattle.rulebook.specs.Lists.{traceWord, setPort, setNetwork, effect, act, valueIn, undefinedIn, unready, resultIn, choice, choiceIn, setResult, runItem, runItems, runList}
 use Rattle.rulebook.specs.Arbitration.{unmarkPort, unmarkPorts, evaluated, storeResult, storeResults, chooses, chosen, ofPriority, orderBelow, order, runIf, runChosen, decide, arbitrate}
-use Rattle.rulebook.specs.Events.{only, request, shown, moveNetwork, takes, wait, offBus, busOff, countedNetwork, tickedNetwork, tickNetwork, tickTimer, tickThings, markedIn, arbitrateMarked, tick, happen}
+use Rattle.rulebook.specs.Events.{only, request, shown, moveNetwork, takes, wait, offBus, busOff, countedNetwork, tickedNetwork, tickNetwork, tickTimer, tickThings, markedIn, arbitrateMarked, tick, changed, happen}
 use Rattle.rulebook.specs.Step.{wellFormed, named, present, suited, known, sentByOwner, firstFault, finish, conclude, step}
 use Rattle.rulebook.specs.Marked.{table, marked, after, same, gives, refuses, atFresh, afterRequest, afterTick, afterBusOff, afterThree, afterFive, markedRun}
 
 pub claim : markedRun ≡ true
-unfolding digit byItem first all any sum listed each part stranger operator expressionNests expressionWithin expressionMentions mentions condition expressionHolds holds hasHeader knownEdition countsInside exactLength portFields expressionFields itemFields ownFields networkHas held mayShow expressionNames listOrNone itemNames names itemNests listNests listWithin nesting strangersPort ruleOwned itemOwned owners ruleReaches itemReaches listReaches reachesWithin reachedBy reached itemCost listCost costWithin bound affordable breaks lowest orNext firstOf check thing ownerOf packPort packRule packNetwork portFits ruleFits networkFits thingFits fitsAt fits freshPort freshThing freshAt fresh freshAnswer freshState traceWord setPort setNetwork effect act valueIn undefinedIn unready resultIn choice choiceIn setResult runItem runItems runList unmarkPort unmarkPorts evaluated storeResult storeResults chooses chosen ofPriority orderBelow order runIf runChosen decide arbitrate only request shown moveNetwork takes wait offBus busOff countedNetwork tickedNetwork tickNetwork tickTimer tickThings markedIn arbitrateMarked tick happen wellFormed named present suited known sentByOwner firstFault finish conclude step table marked after same gives refuses atFresh afterRequest afterTick afterBusOff afterThree afterFive markedRun
+unfolding digit byItem first all any sum listed each part stranger operator expressionNests expressionWithin expressionMentions mentions condition expressionHolds holds hasHeader knownEdition countsInside exactLength portFields expressionFields itemFields ownFields networkHas held mayShow expressionNames listOrNone itemNames names itemNests listNests listWithin nesting strangersPort ruleOwned itemOwned owners ruleReaches itemReaches listReaches reachesWithin reachedBy reached itemCost listCost costWithin bound affordable breaks lowest orNext firstOf check thing ownerOf packPort packRule packNetwork portFits ruleFits networkFits thingFits fitsAt fits freshPort freshThing freshAt fresh freshAnswer freshState traceWord setPort setNetwork effect act valueIn undefinedIn unready resultIn choice choiceIn setResult runItem runItems runList unmarkPort unmarkPorts evaluated storeResult storeResults chooses chosen ofPriority orderBelow order runIf runChosen decide arbitrate only request shown moveNetwork takes wait offBus busOff countedNetwork tickedNetwork tickNetwork tickTimer tickThings markedIn arbitrateMarked tick changed happen wellFormed named present suited known sentByOwner firstFault finish conclude step table marked after same gives refuses atFresh afterRequest afterTick afterBusOff afterThree afterFive markedRun
 claim = refl

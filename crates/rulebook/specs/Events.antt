@@ -51,8 +51,11 @@ eventBusOff = 5
 abbrev pub eventClear : ℕ
 eventClear = 6
 
+abbrev pub eventHeard : ℕ
+eventHeard = 7
+
 abbrev pub highestKind : ℕ
-highestKind = 6
+highestKind = 7
 
 -- Kinds 1, 2: the port's value is set. "A deferred port is marked; an immediate one is arbitrated now, the same value included."
 
@@ -93,8 +96,9 @@ clear t k s = moveSource t k statusNone 0 s
 unfoldable pub shown : ℕ → ℕ
 shown state = cond (eqb state stateNone) 0 (cond (eqb state stateSilent) 1 (cond (eqb state stateRecover) 3 2))
 
+-- Q-8: "A move out of check clears it, a bus-off included": no move leaves anything heard
 abbrev pub moved : ℕ → ℕ → ℕ → Network → Network
-moved state counter remaining c = record { asked = c .asked; state = state; counter = counter; remaining = remaining }
+moved state counter remaining c = record { asked = c .asked; state = state; counter = counter; heard = 0; remaining = remaining }
 
 unfoldable pub moveNetwork : List ℕ → ℕ → Network → List ℕ → List ℕ
 moveNetwork t n c s =
@@ -120,15 +124,27 @@ unfoldable pub busOff : List ℕ → ℕ → List ℕ → List ℕ
 busOff t n s =
     cond (takes (networkIn t n s)) (moveNetwork t n (offBus t n (counterPlusOne (networkIn t n s)) (networkIn t n s)) s) s
 
+-- Q-8, heard: "It may be 1 only in check .. heard in another state changes nothing".
+
+unfoldable pub listens : Network → Bool
+listens c = eqb (c .state) stateCheck
+
+abbrev pub hearing : Network → Network
+hearing c = record { asked = c .asked; state = c .state; counter = c .counter; heard = 1; remaining = c .remaining }
+
+unfoldable pub hear : List ℕ → ℕ → List ℕ → List ℕ
+hear t n s = cond (listens (networkIn t n s)) (moveNetwork t n (hearing (networkIn t n s)) s) s
+
 -- "Tick, in order: networks, sources, timers by number, then all marked ports are arbitrated."
 
--- recover and check count down; at 0 recover becomes check with E-ticks, check becomes full with counter 0
+-- recover and check count down; at 0 recover becomes check with E-ticks, check becomes full with counter 0. Q-8, of heard: "The next
+-- tick takes it, unless none or silent is asked: check becomes full with counter 0, whatever remains"
 unfoldable pub countedNetwork : List ℕ → ℕ → Network → Network
 countedNetwork t n c =
     cond (eqb (c .state) stateRecover)
     (cond (leb (c .remaining) 1) (moved stateCheck (c .counter) (eTicks t n) c) (moved stateRecover (c .counter) (c .remaining - 1) c))
     (cond (eqb (c .state) stateCheck)
-    (cond (leb (c .remaining) 1) (moved stateFull 0 0 c) (moved stateCheck (c .counter) (c .remaining - 1) c))
+    (cond (eqb (c .heard) 1 || leb (c .remaining) 1) (moved stateFull 0 0 c) (moved stateCheck (c .counter) (c .remaining - 1) c))
     c)
 
 -- asked none, or asked silent and not in none, goes there; asked full in none or silent: check with E-ticks; otherwise it counts
@@ -174,13 +190,19 @@ arbitrateMarked t s = arbitrate t (markedIn t s) s
 unfoldable pub tick : List ℕ → List ℕ → Run
 tick t s = arbitrateMarked t (tickThings t s)
 
+-- Kinds 3 to 7: what an event of source or network i does to the state.
+unfoldable pub changed : List ℕ → ℕ → ℕ → List ℕ → List ℕ
+changed t kind i s =
+    cond (eqb kind eventWakeup) (wake t i s)
+    (cond (eqb kind eventValid) (validate t i s)
+    (cond (eqb kind eventBusOff) (busOff t i s)
+    (cond (eqb kind eventClear) (clear t i s)
+    (hear t i s))))
+
 -- The dispatch on kinds, in one place.
 unfoldable pub happen : List ℕ → ℕ → List ℕ → Run
 happen t e s =
     cond (eqb (eventKind e) eventTick) (tick t s)
     (cond (eqb (eventKind e) eventMode) (request t (eventIndex e) (eventValue e) s)
     (cond (eqb (eventKind e) eventRequest) (request t (eventIndex e) 1 s)
-    (cond (eqb (eventKind e) eventWakeup) (start (wake t (eventIndex e) s))
-    (cond (eqb (eventKind e) eventValid) (start (validate t (eventIndex e) s))
-    (cond (eqb (eventKind e) eventBusOff) (start (busOff t (eventIndex e) s))
-    (start (clear t (eventIndex e) s)))))))
+    (start (changed t (eventKind e) (eventIndex e) s))))

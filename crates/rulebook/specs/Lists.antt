@@ -49,7 +49,7 @@ unfoldable pub setNetwork : List ℕ → ℕ → Network → List ℕ → List �
 setNetwork t n c s = set s (networkIndex t n) (packNetwork c)
 
 abbrev pub asking : ℕ → Network → Network
-asking mode c = record { asked = mode; state = c .state; counter = c .counter; remaining = c .remaining }
+asking mode c = record { asked = mode; state = c .state; counter = c .counter; heard = c .heard; remaining = c .remaining }
 
 -- What an item of kind 0 to 4 does to the state. "Start reloads and marks the timer, stop zeroes and marks it; a network request
 -- only sets asked; clear sets the event to 0", and Q-2: "a clear marks the port, deferred or immediate, even if it was clear

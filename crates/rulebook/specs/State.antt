@@ -80,19 +80,20 @@ ruleZeroOf w = field 2 30 w
 abbrev pub undefinedResult : ℕ
 undefinedResult = 2
 
--- A network's word, by its fields.
+-- A network's word, by its fields. Q-8: "one of the three zero bits in the network's state word (the top one) now means heard".
 
 pub record Network : Type 0 where
   pub asked : ℕ
   pub state : ℕ
   pub counter : ℕ
+  pub heard : ℕ
   pub remaining : ℕ
 
 abbrev pub networkOf : ℕ → Network
-networkOf w = record { asked = field 0 2 w; state = field 2 3 w; counter = field 5 8 w; remaining = remainingOf w }
+networkOf w = record { asked = field 0 2 w; state = field 2 3 w; counter = field 5 8 w; heard = field 13 1 w; remaining = remainingOf w }
 
 abbrev pub networkZeroOf : ℕ → ℕ
-networkZeroOf w = field 13 3 w
+networkZeroOf w = field 14 2 w
 
 abbrev pub askedNone : ℕ
 askedNone = 0
@@ -147,7 +148,8 @@ unfoldable pub packRule : ℕ → ℕ
 packRule result = inField 0 2 result
 
 unfoldable pub packNetwork : Network → ℕ
-packNetwork c = inField 0 2 (c .asked) + inField 2 3 (c .state) + inField 5 8 (c .counter) + inField 16 16 (c .remaining)
+packNetwork c =
+    inField 0 2 (c .asked) + inField 2 3 (c .state) + inField 5 8 (c .counter) + inField 13 1 (c .heard) + inField 16 16 (c .remaining)
 
 unfoldable pub packSource : ℕ → ℕ → ℕ
 packSource status remaining = inField 0 2 status + inField 16 16 remaining
@@ -170,7 +172,7 @@ unfoldable pub ruleFits : ℕ → Bool
 ruleFits w = eqb (ruleZeroOf w) 0 && leb (resultOf w) undefinedResult
 
 -- "1 to E-ticks in check, 1 to the larger of L1, L2 in recover, else 0; .. asked modes at most 2, network states at most 4; the
--- counter is 0 in states 0, 1, 3 and at least 1 in 4"
+-- counter is 0 in states 0, 1, 3 and at least 1 in 4"; Q-8, of heard: "It may be 1 only in check"
 unfoldable pub networkFits : List ℕ → ℕ → ℕ → Bool
 networkFits t n w =
     eqb (networkZeroOf w) 0
@@ -181,6 +183,7 @@ networkFits t n w =
     (eqb (networkOf w .remaining) 0))
     && cond (eqb (networkOf w .state) stateRecover) (leb 1 (networkOf w .counter))
     (eqb (networkOf w .state) stateCheck || eqb (networkOf w .counter) 0)
+    && implies (eqb (networkOf w .heard) 1) (eqb (networkOf w .state) stateCheck)
 
 unfoldable pub sourceFits : List ℕ → ℕ → ℕ → Bool
 sourceFits t k w =

@@ -9,11 +9,11 @@ use Rattle.rulebook.specs.Reasons.{accepted, bound, held}
 use Rattle.rulebook.specs.State.{Thing, aPort, aRule, aNetwork, aSource, ownerOf, fits}
 use Rattle.rulebook.specs.Lists.{Run}
 use Rattle.rulebook.specs.Events.{eventKind, eventOwner, eventIndex, eventValue, eventZero}
-use Rattle.rulebook.specs.Events.{eventTick, eventMode, eventRequest, eventBusOff, highestKind, happen}
+use Rattle.rulebook.specs.Events.{eventTick, eventMode, eventRequest, eventBusOff, eventHeard, highestKind, happen}
 
 -- The checks that answers 4 to 6 make of the event and the table.
 
--- "0 tick, all else 0"; "Value is 0 except in kind 1"
+-- "0 tick, all else 0"; "Value is 0 except in kind 1"; Q-8: "the malformed limit becomes 'above 7'"
 unfoldable pub wellFormed : ℕ → Bool
 wellFormed e =
     leb (eventKind e) highestKind
@@ -21,11 +21,11 @@ wellFormed e =
     && implies (eqb (eventKind e) eventTick) (eqb (eventOwner e) 0 && eqb (eventIndex e) 0)
     && implies (not (eqb (eventKind e) eventMode)) (eqb (eventValue e) 0)
 
--- the thing that an event other than a tick names
+-- the thing that an event other than a tick names; Q-8: "event kind 7, heard, for a network of the sender's own"
 unfoldable pub named : ℕ → Thing
 named e =
     cond (eqb (eventKind e) eventMode || eqb (eventKind e) eventRequest) (aPort (eventIndex e))
-    (cond (eqb (eventKind e) eventBusOff) (aNetwork (eventIndex e))
+    (cond (eqb (eventKind e) eventBusOff || eqb (eventKind e) eventHeard) (aNetwork (eventIndex e))
     (aSource (eventIndex e)))
 
 unfoldable pub present : List ℕ → Thing → Bool
@@ -57,7 +57,7 @@ stateFault t s next = cond (not (accepted t)) 1 (cond (not (fits t s)) 2 next)
 abbrev pub roomFault : List ℕ → ℕ → ℕ → ℕ
 roomFault t room next = cond (ltb room (bound t)) 3 next
 
--- 4 event word malformed or kind above 6; 5 no such thing; 6 owner differs from the thing's
+-- 4 event word malformed or kind above 7; 5 no such thing; 6 owner differs from the thing's
 abbrev pub eventFault : List ℕ → ℕ → ℕ → ℕ
 eventFault t e next = cond (not (wellFormed e)) 4 (cond (not (known t e)) 5 (cond (not (sentByOwner t e)) 6 next))
 

@@ -66,6 +66,7 @@ fn network_fits(t: &[u32], h: Layout, n: u32, w: u32) -> bool
                     | !(c.state == STATE_RECOVER) & (c.remaining == 0)))
         & ((c.state == STATE_RECOVER) & (1 <= c.counter)
             | !(c.state == STATE_RECOVER) & ((c.state == STATE_CHECK) | (c.counter == 0)))
+        & (!(c.heard == 1) | (c.state == STATE_CHECK))
 }
 
 fn source_fits(t: &[u32], h: Layout, k: u32, w: u32) -> bool

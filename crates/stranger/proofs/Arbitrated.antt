@@ -1,4 +1,4 @@
--- What an arbitration leaves alone: a source's word, a network's state, counter and remaining, and the value of a port that shows.
+-- What an arbitration leaves alone: a source's word, a network's state, counter, heard and remaining, and the value of a port that shows.
 -- Assumes nothing.
 use mathlib.Core.Path.{_≡_, sym, _∙_, ap}
 use mathlib.Core.Bool.{Bool}
@@ -92,11 +92,12 @@ source-still t f k w b =
       unmark = λ q s c h e. getD-set-other s q (sourceIndex t k) _ 0 (λ u. omega arith) ∙ e;
     })
 
--- A network's state, counter and remaining.
+-- A network's state, counter, heard and remaining.
 
 pub record Core (a b : Network) : Type 0 where
   pub state : a .state ≡ b .state
   pub counter : a .counter ≡ b .counter
+  pub heard : a .heard ≡ b .heard
   pub remaining : a .remaining ≡ b .remaining
 
 pub small-of : (w mode : ℕ) → mode < 4 → NetworkSmall (asking mode (networkOf w))
@@ -105,6 +106,7 @@ small-of w mode b =
       asked₂ = b;
       state₃ = digit-small _ 8 w (omega arith);
       counter₈ = digit-small _ 256 w (omega arith);
+      heard₁ = digit-small _ 2 w (omega arith);
       remaining₁₆ = digit-small _ 65536 w (omega arith);
     }
 
@@ -127,7 +129,7 @@ network-still t f n c b =
       port = λ q x y z s e nm h k. core-other t s n q _ c (λ u. omega arith) k;
       ask = λ m mode s e g h k. split (eqb n m)
           (λ z. let same : n ≡ m = eqb-true _ _ z in rw (← same, asked-word t s n mode b g h)
-          (record { state = k .state; counter = k .counter; remaining = k .remaining }))
+          (record { state = k .state; counter = k .counter; heard = k .heard; remaining = k .remaining }))
           (λ z. ask-other m mode s k (eqb-false _ _ z));
       store = λ r g s e h k. core-other t s n (ruleIndex t r) _ c (λ u. omega arith) k;
       unmark = λ q s e h k. core-other t s n q _ c (λ u. omega arith) k;

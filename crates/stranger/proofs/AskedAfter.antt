@@ -1,7 +1,7 @@
 -- What a network is asked changes only by lists: after an event it is what the last trace word that asks it asks for, what it was
 -- where none does. Assumes nothing.
 use mathlib.Core.Path.{_≡_, refl, sym, _∙_, ap}
-use mathlib.Core.Bool.{true, _&&_, _||_, not}
+use mathlib.Core.Bool.{true, _&&_}
 use mathlib.Core.List.{List, [], _∷_}
 use Prim.Native.Nat.{ℕ, _-_, _≤_, _<_}
 use native.Mathlib.Omega.{arith}
@@ -12,12 +12,11 @@ use borrow.Author.Tests.{eqb-true, eqb-false}
 use Rattle.rulebook.specs.Words.{word, digit}
 use Rattle.rulebook.specs.Table.{ports, networks, sources, portKind, portEvent, portTimer, networkPort, sourcePort}
 use Rattle.rulebook.specs.Reasons.{accepted}
-use Rattle.rulebook.specs.State.{fresh, networkIndex, sourceIndex, valueOf, askedNone, askedSilent, askedFull, stateNone, stateSilent, stateCheck}
-use Rattle.rulebook.specs.State.{stateRecover, statusPending, timerStarted, Network, networkOf, packNetwork}
+use Rattle.rulebook.specs.State.{fresh, networkIndex, sourceIndex, valueOf, askedNone}
+use Rattle.rulebook.specs.State.{statusPending, timerStarted, Network, networkOf, packNetwork}
 use Rattle.rulebook.specs.Lists.{Run, start, setPort, networkIn, setNetwork}
-use Rattle.rulebook.specs.Events.{eventIndex, eventValue, only, request, statusIn, setSource, moveSource, clear, shown, moveNetwork, takes}
-use Rattle.rulebook.specs.Events.{counterPlusOne, offBus, busOff, countedNetwork, tickedNetwork, tickNetwork, remainingIn, tickSource, tickTimer, tickThings}
-use Rattle.rulebook.specs.Events.{arbitrateMarked, tick, happen}
+use Rattle.rulebook.specs.Events.{eventIndex, eventValue, only, request, statusIn, setSource, moveSource, shown, moveNetwork, tickedNetwork}
+use Rattle.rulebook.specs.Events.{tickNetwork, remainingIn, tickSource, tickTimer, tickThings, arbitrateMarked, tick, happen}
 use Rattle.laws.specs.Facts.{Facts}
 use Rattle.laws.proofs.Tests.{split}
 use Rattle.laws.proofs.Facts.{facts}
@@ -26,30 +25,17 @@ use Rattle.laws.proofs.Walks.{each-keeps}
 use Rattle.laws.proofs.Fields.{digit-small}
 use Rattle.laws.proofs.Fit.{NetworkOk, network-again, network-small, fits-length}
 use Rattle.laws.proofs.FitKept.{Fits, network-in}
-use Rattle.laws.proofs.FitEvents.{may-show, things-fit, ticked-ok, off-bus-ok, tick-network-fits, request-cases}
-use Rattle.laws.proofs.Happen.{wake-cases, validate-cases, Taken, Event, aTick, aMode, aRequest, aWakeup, aValid, aBusOff, aClear, event}
+use Rattle.laws.proofs.FitEvents.{may-show, things-fit, ticked-ok, tick-network-fits, request-cases, source-to, network-to}
+use Rattle.laws.proofs.Happen.{Taken, Event, aTick, aMode, aRequest, ofSource, ofNetwork, event}
 use Rattle.stranger.specs.Logs.{Entry, Log, stateAfter}
 use Rattle.stranger.specs.Demand.{lastAsked, lastAskedIn}
 use Rattle.stranger.proofs.Logs.{taken, entry-fits}
 use Rattle.stranger.proofs.Shows.{fresh-network}
+use Rattle.stranger.proofs.Ticked.{ticked-cases}
 use Rattle.stranger.proofs.Asked.{asked-last}
 
-counted-asked : (t : List ℕ) (n : ℕ) (c : Network) → countedNetwork t n c .asked ≡ c .asked
-unfolding countedNetwork
-counted-asked t n c =
-    split (eqb (c .state) stateRecover)
-    (λ a. split (leb (c .remaining) 1) (λ d. rw (a, d)) (λ d. rw (a, d)))
-    (λ a. split (eqb (c .state) stateCheck)
-    (λ e. split (leb (c .remaining) 1) (λ d. rw (a, e, d)) (λ d. rw (a, e, d)))
-    (λ e. rw (a, e)))
-
 ticked-asked : (t : List ℕ) (n : ℕ) (c : Network) → tickedNetwork t n c .asked ≡ c .asked
-unfolding tickedNetwork
-ticked-asked t n c =
-    split (eqb (c .asked) askedNone) (λ x. rw x)
-    (λ x. split (eqb (c .asked) askedSilent && not (eqb (c .state) stateNone)) (λ y. rw (x, y))
-    (λ y. split (eqb (c .asked) askedFull && (eqb (c .state) stateNone || eqb (c .state) stateSilent)) (λ z. rw (x, y, z))
-    (λ z. rw (x, y, z) (counted-asked t n c))))
+ticked-asked t n c = ticked-cases t n c (λ x. x .asked ≡ c .asked) (λ st k r from. refl) refl
 
 module _ (t : List ℕ) (f : Facts t) (n : ℕ) (b : n < networks t) where
   abbrev Asks : ℕ → List ℕ → Type 0
@@ -124,24 +110,16 @@ module _ (t : List ℕ) (f : Facts t) (n : ℕ) (b : n < networks t) where
           request-cases t f (AskedBy s) q v s c nt v₈ ev fit
           (λ fit₁. asks-port _ q _ _ _ s c refl) (λ fit₁. asked-last t f n b _ (only q) _ fit₁ (asks-port _ q _ _ _ s c refl))
 
-      bus-off-asks : (m : ℕ) → m < networks t → Asks (networkIn t n s .asked)
-          (moveNetwork t m (offBus t m (counterPlusOne (networkIn t m s)) (networkIn t m s)) s)
-      bus-off-asks m c = asks-network _ m _ s c fit (off-bus-ok t f m _ _ c (network-in t s fit m c) (omega arith) (omega arith)) (unfold offBus in refl) refl
-
       go : (g : List ℕ → Run) → Event t e g → AskedBy s (g s)
       go g (aTick k o) = unfold tick arbitrateMarked in asked-last t f n b _ _ _ (things-fit t f s fit) (asks-things _ s fit refl)
       go g (aMode k of m free) =
           by-request (eventIndex e) (eventValue e) (of .there) (λ z. omega arith) (digit-small _ 256 _ (omega arith)) (λ z. absurd (omega arith))
       go g (aRequest k of m) = by-request (eventIndex e) 1 (of .there) (λ z. omega arith) (omega arith) (λ z. omega arith)
-      go g (aWakeup k of) =
+      go g (ofSource k free of u c) =
+          unfold lastAsked in source-to t f (λ x. AskedBy s (start x)) e s u c (λ status r ok. asks-source _ (eventIndex e) status r s (of .there) refl) refl
+      go g (ofNetwork k of u c) =
           unfold lastAsked in
-          wake-cases (λ x. AskedBy s (start x)) t (eventIndex e) s (λ status r. asks-source _ (eventIndex e) status r s (of .there) refl) refl
-      go g (aValid k of) =
-          unfold lastAsked in
-          validate-cases (λ x. AskedBy s (start x)) t (eventIndex e) s (λ status r. asks-source _ (eventIndex e) status r s (of .there) refl) refl
-      go g (aBusOff k of) =
-          unfold busOff lastAsked in split (takes (networkIn t (eventIndex e) s)) (λ d. rw d (bus-off-asks (eventIndex e) (of .there))) (λ d. rw d refl)
-      go g (aClear k of) = unfold clear lastAsked in asks-source _ (eventIndex e) _ _ s (of .there) refl
+          network-to t f (λ x. AskedBy s (start x)) e s u c (of .there) fit (λ x ok same. asks-network _ (eventIndex e) x s (of .there) fit ok same refl) refl
 
 -- a log
 pub asked-in : (t : List ℕ) → accepted t ≡ true → (n : ℕ) → n < networks t → (s : List ℕ) (xs : List Entry) → Log t s xs → Fits t s

@@ -72,8 +72,7 @@ module _ (t : List ℕ) (f : Facts t) where
   pub happen-asks-own : (e : ℕ) (s : List ℕ) → AllAskOwn (happen t e s)
   unfolding tick arbitrateMarked
   happen-asks-own e s =
-      happen-cases AllAskOwn t e s (λ k. arbitrate-asks-own _ _) (λ k. request-asks-own _ _ s) (λ k. request-asks-own _ _ s) (λ k. tt) (λ k. tt)
-      (λ k. tt) (λ k. tt)
+      happen-cases AllAskOwn t e s (λ k. arbitrate-asks-own _ _) (λ k. request-asks-own _ _ s) (λ k. request-asks-own _ _ s) (λ k. tt)
 
 -- So the words of its owner and of the platform tell whether a network is asked for another mode.
 

@@ -15,12 +15,12 @@ use Rattle.stranger.specs.Statements.{NetworkWaits, SourceWaits, NoStran
 use Rattle.stranger.proofs.Logs.{log-parts, log-fits, after-append}
 use Rattle.stranger.proofs.View.{same-view-refl}
 use Rattle.stranger.proofs.Strangers.{strangers-unseen, seen-beside}
-use Rattle.stranger.proofs.Moments.{entry-asks-own, network-moments, source-moments}
+use Rattle.stranger.proofs.Moments.{entry-asks-own, heard-by-owner, network-moments, source-moments}
 use Rattle.stranger.proofs.Shows.{network-shows, source-shows}
 use Rattle.stranger.proofs.AskedAfter.{asked-from-fresh}
-use Rattle.stranger.proofs.Countdown.{network-between, network-at-tick}
+use Rattle.stranger.proofs.Countdown.{network-between, network-at-tick, network-at-most, network-exactly}
 use Rattle.stranger.proofs.Wakeup.{source-between, source-at-tick, ended-there, ended-by-owner, ended-status}
-use Rattle.stranger.proofs.Exactly.{bus-off-exactly, wakeup-exactly}
+use Rattle.stranger.proofs.Exactly.{bus-off-exactly, heard-kept, heard-only, wakeup-exactly}
 
 module _ (t : List ℕ) (h : accepted t ≡ true) (Went : List Entry → Type 0) (log : (xs : List Entry) → Went xs → Log t (fresh t) xs) where
   -- the last entry of a log, and the state before it
@@ -33,8 +33,14 @@ module _ (t : List ℕ) (h : accepted t ≡ true) (Went : List Entry → Type 0)
   pub network-waits : NetworkWaits t (fresh t) Went
   network-waits =
       record {
-        recovers = λ n before x xs w off full alone. network-between t h n before x off full xs (log _ w) alone;
-        atTick = λ n before x xs d w off full alone tick. network-at-tick t h n before x off full xs d (log _ w) alone tick;
+        recovers = λ n before x xs w falls. network-between t h n before x (falls .taken) (falls .full) xs (log _ w) (falls .alone);
+        atTick = λ n before x xs d w falls tick. network-at-tick t h n before x (falls .taken) (falls .full) xs d (log _ w) (falls .alone) tick;
+        atMost = λ n before x xs d w falls tick late. network-at-most t h n before x (falls .taken) (falls .full) xs d (log _ w) (falls .alone) tick late;
+        exactly = λ n before x xs d w falls tick unheard. network-exactly t h n before x (falls .taken) (falls .full) xs d (log _ w) (falls .alone)
+            tick unheard;
+        heardByOwner = λ n xs x w heard. heard-by-owner t h n (stateAfter (fresh t) xs) x (last xs x w) heard;
+        heard = λ n b xs x w e. heard-kept t h n b (stateAfter (fresh t) xs) x (last xs x w) (fit xs x w) e;
+        heardOnly = λ n b xs x w e. heard-only t h n b (stateAfter (fresh t) xs) x (last xs x w) (fit xs x w) e;
         asked = λ n b xs w. asked-from-fresh t h n b xs (log _ w);
         taken = λ n b xs x w. bus-off-exactly t h n b (stateAfter (fresh t) xs) x (last xs x w) (fit xs x w);
         shown = λ n b xs w. network-shows t h n b xs (log _ w);

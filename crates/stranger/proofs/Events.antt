@@ -16,11 +16,13 @@ use Rattle.rulebook.specs.State.{statusNone, statusPending, statusValidated, st
 use Rattle.rulebook.specs.Reasons.{mayShow}
 use Rattle.rulebook.specs.Lists.{Run, start, setPort, setNetwork}
 use Rattle.rulebook.specs.Events.{eventOwner, eventIndex, eventValue, only, request, setSource, moveSource, wake, validate, clear, shown, moveNetwork, takes}
-use Rattle.rulebook.specs.Events.{offBus, busOff, tickedNetwork, tickNetwork, tickSource, tickTimer, tickThings, markedIn, arbitrateMarked, tick, happen}
+use Rattle.rulebook.specs.Events.{offBus, busOff, listens, hearing, hear, tickedNetwork, tickNetwork, tickSource, tickTimer, tickThings}
+use Rattle.rulebook.specs.Events.{markedIn, arbitrateMarked, tick, happen}
 use Rattle.laws.specs.Facts.{Facts, Shows}
 use Rattle.laws.proofs.Tests.{split, clash, part-of}
 use Rattle.laws.proofs.Walks.{each-alike}
-use Rattle.laws.proofs.Happen.{Taken, Event, aTick, aMode, aRequest, aWakeup, aValid, aBusOff, aClear, event}
+use Rattle.laws.proofs.Happen.{Taken, OnSource, aWakeup, aValid, aClear, OnNetwork, aBusOff, aHeard}
+use Rattle.laws.proofs.Happen.{Event, aTick, aMode, aRequest, ofSource, ofNetwork, event}
 use Rattle.stranger.specs.View.{strangersWord, SameView}
 use Rattle.stranger.proofs.More.{pick, pick-both}
 use Rattle.stranger.proofs.View.{same-view-refl, same-view-trans, view-around, write-hidden, write-alike, port-word, network-word, source-word}
@@ -136,9 +138,23 @@ module _ (t : List ℕ) (f : Facts t) (o : ℕ) where
         by-word (networkIndex t n) (network-word t o n b)
         (λ u. choose (takes (networkOf u)) (move-network (offBus t n (min 255 (networkOf u .counter + 1)) (networkOf u))) stay)
 
+    heard : Confined t o (networkOwner t n) (λ s. hear t n s)
+    unfolding hear
+    heard =
+        by-word (networkIndex t n) (network-word t o n b) (λ u. choose (listens (networkOf u)) (move-network (hearing (networkOf u))) stay)
+
     tick-network : Confined t o (networkOwner t n) (λ s. tickNetwork t n s)
     unfolding tickNetwork
     tick-network = by-word (networkIndex t n) (network-word t o n b) (λ u. move-network (tickedNetwork t n (networkOf u)))
+
+  on-source : (e : ℕ) → eventIndex e < sources t → (g : List ℕ → List ℕ) → OnSource t e g → Confined t o (sourceOwner t (eventIndex e)) g
+  on-source e b g (aWakeup k) = wake-confined (eventIndex e) b
+  on-source e b g (aValid k) = validate-confined (eventIndex e) b
+  on-source e b g (aClear k) = clear-confined (eventIndex e) b
+
+  on-network : (e : ℕ) → eventIndex e < networks t → (g : List ℕ → List ℕ) → OnNetwork t e g → Confined t o (networkOwner t (eventIndex e)) g
+  on-network e b g (aBusOff k) = bus-off (eventIndex e) b
+  on-network e b g (aHeard k) = heard (eventIndex e) b
 
   module _ (p : ℕ) (b : p < ports t) where
     tick-timer : Confined t o (portOwner t p) (λ s. tickTimer t p s)
@@ -192,7 +208,5 @@ happen-confined t f o e w = go (λ s. happen t e s) (event t e w)
     go g (aTick k own) = rw own (tick-confined t f o)
     go g (aMode k of m free) = rw (of .owner) (request-confined t f o (eventIndex e) (of .there) (eventValue e))
     go g (aRequest k of m) = rw (of .owner) (request-confined t f o (eventIndex e) (of .there) 1)
-    go g (aWakeup k of) = rw (of .owner) (quiet (wake-confined t f o (eventIndex e) (of .there)))
-    go g (aValid k of) = rw (of .owner) (quiet (validate-confined t f o (eventIndex e) (of .there)))
-    go g (aBusOff k of) = rw (of .owner) (quiet (bus-off t f o (eventIndex e) (of .there)))
-    go g (aClear k of) = rw (of .owner) (quiet (clear-confined t f o (eventIndex e) (of .there)))
+    go g (ofSource k n of u c) = rw (of .owner) (quiet (on-source t f o e (of .there) u c))
+    go g (ofNetwork k of u c) = rw (of .owner) (quiet (on-network t f o e (of .there) u c))

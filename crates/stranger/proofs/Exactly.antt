@@ -1,29 +1,30 @@
--- A bus-off that is taken, and nothing else, makes a network recover; a wakeup on none or expired, and nothing else, makes a source
--- pending. Assumes nothing.
+-- A bus-off that is taken, and nothing else, makes a network recover; a heard that is taken, and nothing else, is heard; a wakeup on
+-- none or expired, and nothing else, makes a source pending. Assumes nothing.
 use mathlib.Core.Path.{_≡_, refl, sym, _∙_, ap}
 use mathlib.Core.Bool.{true, false, _&&_, _||_, not, and-false}
 use mathlib.Core.List.{List}
 use Prim.Native.Nat.{ℕ, _<_}
 use native.Mathlib.Omega.{arith}
-use lib.Dec.{leb, eqb}
-use borrow.Author.Tests.{eqb-true, eqb-false, eq-eqb, ne-eqb, le-leb}
+use lib.Dec.{eqb}
+use borrow.Author.Tests.{eqb-true, eqb-false, eq-eqb, ne-eqb, le-leb, not-true}
 use Rattle.rulebook.specs.Words.{word}
 use Rattle.rulebook.specs.Table.{networks, sources, timeout}
 use Rattle.rulebook.specs.Reasons.{accepted}
-use Rattle.rulebook.specs.State.{sourceIndex, Network, askedNone, askedSilent, askedFull, stateNone, stateSilent, stateCheck, stateRecover, statusOf}
+use Rattle.rulebook.specs.State.{sourceIndex, Network, stateRecover, statusOf}
 use Rattle.rulebook.specs.State.{statusNone, statusPending, statusValidated, statusExpired}
 use Rattle.rulebook.specs.Lists.{networkIn}
-use Rattle.rulebook.specs.Events.{eventKind, eventIndex, eventTick, eventWakeup, eventValid, eventBusOff, eventClear, statusIn, takes, offBus, countedNetwork}
-use Rattle.rulebook.specs.Events.{tickedNetwork}
-use Rattle.laws.proofs.Tests.{split, clash, and-right}
+use Rattle.rulebook.specs.Events.{eventKind, eventIndex, eventTick, eventWakeup, eventValid, eventBusOff, eventClear, statusIn, takes, offBus}
+use Rattle.rulebook.specs.Events.{eventHeard, listens, tickedNetwork}
+use Rattle.laws.proofs.Tests.{split, clash, and-left, and-right}
 use Rattle.laws.proofs.Facts.{facts}
 use Rattle.laws.proofs.Fields.{source-status}
 use Rattle.laws.proofs.FitKept.{Fits}
 use Rattle.stranger.specs.Logs.{Entry, Follows}
-use Rattle.stranger.specs.Demand.{busOffTaken, becomesPending}
+use Rattle.stranger.specs.Demand.{busOffTaken, hears, heardTaken, becomesPending}
 use Rattle.stranger.specs.Statements.{newly}
 use Rattle.stranger.proofs.Logs.{taken}
 use Rattle.stranger.proofs.Moves.{nextNetwork, network-moves, nextSource, tickedSource, wokenSource, validSource}
+use Rattle.stranger.proofs.Ticked.{ticked-cases}
 use Rattle.stranger.proofs.Wakeup.{next-own}
 
 newly-same : (v a : ℕ) → newly v a a ≡ false
@@ -38,21 +39,8 @@ newly-not v a b d = rw (ne-eqb b v d, and-false)
 
 -- The network.
 
-counted-recover : (t : List ℕ) (n : ℕ) (c : Network) → (c .state ≡ stateRecover → ⊥) → countedNetwork t n c .state ≡ stateRecover → ⊥
-unfolding countedNetwork
-counted-recover t n c d =
-    split (eqb (c .state) stateCheck)
-    (λ e. split (leb (c .remaining) 1) (λ g. rw (ne-eqb (c .state) stateRecover d, e, g) (λ z. omega arith))
-    (λ g. rw (ne-eqb (c .state) stateRecover d, e, g) (λ z. omega arith)))
-    (λ e. rw (ne-eqb (c .state) stateRecover d, e) d)
-
 ticked-recover : (t : List ℕ) (n : ℕ) (c : Network) → (c .state ≡ stateRecover → ⊥) → tickedNetwork t n c .state ≡ stateRecover → ⊥
-unfolding tickedNetwork
-ticked-recover t n c d =
-    split (eqb (c .asked) askedNone) (λ x. rw x (λ z. omega arith))
-    (λ x. split (eqb (c .asked) askedSilent && not (eqb (c .state) stateNone)) (λ y. rw (x, y) (λ z. omega arith))
-    (λ y. split (eqb (c .asked) askedFull && (eqb (c .state) stateNone || eqb (c .state) stateSilent)) (λ z. rw (x, y, z) (λ w. omega arith))
-    (λ z. rw (x, y, z) (counted-recover t n c d))))
+ticked-recover t n c d = ticked-cases t n c (λ x. x .state ≡ stateRecover → ⊥) (λ st k r from z. d (from z)) d
 
 takes-not-recover : (c : Network) → takes c ≡ true → c .state ≡ stateRecover → ⊥
 unfolding takes
@@ -75,7 +63,40 @@ bus-off-exactly t h n b s x f fit =
     (λ e. let off : c .state ≡ stateRecover → ⊥ = takes-not-recover c
     (and-right (eqb (eventKind (x .event)) eventBusOff && eqb (eventIndex (x .event)) n) _ e) in
     rw (d, e, ne-eqb (c .state) stateRecover off))
-    (λ e. rw (d, e) (sym (newly-same stateRecover (c .state))))))
+    (λ e. split (eqb (eventKind (x .event)) eventHeard && eqb (eventIndex (x .event)) n && listens c)
+    (λ g. rw (d, e, g) (sym (newly-same stateRecover (c .state)))) (λ g. rw (d, e, g) (sym (newly-same stateRecover (c .state)))))))
+
+ticked-unheard : (t : List ℕ) (n : ℕ) (c : Network) → (c .heard ≡ 1 → ⊥) → tickedNetwork t n c .heard ≡ 1 → ⊥
+ticked-unheard t n c d = ticked-cases t n c (λ x. x .heard ≡ 1 → ⊥) (λ st k r from z. omega arith) d
+
+-- A heard that is taken leaves it heard, and nothing else newly does.
+
+next-heard : (t : List ℕ) (h : accepted t ≡ true) (n : ℕ) (b : n < networks t) (s : List ℕ) (x : Entry) → Follows t s x → Fits t s
+    → networkIn t n (x .state) .heard ≡ nextNetwork t (facts t h) n b (x .event) s .heard
+next-heard t h n b s x f fit =
+    ap (λ (y : List ℕ). networkIn t n y .heard) (f .state) ∙ ap (λ (y : Network). y .heard) (network-moves t (facts t h) n b (x .event) s (taken f) fit .own)
+
+pub heard-kept : (t : List ℕ) (h : accepted t ≡ true) (n : ℕ) (b : n < networks t) (s : List ℕ) (x : Entry) → Follows t s x → Fits t s
+    → heardTaken t n s x ≡ true → networkIn t n (x .state) .heard ≡ 1
+unfolding heardTaken hears nextNetwork
+heard-kept t h n b s x f fit e =
+    let k = eqb-true (eventKind (x .event)) eventHeard (and-left _ (eqb (eventIndex (x .event)) n) (and-left _ (listens (networkIn t n s)) e)) in
+    next-heard t h n b s x f fit ∙ rw (e, k)
+
+pub heard-only : (t : List ℕ) (h : accepted t ≡ true) (n : ℕ) (b : n < networks t) (s : List ℕ) (x : Entry) → Follows t s x → Fits t s
+    → newly 1 (networkIn t n s .heard) (networkIn t n (x .state) .heard) ≡ true → heardTaken t n s x ≡ true
+unfolding heardTaken hears nextNetwork offBus
+heard-only t h n b s x f fit new =
+    let c = networkIn t n s in
+    let was : c .heard ≡ 1 → ⊥ = eqb-false _ _ (not-true _ (and-left (not (eqb (c .heard) 1)) _ new)) in
+    let is : nextNetwork t (facts t h) n b (x .event) s .heard ≡ 1 =
+    sym (next-heard t h n b s x f fit) ∙ eqb-true _ _ (and-right (not (eqb (c .heard) 1)) _ new) in
+    split (eqb (eventKind (x .event)) eventTick)
+    (λ d. absurd (ticked-unheard t n c was (rw d at is)))
+    (λ d. split (eqb (eventKind (x .event)) eventBusOff && eqb (eventIndex (x .event)) n && takes c)
+    (λ e. let z : 0 ≡ 1 = rw (d, e) at is in absurd (omega arith))
+    (λ e. split (eqb (eventKind (x .event)) eventHeard && eqb (eventIndex (x .event)) n && listens c) (λ g. g)
+    (λ g. absurd (was (rw (d, e, g) at is)))))
 
 -- The source.
 

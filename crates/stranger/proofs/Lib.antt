@@ -16,9 +16,11 @@ pub mod Arbitrated
 pub mod Asked
 pub mod Moves
 pub mod Shows
+pub mod Ticked
 pub mod AskedAfter
 pub mod Countdown
 pub mod Wakeup
 pub mod Exactly
+pub mod Heard
 pub mod NotEmpty
 pub mod Demand3

@@ -1,23 +1,25 @@
--- No stranger brings about, alters or keeps away a moment of a network or source: a bus-off taken, a request of another mode, a source
+-- No stranger brings about, alters or keeps away a moment of a network or source: a bus-off or heard taken, a request of another mode, a source
 -- woken, validated or cleared, a turn of state or status. Assumes nothing.
 use mathlib.Core.Path.{_≡_, refl, sym, _∙_, ap}
 use mathlib.Core.Bool.{true, false, and-false}
 use mathlib.Core.List.{List, []}
 use Prim.Native.Nat.{ℕ, _<_}
+use lib.Dec.{eqb}
 use borrow.Author.Tests.{eqb-true, eq-eqb}
 use Rattle.rulebook.specs.Words.{word}
 use Rattle.rulebook.specs.Table.{networks, networkOwner, networkPort, sources, sourceOwner, sourcePort}
 use Rattle.rulebook.specs.Reasons.{accepted}
 use Rattle.rulebook.specs.State.{networkIndex, sourceIndex, statusOf}
 use Rattle.rulebook.specs.Lists.{networkIn}
-use Rattle.rulebook.specs.Events.{eventIndex, statusIn}
+use Rattle.rulebook.specs.Events.{eventKind, eventOwner, eventIndex, eventHeard, statusIn}
 use Rattle.laws.specs.Sequence.{Each}
-use Rattle.laws.proofs.Tests.{split, clash, part-of}
+use Rattle.laws.proofs.Tests.{split, clash, part-of, and-left, and-right}
 use Rattle.laws.proofs.Facts.{facts}
 use Rattle.laws.proofs.FitEvents.{may-show}
-use Rattle.laws.proofs.Happen.{of-network, of-wakeup, of-ending}
+use Rattle.laws.proofs.Happen.{of-bus-off, of-heard, of-wakeup, of-ending}
 use Rattle.stranger.specs.Logs.{Entry, Follows, Log, strangersEntry, struckOut}
-use Rattle.stranger.specs.Demand.{busOffTaken, asksOther, anyWord, asksAnother, becomesPending, ended, networkMoment, sourceMoment, moments}
+use Rattle.stranger.specs.Demand.{busOffTaken, hears, heardTaken, asksOther, anyWord, asksAnother, becomesPending, ended}
+use Rattle.stranger.specs.Demand.{networkMoment, sourceMoment, moments}
 use Rattle.stranger.specs.View.{SameView, AsksOwn}
 use Rattle.stranger.proofs.Logs.{taken}
 use Rattle.stranger.proofs.View.{port-word, network-word, source-word}
@@ -28,6 +30,13 @@ use Rattle.stranger.proofs.AsksOwn.{happen-asks-own, asks-in-own-words}
 module _ (t : List ℕ) (h : accepted t ≡ true) where
   pub entry-asks-own : (s : List ℕ) (x : Entry) → Follows t s x → Each (AsksOwn t) (x .words)
   entry-asks-own s x f = rw (f .words) (happen-asks-own t (facts t h) (x .event) s)
+
+  -- a heard that is taken is the owner's
+  pub heard-by-owner : (n : ℕ) (s : List ℕ) (x : Entry) → Follows t s x → hears n x ≡ true → eventOwner (x .event) ≡ networkOwner t n
+  unfolding hears
+  heard-by-owner n s x f e =
+      of-heard t (x .event) (taken f) (eqb-true _ _ (and-left _ (eqb (eventIndex (x .event)) n) e)) .owner
+      ∙ ap (networkOwner t) (eqb-true _ _ (and-right (eqb (eventKind (x .event)) eventHeard) _ e))
 
   -- Network n, its owner o.
   module _ (n : ℕ) (b : n < networks t) where
@@ -46,10 +55,15 @@ module _ (t : List ℕ) (h : accepted t ≡ true) where
     unfolding busOffTaken strangersEntry
     strangers-bus-off s x f k =
         split (busOffTaken t n s x)
-        (λ e. let own = of-network t (x .event) (taken f) (eqb-true _ _ (part-of _ (λ d. rw (busOffTaken, d) at e))) .owner in
+        (λ e. let own = of-bus-off t (x .event) (taken f) (eqb-true _ _ (part-of _ (λ d. rw (busOffTaken, d) at e))) .owner in
         let here : eventIndex (x .event) ≡ n = eqb-true _ _ (part-of _ (λ d. rw (busOffTaken, d, and-false) at e)) in
         clash (rw (own ∙ ap (networkOwner t) here) at k) (self-known o))
         (λ e. e)
+
+    strangers-heard : (s : List ℕ) (x : Entry) → Follows t s x → strangersEntry o x ≡ true → heardTaken t n s x ≡ false
+    unfolding heardTaken strangersEntry
+    strangers-heard s x f k =
+        split (hears n x) (λ e. clash (rw (heard-by-owner n s x f e) at k) (self-known o)) (λ e. rw e)
 
     strangers-ask : (s : List ℕ) (x : Entry) → Follows t s x → strangersEntry o x ≡ true → asksAnother n x ≡ false
     unfolding asksAnother anyWord
@@ -59,11 +73,15 @@ module _ (t : List ℕ) (h : accepted t ≡ true) where
     unfolding networkMoment
     network-quiet j s x f k =
         let is = same-network (strangers-unseen t h o s x f k .state) in
-        rw (strangers-bus-off s x f k, strangers-ask s x f k, ← is, eq-eqb (networkIn t n s .state) (networkIn t n s .state) refl)
+        rw (strangers-bus-off s x f k, strangers-heard s x f k, strangers-ask s x f k, ← is, eq-eqb (networkIn t n s .state) (networkIn t n s .state) refl)
 
     bus-off-same : (s₁ s₂ : List ℕ) (x y : Entry) → SameView t o s₁ s₂ → SameSeen t o x y → busOffTaken t n s₁ x ≡ busOffTaken t n s₂ y
     unfolding busOffTaken
     bus-off-same s₁ s₂ x y v same = rw (same .event, same-network v)
+
+    heard-same : (s₁ s₂ : List ℕ) (x y : Entry) → SameView t o s₁ s₂ → SameSeen t o x y → heardTaken t n s₁ x ≡ heardTaken t n s₂ y
+    unfolding heardTaken hears
+    heard-same s₁ s₂ x y v same = rw (same .event, same-network v)
 
     ask-same : (s₁ s₂ : List ℕ) (x y : Entry) → Follows t s₁ x → Follows t s₂ y → SameSeen t o x y → asksAnother n x ≡ asksAnother n y
     unfolding asksAnother
@@ -74,7 +92,14 @@ module _ (t : List ℕ) (h : accepted t ≡ true) where
         → networkMoment t n j s₁ x ≡ networkMoment t n j s₂ y
     unfolding networkMoment
     network-alike j s₁ s₂ x y f g v same =
-        rw (bus-off-same s₁ s₂ x y v same, ask-same s₁ s₂ x y f g same, same-network v, same-network (same .state), same-shown (same .state))
+        rw (
+          bus-off-same s₁ s₂ x y v same,
+          heard-same s₁ s₂ x y v same,
+          ask-same s₁ s₂ x y f g same,
+          same-network v,
+          same-network (same .state),
+          same-shown (same .state),
+        )
 
     pub network-moments : (s₁ s₂ : List ℕ) (xs ys : List Entry) → Log t s₁ xs → Log t s₂ ys → SameView t o s₁ s₂ → struckOut o xs ≡ struckOut o ys → (j : ℕ)
         → moments (networkMoment t n) j s₁ xs ≡ moments (networkMoment t n) j s₂ ys

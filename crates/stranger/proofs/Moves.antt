@@ -4,7 +4,7 @@
 use mathlib.Core.Path.{_≡_, refl, sym, _∙_, ap}
 use mathlib.Core.Bool.{Bool, true, false, cond, _&&_, _||_}
 use mathlib.Core.List.{List}
-use Prim.Native.Nat.{ℕ, suc, _+_, _-_, _≤_, _<_, min}
+use Prim.Native.Nat.{ℕ, suc, _+_, _-_, _≤_, _<_}
 use native.Mathlib.Omega.{arith}
 use native.Mathlib.Nat.{mod-eq-of-lt}
 use lib.ListN.{length, set}
@@ -18,17 +18,19 @@ use Rattle.rulebook.specs.State.{statusValidated, statusExpired, packPort, pack
 use Rattle.rulebook.specs.Reasons.{held}
 use Rattle.rulebook.specs.Lists.{Run, setPort, networkIn, asking, setNetwork}
 use Rattle.rulebook.specs.Arbitration.{arbitrate}
-use Rattle.rulebook.specs.Events.{eventKind, eventIndex, eventValue, eventTick, eventWakeup, eventValid, eventBusOff, eventClear, only, request, statusIn}
-use Rattle.rulebook.specs.Events.{setSource, moveSource, wake, validate, clear, shown, moveNetwork, takes, offBus, busOff, tickedNetwork, tickNetwork}
-use Rattle.rulebook.specs.Events.{remainingIn, tickSource, tickThings, arbitrateMarked, tick, happen}
+use Rattle.rulebook.specs.Events.{eventKind, eventIndex, eventValue, eventTick, eventWakeup, eventValid, eventBusOff, eventClear, eventHeard, only, request}
+use Rattle.rulebook.specs.Events.{statusIn, setSource, moveSource, wake, validate, clear, shown, moveNetwork, takes, counterPlusOne, offBus, busOff, listens}
+use Rattle.rulebook.specs.Events.{hearing, hear, tickedNetwork, tickNetwork, remainingIn, tickSource, tickThings, arbitrateMarked, tick, happen}
 use Rattle.laws.specs.Facts.{Facts}
-use Rattle.laws.proofs.Tests.{split}
+use Rattle.laws.proofs.Tests.{split, or-none}
 use Rattle.laws.proofs.Walks.{each-keeps, each-at}
 use Rattle.laws.proofs.Fields.{digit-small, port-defined, port-value, source-status}
 use Rattle.laws.proofs.Fit.{NetworkOk, network-again, network-small, fits-length}
 use Rattle.laws.proofs.FitKept.{Fits, network-in}
-use Rattle.laws.proofs.FitEvents.{MayShow, things-fit, ticked-ok, off-bus-ok, shown-small, woken-ok, tick-network-fits, tick-source-fits, request-cases}
-use Rattle.laws.proofs.Happen.{wake-cases, validate-cases, bus-off-cases, Taken, OfPort, Event, aTick, aMode, aRequest, aWakeup, aValid, aBusOff, aClear, event}
+use Rattle.laws.proofs.FitEvents.{MayShow, things-fit, ticked-ok, off-bus-ok, hearing-ok, shown-small, woken-ok, tick-network-fits, tick-source-fits}
+use Rattle.laws.proofs.FitEvents.{request-cases, source-to, network-to}
+use Rattle.laws.proofs.Happen.{Taken, OfPort, ofNetworks, OnSource, aWakeup, aValid, aClear, OnNetwork, aBusOff, aHeard}
+use Rattle.laws.proofs.Happen.{Event, aTick, aMode, aRequest, ofSource, ofNetwork, event}
 use Rattle.stranger.proofs.Holders.{Holder, network-holder, source-holder, Cells, cells-refl, cells-write, other-network, other-source}
 use Rattle.stranger.proofs.Holders.{other-tick-network, other-tick-source, timers-keep}
 use Rattle.stranger.proofs.Arbitrated.{port-still, source-still, Core, network-still}
@@ -146,13 +148,14 @@ abbrev pub shownBy : Network → ℕ
 shownBy c = shown (c .state)
 
 core-path : (a b : Network) → Core a b → asking 0 a ≡ asking 0 b
-core-path a b k j = record { asked = 0; state = k .state j; counter = k .counter j; remaining = k .remaining j }
+core-path a b k j = record { asked = 0; state = k .state j; counter = k .counter j; heard = k .heard j; remaining = k .remaining j }
 
 pub network-held : (t : List ℕ) → Facts t → (n : ℕ) → n < networks t → LeftAlone t (networkIndex t n) (networkPort t n) coreOf
 network-held t f n b =
     record {
       holder = network-holder t f n b;
-      still = λ q s fit. core-path _ _ (network-still t f n (networkIn t n s) b q s fit (record { state = refl; counter = refl; remaining = refl }));
+      still = λ q s fit. core-path _ _
+          (network-still t f n (networkIn t n s) b q s fit (record { state = refl; counter = refl; heard = refl; remaining = refl }));
     }
 
 -- the network's word, whether or not its port is written after it
@@ -209,13 +212,15 @@ module _ (t : List ℕ) (f : Facts t) (n : ℕ) (b : n < networks t) where
   nextNetwork e s =
       cond (eqb (eventKind e) eventTick) (tickedNetwork t n (networkIn t n s))
       (cond (eqb (eventKind e) eventBusOff && eqb (eventIndex e) n && takes (networkIn t n s))
-      (offBus t n (min 255 (networkIn t n s .counter + 1)) (networkIn t n s))
-      (networkIn t n s))
+      (offBus t n (counterPlusOne (networkIn t n s)) (networkIn t n s))
+      (cond (eqb (eventKind e) eventHeard && eqb (eventIndex e) n && listens (networkIn t n s)) (hearing (networkIn t n s))
+      (networkIn t n s)))
 
-  quiet : (e : ℕ) (s s′ : List ℕ) → (eventKind e ≡ eventTick → ⊥) → (eventKind e ≡ eventBusOff → ⊥) → NetworkMoves (networkIn t n s) s s′
+  quiet : (e : ℕ) (s s′ : List ℕ) → (eventKind e ≡ eventTick → ⊥) → ofNetworks e ≡ false → NetworkMoves (networkIn t n s) s s′
       → NetworkMoves (nextNetwork e s) s s′
   unfolding nextNetwork
-  quiet e s s′ a c m = rw (ne-eqb _ _ a, ne-eqb _ _ c) m
+  quiet e s s′ a c m =
+      let others = or-none (eqb (eventKind e) eventBusOff) (eqb (eventKind e) eventHeard) c in rw (ne-eqb _ _ a, others .0, others .1) m
 
   network-by-source : (k status r : ℕ) (s : List ℕ) → k < sources t → NetworkMoves (networkIn t n s) s (moveSource t k status r s)
   network-by-source k status r s c = by-source t f _ _ coreOf shownBy held-network k status r s c (λ z. omega arith)
@@ -223,26 +228,27 @@ module _ (t : List ℕ) (f : Facts t) (n : ℕ) (b : n < networks t) where
   network-by-nothing : (s : List ℕ) → NetworkMoves (networkIn t n s) s s
   network-by-nothing s = by-nothing t f _ _ coreOf shownBy held-network s
 
-  network-by-wake : (k : ℕ) (s : List ℕ) → k < sources t → NetworkMoves (networkIn t n s) s (wake t k s)
-  network-by-wake k s c = wake-cases (NetworkMoves (networkIn t n s) s) t k s (λ status r. network-by-source k status r s c) (network-by-nothing s)
-
-  network-by-valid : (k : ℕ) (s : List ℕ) → k < sources t → NetworkMoves (networkIn t n s) s (validate t k s)
-  network-by-valid k s c = validate-cases (NetworkMoves (networkIn t n s) s) t k s (λ status r. network-by-source k status r s c) (network-by-nothing s)
-
-  network-by-bus-off : (e : ℕ) (s : List ℕ) → eventKind e ≡ eventBusOff → eventIndex e < networks t → Fits t s
-      → NetworkMoves (nextNetwork e s) s (busOff t (eventIndex e) s)
-  unfolding nextNetwork busOff
-  network-by-bus-off e s k c fit =
-      split (eqb (eventIndex e) n)
-      (λ a. let same : eventIndex e ≡ n = eqb-true _ _ a in
-      split (takes (networkIn t n s))
-      (λ d. rw (k, same, eq-eqb n n refl, d)
-      (network-moved _ s s fit (off-bus-ok t f n _ _ b (network-in t s fit n b) (omega arith) (omega arith)) (cells-refl _ _ s)))
-      (λ d. rw (k, same, eq-eqb n n refl, d) (network-by-nothing s)))
-      (λ a. let differ : (eventIndex e ≡ n → ⊥) = eqb-false _ _ a in
-      rw (k, a) (split (takes (networkIn t (eventIndex e) s))
-      (λ d. rw d (by-network t f _ _ coreOf shownBy held-network (eventIndex e) _ s c (λ z. differ (omega arith))))
+  -- an event of network m moves it where a test says so
+  network-by-own : (test : Network → Bool) (next : ℕ → Network → Network) (m : ℕ) (s : List ℕ) → m < networks t → Fits t s
+      → (test (networkIn t n s) ≡ true → NetworkOk t n (next n (networkIn t n s)))
+      → NetworkMoves (cond (eqb m n && test (networkIn t n s)) (next n (networkIn t n s)) (networkIn t n s)) s
+      (cond (test (networkIn t m s)) (moveNetwork t m (next m (networkIn t m s)) s) s)
+  network-by-own test next m s c fit ok =
+      split (eqb m n)
+      (λ a. rw (eqb-true m n a, eq-eqb n n refl)
+      (split (test (networkIn t n s)) (λ d. rw d (network-moved _ s s fit (ok d) (cells-refl _ _ s))) (λ d. rw d (network-by-nothing s))))
+      (λ a. rw a (split (test (networkIn t m s))
+      (λ d. let differ = eqb-false m n a in rw d (by-network t f _ _ coreOf shownBy held-network m _ s c (λ z. differ (omega arith))))
       (λ d. rw d (network-by-nothing s))))
+
+  network-by-network : (e : ℕ) (s : List ℕ) → eventIndex e < networks t → Fits t s → (g : List ℕ → List ℕ) → OnNetwork t e g
+      → NetworkMoves (nextNetwork e s) s (g s)
+  unfolding nextNetwork busOff hear
+  network-by-network e s c fit g (aBusOff k) =
+      rw k (network-by-own takes (λ m x. offBus t m (counterPlusOne x) x) (eventIndex e) s c fit
+      (λ d. off-bus-ok t f n _ _ b (network-in t s fit n b) (omega arith) (omega arith)))
+  network-by-network e s c fit g (aHeard k) =
+      rw k (network-by-own listens (λ m x. hearing x) (eventIndex e) s c fit (λ d. hearing-ok t f n _ (network-in t s fit n b) d))
 
   pub network-moves : (e : ℕ) (s : List ℕ) → Taken t e → Fits t s → NetworkMoves (nextNetwork e s) s (happen t e s .state)
   network-moves e s w fit = go (happen t e) (event t e w)
@@ -251,12 +257,12 @@ module _ (t : List ℕ) (f : Facts t) (n : ℕ) (b : n < networks t) where
       go g (aTick k o) =
           unfold nextNetwork tick arbitrateMarked in
           rw k (then-still t f _ _ coreOf shownBy held-network _ _ s _ (things-fit t f s fit) (things-move s fit))
-      go g (aMode k of m free) = quiet e s _ (λ z. omega arith) (λ z. omega arith) (by-mode-request t f _ _ coreOf shownBy held-network e s of m free fit)
-      go g (aRequest k of m) = quiet e s _ (λ z. omega arith) (λ z. omega arith) (by-event-request t f _ _ coreOf shownBy held-network e s of m fit)
-      go g (aWakeup k of) = quiet e s _ (λ z. omega arith) (λ z. omega arith) (network-by-wake (eventIndex e) s (of .there))
-      go g (aValid k of) = quiet e s _ (λ z. omega arith) (λ z. omega arith) (network-by-valid (eventIndex e) s (of .there))
-      go g (aBusOff k of) = network-by-bus-off e s k (of .there) fit
-      go g (aClear k of) = unfold clear in quiet e s _ (λ z. omega arith) (λ z. omega arith) (network-by-source (eventIndex e) _ _ s (of .there))
+      go g (aMode k of m free) = quiet e s _ (λ z. omega arith) (rw k) (by-mode-request t f _ _ coreOf shownBy held-network e s of m free fit)
+      go g (aRequest k of m) = quiet e s _ (λ z. omega arith) (rw k) (by-event-request t f _ _ coreOf shownBy held-network e s of m fit)
+      go g (ofSource k free of u c) =
+          quiet e s _ (λ z. omega arith) free (source-to t f (NetworkMoves (networkIn t n s) s) e s u c
+          (λ status r ok. network-by-source (eventIndex e) status r s (of .there)) (network-by-nothing s))
+      go g (ofNetwork k of u c) = network-by-network e s (of .there) fit u c
 
 -- Source k. Arbitration leaves its word alone.
 
@@ -344,40 +350,33 @@ module _ (t : List ℕ) (f : Facts t) (k : ℕ) (b : k < sources t) where
   other-index : (m : ℕ) → (m ≡ k → ⊥) → sourceIndex t m ≡ sourceIndex t k → ⊥
   other-index m d z = d (omega arith)
 
-  source-by-wake : (m : ℕ) (s : List ℕ) → m < sources t → Fits t s
-      → SourceMoves (cond (eqb m k) (wokenSource (word s (sourceIndex t k))) (word s (sourceIndex t k))) s (wake t m s)
-  unfolding wake wokenSource
-  source-by-wake m s c fit =
+  -- an event of source m moves it where a test says so
+  source-by-own : (test : ℕ → Bool) (status r : ℕ → ℕ) (m : ℕ) (s : List ℕ) → m < sources t → Fits t s → status k < 4
+      → SourceMoves (cond (eqb m k) (cond (test (word s (sourceIndex t k))) (packSource (status k) (r k)) (word s (sourceIndex t k)))
+      (word s (sourceIndex t k))) s
+      (cond (test (word s (sourceIndex t m))) (moveSource t m (status m) (r m) s) s)
+  source-by-own test status r m s c fit small =
       split (eqb m k)
-      (λ a. let same : m ≡ k = eqb-true _ _ a in rw (a, same)
-      (split (eqb (statusIn t k s) statusNone || eqb (statusIn t k s) statusExpired)
-      (λ e. rw e (source-moved _ _ s s fit (woken-ok t f k .status₂) (cells-refl _ _ s))) (λ e. rw e (source-by-nothing s))))
-      (λ a. rw a (wake-cases (SourceMoves (word s (sourceIndex t k)) s) t m s
-      (λ status r. by-source t f _ _ wordOf _ held-source m status r s c (other-index m (eqb-false _ _ a))) (source-by-nothing s)))
+      (λ a. rw (eqb-true m k a, eq-eqb k k refl)
+      (split (test (word s (sourceIndex t k))) (λ d. rw d (source-moved _ _ s s fit small (cells-refl _ _ s))) (λ d. rw d (source-by-nothing s))))
+      (λ a. rw a (split (test (word s (sourceIndex t m)))
+      (λ d. rw d (by-source t f _ _ wordOf _ held-source m _ _ s c (other-index m (eqb-false _ _ a)))) (λ d. rw d (source-by-nothing s))))
 
-  source-by-valid : (m : ℕ) (s : List ℕ) → m < sources t → Fits t s
-      → SourceMoves (cond (eqb m k) (validSource (word s (sourceIndex t k))) (word s (sourceIndex t k))) s (validate t m s)
-  unfolding validate validSource
-  source-by-valid m s c fit =
-      split (eqb m k)
-      (λ a. let same : m ≡ k = eqb-true _ _ a in rw (a, same)
-      (split (eqb (statusIn t k s) statusPending) (λ e. rw e (source-moved statusValidated 0 s s fit (omega arith) (cells-refl _ _ s)))
-      (λ e. rw e (source-by-nothing s))))
-      (λ a. rw a (validate-cases (SourceMoves (word s (sourceIndex t k)) s) t m s
-      (λ status r. by-source t f _ _ wordOf _ held-source m status r s c (other-index m (eqb-false _ _ a))) (source-by-nothing s)))
+  source-by-source : (e : ℕ) (s : List ℕ) → eventIndex e < sources t → Fits t s → (g : List ℕ → List ℕ) → OnSource t e g
+      → SourceMoves (nextSource e s) s (g s)
+  unfolding nextSource wake wokenSource validate validSource clear
+  source-by-source e s c fit g (aWakeup z) =
+      rw z (source-by-own (λ w. eqb (statusOf w) statusNone || eqb (statusOf w) statusExpired)
+      (λ m. cond (eqb (timeout t m) 0) statusValidated statusPending) (timeout t) (eventIndex e) s c fit (woken-ok t f k .status₂))
+  source-by-source e s c fit g (aValid z) =
+      rw z (source-by-own (λ w. eqb (statusOf w) statusPending) (λ m. statusValidated) (λ m. 0) (eventIndex e) s c fit (omega arith))
+  source-by-source e s c fit g (aClear z) = rw z (source-by-own (λ w. true) (λ m. statusNone) (λ m. 0) (eventIndex e) s c fit (omega arith))
 
-  source-by-clear : (m : ℕ) (s : List ℕ) → m < sources t → Fits t s
-      → SourceMoves (cond (eqb m k) (packSource statusNone 0) (word s (sourceIndex t k))) s (clear t m s)
-  unfolding clear
-  source-by-clear m s c fit =
-      split (eqb m k)
-      (λ a. let same : m ≡ k = eqb-true _ _ a in rw (a, same) (source-moved statusNone 0 s s fit (omega arith) (cells-refl _ _ s)))
-      (λ a. rw a (by-source t f _ _ wordOf _ held-source m _ _ s c (other-index m (eqb-false _ _ a))))
-
-  source-by-bus-off : (n : ℕ) (s : List ℕ) → n < networks t → SourceMoves (word s (sourceIndex t k)) s (busOff t n s)
-  source-by-bus-off n s c =
-      bus-off-cases (SourceMoves (word s (sourceIndex t k)) s) t n s (λ d. by-network t f _ _ wordOf _ held-source n d s c (λ z. omega arith))
-      (source-by-nothing s)
+  -- an event of a network is none of the source's
+  next-still : (e : ℕ) (s : List ℕ) (g : List ℕ → List ℕ) → OnNetwork t e g → nextSource e s ≡ word s (sourceIndex t k)
+  unfolding nextSource
+  next-still e s g (aBusOff z) = rw z
+  next-still e s g (aHeard z) = rw z
 
   pub source-moves : (e : ℕ) (s : List ℕ) → Taken t e → Fits t s → SourceMoves (nextSource e s) s (happen t e s .state)
   source-moves e s w fit = go (happen t e) (event t e w)
@@ -388,7 +387,7 @@ module _ (t : List ℕ) (f : Facts t) (k : ℕ) (b : k < sources t) where
           rw z (then-still t f _ _ wordOf _ held-source _ _ s _ (things-fit t f s fit) (source-things-move s fit))
       go g (aMode z of m free) = unfold nextSource in rw z (by-mode-request t f _ _ wordOf _ held-source e s of m free fit)
       go g (aRequest z of m) = unfold nextSource in rw z (by-event-request t f _ _ wordOf _ held-source e s of m fit)
-      go g (aWakeup z of) = unfold nextSource in rw z (source-by-wake (eventIndex e) s (of .there) fit)
-      go g (aValid z of) = unfold nextSource in rw z (source-by-valid (eventIndex e) s (of .there) fit)
-      go g (aBusOff z of) = unfold nextSource in rw z (source-by-bus-off (eventIndex e) s (of .there))
-      go g (aClear z of) = unfold nextSource in rw z (source-by-clear (eventIndex e) s (of .there) fit)
+      go g (ofSource z free of u c) = source-by-source e s (of .there) fit u c
+      go g (ofNetwork z of u c) =
+          rw (next-still e s u c) (network-to t f (SourceMoves (word s (sourceIndex t k)) s) e s u c (of .there) fit
+          (λ x ok same. by-network t f _ _ wordOf _ held-source (eventIndex e) x s (of .there) (λ y. omega arith)) (source-by-nothing s))

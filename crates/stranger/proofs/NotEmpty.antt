@@ -1,16 +1,18 @@
--- The demand is not empty: on every accepted table the owner's wakeup of each source and the owner's bus-off of each network are
--- refused by none of answers 4 to 6. Assumes nothing.
+-- The demand is not empty: on every accepted table the owner's wakeup of each source and the owner's bus-off and heard of each network
+-- are refused by none of answers 4 to 6. Assumes nothing.
 use mathlib.Core.Path.{_≡_, refl}
-use mathlib.Core.Bool.{true}
+use mathlib.Core.Bool.{true, _||_}
 use mathlib.Core.List.{List}
-use Prim.Native.Nat.{ℕ, _<_}
+use Prim.Native.Nat.{ℕ, _≤_, _<_}
 use native.Mathlib.Omega.{arith}
-use borrow.Author.Tests.{lt-ltb, eq-eqb}
+use lib.Dec.{eqb}
+use borrow.Author.Tests.{lt-ltb, le-leb, eq-eqb, ne-eqb}
 use Rattle.rulebook.specs.Words.{digit}
 use Rattle.rulebook.specs.Table.{networks, networkOwner, sources, sourceOwner}
 use Rattle.rulebook.specs.Reasons.{accepted}
 use Rattle.rulebook.specs.State.{ownerOf}
-use Rattle.rulebook.specs.Events.{eventKind, eventOwner, eventIndex, eventValue, eventZero, eventWakeup, eventBusOff}
+use Rattle.rulebook.specs.Events.{eventKind, eventOwner, eventIndex, eventValue, eventZero, eventTick, eventMode, eventRequest, eventWakeup, eventBusOff}
+use Rattle.rulebook.specs.Events.{eventHeard, highestKind}
 use Rattle.rulebook.specs.Step.{wellFormed, named, present, suited, known, sentByOwner, refusedEvent}
 use Rattle.laws.proofs.Facts.{facts}
 use Rattle.laws.proofs.Fields.{digit-small}
@@ -53,17 +55,29 @@ module _ (t : List ℕ) (h : accepted t ≡ true) where
         eq-eqb o o refl,
       )
 
-  pub bus-off-known : (n : ℕ) → n < networks t → refusedEvent t (ownersEvent eventBusOff (networkOwner t n) n) ≡ 0
+  -- an event of a network, its kind one of two
+  network-known : (kind : ℕ) → eventWakeup ≤ kind → kind ≤ highestKind → (eqb kind eventBusOff || eqb kind eventHeard) ≡ true → (n : ℕ) → n < networks t
+      → refusedEvent t (ownersEvent kind (networkOwner t n) n) ≡ 0
   unfolding refusedEvent wellFormed known named present suited sentByOwner ownerOf
-  bus-off-known n b =
+  network-known kind low high of n b =
       let few = facts t h .counts .networks in let o = networkOwner t n in
       rw (
-        kind-is eventBusOff o n (omega arith),
-        value-is eventBusOff o n,
-        zeros-are eventBusOff o n,
-        index-is eventBusOff o n (omega arith),
-        lt-ltb n
-            (networks t) b,
-        owner-is eventBusOff o n (digit-small _ 16 _ (omega arith)),
+        kind-is kind o n (omega arith),
+        le-leb kind highestKind high,
+        ne-eqb kind eventTick (λ z. omega arith),
+        ne-eqb kind eventMode (λ z. omega arith),
+        ne-eqb kind eventRequest (λ z. omega arith),
+        of,
+        value-is kind o n,
+        zeros-are kind o n,
+        index-is kind o n (omega arith),
+        lt-ltb n (networks t) b,
+        owner-is kind o n (digit-small _ 16 _ (omega arith)),
         eq-eqb o o refl,
       )
+
+  pub bus-off-known : (n : ℕ) → n < networks t → refusedEvent t (ownersEvent eventBusOff (networkOwner t n) n) ≡ 0
+  bus-off-known = network-known eventBusOff (omega arith) (omega arith) refl
+
+  pub heard-known : (n : ℕ) → n < networks t → refusedEvent t (ownersEvent eventHeard (networkOwner t n) n) ≡ 0
+  heard-known = network-known eventHeard (omega arith) (omega arith) refl

@@ -2,15 +2,15 @@
 use mathlib.Core.Path.{_≡_}
 use mathlib.Core.Bool.{Bool, true, false, cond, _&&_, _||_, not}
 use mathlib.Core.List.{List, [], _∷_, _++_}
-use Prim.Native.Nat.{ℕ, _+_, _-_, _≤_, _<_}
+use Prim.Native.Nat.{ℕ, suc, _+_, _-_, _≤_, _<_, min}
 use lib.Dec.{leb, eqb}
 use Rattle.rulebook.specs.Words.{word, inField}
 use Rattle.rulebook.specs.Table.{networkPort, eTicks, sourcePort, timeout, itemAsk}
 use Rattle.rulebook.specs.State.{sourceIndex, definedOf, valueOf, remainingOf, askedFull, stateCheck, stateFull, stateRecover}
 use Rattle.rulebook.specs.State.{statusNone, statusPending, statusValidated, statusExpired}
 use Rattle.rulebook.specs.Lists.{networkIn}
-use Rattle.rulebook.specs.Events.{eventKind, eventIndex, eventTick, eventWakeup, eventValid, eventBusOff, eventClear}
-use Rattle.rulebook.specs.Events.{statusIn, shown, takes, counterPlusOne, wait}
+use Rattle.rulebook.specs.Events.{eventKind, eventIndex, eventTick, eventWakeup, eventValid, eventBusOff, eventClear, eventHeard}
+use Rattle.rulebook.specs.Events.{statusIn, shown, takes, counterPlusOne, wait, listens}
 use Rattle.stranger.specs.Logs.{Entry, stateAfter}
 use Rattle.stranger.specs.View.{traceKind, traceA, traceB}
 
@@ -31,6 +31,13 @@ shows t n s = valueOf (word s (networkPort t n))
 -- a bus-off of n is taken: it makes n recover
 unfoldable pub busOffTaken : List ℕ → ℕ → List ℕ → Entry → Bool
 busOffTaken t n s x = eqb (eventKind (x .event)) eventBusOff && eqb (eventIndex (x .event)) n && takes (networkIn t n s)
+
+-- Q-8: an entry's event is a heard of n; it is taken if n is in check
+unfoldable pub hears : ℕ → Entry → Bool
+hears n x = eqb (eventKind (x .event)) eventHeard && eqb (eventIndex (x .event)) n
+
+unfoldable pub heardTaken : List ℕ → ℕ → List ℕ → Entry → Bool
+heardTaken t n s x = hears n x && listens (networkIn t n s)
 
 -- the wait that a bus-off taken in state s loads
 abbrev pub loaded : List ℕ → ℕ → List ℕ → ℕ
@@ -65,11 +72,26 @@ unfoldable pub leftAlone : List ℕ → ℕ → List ℕ → List Entry → Bool
 leftAlone t n s [] = true
 leftAlone t n s (x ∷ xs) = not (busOffTaken t n s x) && not (asksAnother n x) && leftAlone t n (x .state) xs
 
--- where n is after the k-th tick: recovering until the L-th, checking for E ticks, then settled
-pub record Phase (t : List ℕ) (n L k : ℕ) (s : List ℕ) : Type 0 where
+-- n is heard when k ticks have passed, from the L-th on; one before it is lost
+unfoldable pub heardFrom : ℕ → ℕ → ℕ → Entry → Bool
+heardFrom n L k x = hears n x && leb L k
+
+-- The tick at which n is settled, k ticks having passed before these entries: h + 1, with h the number of ticks at the first heard of
+-- n from the L-th tick on, or `latest`, whichever comes first.
+unfoldable pub settlesAt : ℕ → ℕ → ℕ → ℕ → List Entry → ℕ
+settlesAt n L latest k [] = latest
+settlesAt n L latest k (x ∷ xs) = cond (heardFrom n L k x) (min (suc k) latest) (settlesAt n L latest (cond (ticks x) 1 0 + k) xs)
+
+-- nothing was heard from the L-th tick on
+unfoldable pub nothingHeard : ℕ → ℕ → ℕ → List Entry → Bool
+nothingHeard n L k [] = true
+nothingHeard n L k (x ∷ xs) = not (heardFrom n L k x) && nothingHeard n L (cond (ticks x) 1 0 + k) xs
+
+-- where n is after the k-th tick: recovering until the L-th, checking until the D-th, then settled
+pub record Phase (t : List ℕ) (n L D k : ℕ) (s : List ℕ) : Type 0 where
   pub recovering : k < L → (networkIn t n s .state ≡ stateRecover) × (networkIn t n s .remaining ≡ L - k) × (shows t n s ≡ 3)
-  pub checking : L ≤ k → k < L + eTicks t n → (networkIn t n s .state ≡ stateCheck) × (networkIn t n s .remaining ≡ L + eTicks t n - k) × (shows t n s ≡ 2)
-  pub settled : L + eTicks t n ≤ k → (networkIn t n s .state ≡ stateFull) × (shows t n s ≡ 2)
+  pub checking : L ≤ k → k < D → (networkIn t n s .state ≡ stateCheck) × (networkIn t n s .remaining ≡ L + eTicks t n - k) × (shows t n s ≡ 2)
+  pub settled : D ≤ k → (networkIn t n s .state ≡ stateFull) × (shows t n s ≡ 2)
 
 -- The source. T is its timeout.
 
@@ -105,8 +127,9 @@ endStatus x = cond (eqb (eventKind (x .event)) eventValid) statusValidated statu
 -- Moments: what happens to a network or a source, each with the number of the tick, counted from the log's start, at or after which
 -- it happens.
 pub data Moment : Type 0 where
-  -- a bus-off of the network is taken, which loads a wait; a list asks it for another mode than full
+  -- a bus-off of the network is taken, which loads a wait; a heard of it is taken; a list asks it for another mode than full
   busOffAt : (tick wait : ℕ) → Moment
+  heardAt : (tick : ℕ) → Moment
   askedAt : (tick : ℕ) → Moment
   -- the source becomes pending; it is validated or cleared
   pendingAt : (tick : ℕ) → Moment
@@ -121,6 +144,7 @@ when b m = cond b (m ∷ []) []
 unfoldable pub networkMoment : List ℕ → ℕ → ℕ → List ℕ → Entry → List Moment
 networkMoment t n k s x =
     when (busOffTaken t n s x) (busOffAt k (loaded t n s))
+    ++ when (heardTaken t n s x) (heardAt k)
     ++ when (asksAnother n x) (askedAt k)
     ++ when (not (eqb (networkIn t n (x .state) .state) (networkIn t n s .state))) (turnsAt k (networkIn t n (x .state) .state) (shows t n (x .state)))
 
@@ -152,7 +176,7 @@ pub record PortShows (p : ℕ) (look : List ℕ → ℕ) (s : List ℕ) (xs : Li
   pub value : valueOf (word (stateAfter s xs) p) ≡ look (stateAfter s xs)
   pub defined : definedOf (word (stateAfter s xs) p) ≡ cond (changes look s xs) 1 0
 
--- Event words, for what their owner can always bring about: a wakeup of source k, a bus-off of network n.
+-- Event words, for what their owner can always bring about: a wakeup of source k, a bus-off and a heard of network n.
 
 unfoldable pub ownersEvent : ℕ → ℕ → ℕ → ℕ
 ownersEvent kind o i = inField 0 4 kind + inField 4 4 o + inField 8 8 i

@@ -1,3 +1,2 @@
 -- Laws that belong to no one function.
 pub mod Requests
-pub mod Changes

@@ -1,3 +1,2 @@
 -- What the contracts of the things cite beside the rulebook.
 pub mod Requests
-pub mod Changes

@@ -1,10 +1,9 @@
-// What requests, wakeups, bus-offs and ticks do to the lent state: everything but arbitration.
+// What requests, wakeups, bus-offs, traffic heard and ticks do to the lent state: everything but arbitration.
 ghost use mathlib.Core.Path.{_≡_};
 ghost use Rattle.rulebook.specs.Words.{each};
 ghost use Rattle.rulebook.specs.Table.{ports as portsOf, networks as networksOf, sources as sourcesOf};
-ghost use Rattle.rulebook.specs.Events.{tickNetwork, tickSource, tickTimer, tickThings};
+ghost use Rattle.rulebook.specs.Events.{tickNetwork, tickSource, tickTimer, tickThings, changed};
 ghost use Rattle.words.specs.Sections.{Laid};
-ghost use Rattle.things.specs.Changes.{changed};
 use words::sections::Layout;
 
 pub mod networks;
@@ -66,6 +65,7 @@ pub fn change(t: &[u32], h: Layout, s: &mut [u32], kind: u32, i: u32)
         3 => sources::wake(t, h, s, i),
         4 => sources::validate(t, h, s, i),
         5 => networks::bus_off(t, h, s, i),
-        _ => sources::clear(t, h, s, i),
+        6 => sources::clear(t, h, s, i),
+        _ => networks::hear(t, h, s, i),
     }
 }

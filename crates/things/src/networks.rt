@@ -1,7 +1,8 @@
-// Networks: what a bus-off, a tick and a request for a mode do to one. A network is handed on by value, by its named fields.
+// Networks: what a bus-off, traffic heard and a tick do to one. A network is handed on by value, by its named fields.
 ghost use mathlib.Core.Path.{_≡_};
 ghost use Rattle.rulebook.specs.Events.{shown as shownOf, moved as movedOf, moveNetwork, takes as takesOf, wait as waitOf, offBus};
-ghost use Rattle.rulebook.specs.Events.{counterPlusOne, busOff, countedNetwork, tickedNetwork, tickNetwork};
+ghost use Rattle.rulebook.specs.Events.{counterPlusOne, busOff, listens as listensOf, hearing as hearingOf, hear as hearOf};
+ghost use Rattle.rulebook.specs.Events.{countedNetwork, tickedNetwork, tickNetwork};
 ghost use Rattle.words.specs.Sections.{Laid};
 ghost use Rattle.words.specs.State.{networkAs};
 use words::numbers::ASKED_FULL;
@@ -20,7 +21,7 @@ use words::state::network_in;
 use words::state::set_network;
 use words::state::set_port;
 
-// The same network in another state; what it is asked for stays.
+// The same network in another state; what it is asked for stays, and nothing heard does.
 fn moved(state: u32, counter: u32, remaining: u32, c: Network) -> Network
     ensures { λ r. ⌜ networkAs r ≡ movedOf state counter remaining (networkAs c) ⌝ }
 {
@@ -28,6 +29,7 @@ fn moved(state: u32, counter: u32, remaining: u32, c: Network) -> Network
         asked: c.asked,
         state,
         counter,
+        heard: 0,
         remaining,
     }
 }
@@ -111,7 +113,38 @@ pub fn bus_off(t: &[u32], h: Layout, s: &mut [u32], n: u32)
     }
 }
 
-// Recover and check count down; at 0 recover becomes check with E-ticks, check becomes full with counter 0.
+// Whether a network takes note of traffic: in check alone.
+fn listens(c: Network) -> bool
+    ensures { λ r. ⌜ r ≡ listensOf (networkAs c) ⌝ }
+{
+    c.state == STATE_CHECK
+}
+
+// The same network, heard.
+fn hearing(c: Network) -> Network
+    ensures { λ r. ⌜ networkAs r ≡ hearingOf (networkAs c) ⌝ }
+{
+    Network {
+        asked: c.asked,
+        state: c.state,
+        counter: c.counter,
+        heard: 1,
+        remaining: c.remaining,
+    }
+}
+
+pub fn hear(t: &[u32], h: Layout, s: &mut [u32], n: u32)
+    requires { ⌜ Laid (now t) h ⌝ }
+    ensures { λ _. ⌜ now (s .exit) ≡ hearOf (now (t .entry)) n (now (s .entry)) ⌝ }
+{
+    let c = network_in(t, h, s, n);
+    if listens(c) {
+        let heard = hearing(c);
+        move_network(t, h, s, n, heard);
+    }
+}
+
+// Recover and check count down; at 0, or heard, check becomes full with counter 0; at 0 recover becomes check with E-ticks.
 fn counted_network(t: &[u32], h: Layout, n: u32, c: Network) -> Network
     requires { ⌜ Laid (now t) h ⌝ }
     ensures { λ r. ⌜ networkAs r ≡ countedNetwork (now (t .entry)) n (networkAs c) ⌝ }
@@ -126,7 +159,8 @@ fn counted_network(t: &[u32], h: Layout, n: u32, c: Network) -> Network
         return moved(STATE_RECOVER, c.counter, remaining - 1, c);
     }
     if state == STATE_CHECK {
-        if remaining <= 1 {
+        let ends = (c.heard == 1) | (remaining <= 1);
+        if ends {
             return moved(STATE_FULL, 0, 0, c);
         }
         return moved(STATE_CHECK, c.counter, remaining - 1, c);

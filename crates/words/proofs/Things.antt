@@ -42,5 +42,8 @@ module _ {a b : Network} (same : a ≡ b) where
   pub same-counter : a .counter ≡ b .counter
   same-counter = ap (λ (c : Network). c .counter) same
 
+  pub same-heard : a .heard ≡ b .heard
+  same-heard = ap (λ (c : Network). c .heard) same
+
   pub same-remaining : a .remaining ≡ b .remaining
   same-remaining = ap (λ (c : Network). c .remaining) same

@@ -22,7 +22,7 @@ pub record PortIn (w : ℕ) (c : port.Port) : Type 0 where
   pub remaining : Field (state.remainingOf w) 65536 (c .remaining)
 
 abbrev pub networkAs : declared.Network → state.Network
-networkAs c = record { asked = c .asked; state = c .state; counter = c .counter; remaining = c .remaining }
+networkAs c = record { asked = c .asked; state = c .state; counter = c .counter; heard = c .heard; remaining = c .remaining }
 
 -- a source as read of its word w
 pub record SourceIn (w : ℕ) (c : source.Source) : Type 0 where

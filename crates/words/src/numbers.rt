@@ -93,5 +93,7 @@ pub const EVENT_BUS_OFF: u32 = 5;
 
 pub const EVENT_CLEAR: u32 = 6;
 
+pub const EVENT_HEARD: u32 = 7;
+
 // The kind of the trace word that a list's start writes.
 pub const TRACE_LIST_START: u32 = 15;

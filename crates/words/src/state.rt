@@ -114,10 +114,16 @@ pub fn counter(w: u32) -> u32
     crate::field(w, 524288, 256)
 }
 
-pub fn state_network_zero(w: u32) -> u32
-    ensures { λ r. ⌜ Field (fieldOf 13 3 w) 8 r ⌝ }
+pub fn heard(w: u32) -> u32
+    ensures { λ r. ⌜ Field (fieldOf 13 1 w) 2 r ⌝ }
 {
-    crate::field(w, 65536, 8)
+    crate::field(w, 262144, 2)
+}
+
+pub fn state_network_zero(w: u32) -> u32
+    ensures { λ r. ⌜ Field (fieldOf 14 2 w) 4 r ⌝ }
+{
+    crate::field(w, 65536, 4)
 }
 
 pub fn status(w: u32) -> u32
@@ -152,8 +158,13 @@ pub fn pack_network(c: Network) -> u32
     let asked = c.asked;
     let state = c.state;
     let counter = c.counter;
+    let heard = c.heard;
     let remaining = c.remaining;
-    asked % 4 * 1073741824 + state % 8 * 134217728 + counter % 256 * 524288 + remaining % 65536
+    asked % 4 * 1073741824
+        + state % 8 * 134217728
+        + counter % 256 * 524288
+        + heard % 2 * 262144
+        + remaining % 65536
 }
 
 pub fn pack_source(status: u32, remaining: u32) -> u32
@@ -227,6 +238,7 @@ pub struct Network {
     pub asked: u32,
     pub state: u32,
     pub counter: u32,
+    pub heard: u32,
     pub remaining: u32,
 }
 
@@ -236,11 +248,13 @@ pub fn network_of(w: u32) -> Network
     let asked = asked(w);
     let state = network_state(w);
     let counter = counter(w);
+    let heard = heard(w);
     let remaining = remaining(w);
     Network {
         asked,
         state,
         counter,
+        heard,
         remaining,
     }
 }

@@ -1,6 +1,5 @@
 -- `refusals::named` meets its contract: one answer for each kind of thing. Assumes nothing.
 use Rattle.rulebook.specs.Step.{named}
-use borrow.Author.Tests.{eq-eqb, ne-eqb}
 use Rattle.refusals.proofs.named.Statement.{statement}
 use Rattle.refusals.proofs.named.Tie as tie
 
@@ -16,7 +15,7 @@ returns-2 c =
       ← at-index .before .kind .ensures .value,
       ← at-index .index .ensures .value,
       c .before .if1 .left,
-      eq-eqb _ _ (c .if2 .taken),
+      c .if2 .taken,
     )
 
 returns-3 : tie.Need-returns-3
@@ -27,7 +26,7 @@ returns-3 c =
       ← at-index .before .kind .ensures .value,
       ← at-index .index .ensures .value,
       c .before .if1 .left,
-      ne-eqb _ _ (c .if2 .left),
+      c .if2 .left,
     )
 
 pub named-spec : {M : Type 1} → statement M

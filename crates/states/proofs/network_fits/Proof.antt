@@ -1,7 +1,7 @@
 -- `states::network_fits` meets its contract: the fields read are the rulebook's. Assumes nothing.
 use Rattle.rulebook.specs.State.{networkFits}
 use Rattle.walks.proofs.Walks.{either}
-use Rattle.words.proofs.Things.{same-asked, same-state, same-counter, same-remaining}
+use Rattle.words.proofs.Things.{same-asked, same-state, same-counter, same-heard, same-remaining}
 use borrow.Author.Needs.{needs}
 use Rattle.states.proofs.network_fits.Statement.{statement}
 use Rattle.states.proofs.network_fits.Tie as tie
@@ -17,8 +17,11 @@ abbrev at-after-network-of : tie.After-struct-known13 → tie.After-network-of
 at-after-network-of c = after-network-of-from-struct-known10 (c .before .before .before)
 
 -- Places that the proof names itself.
-abbrev after-network-of : tie.After-struct-known17 → tie.After-network-of
-after-network-of c = at-after-network-of (c .before .before .before .before)
+abbrev after-network-of-from-struct-known17 : tie.After-struct-known17 → tie.After-network-of
+after-network-of-from-struct-known17 c = at-after-network-of (c .before .before .before .before)
+
+abbrev after-network-of : tie.After-struct-known19 → tie.After-network-of
+after-network-of c = after-network-of-from-struct-known17 (c .before .before)
 
 returns : tie.Need-returns
 unfolding networkFits
@@ -33,6 +36,7 @@ returns c =
       ← same-asked (after-network-of c .network-of .ensures),
       ← same-state (after-network-of c .network-of .ensures),
       ← same-counter (after-network-of c .network-of .ensures),
+      ← same-heard (after-network-of c .network-of .ensures),
       ← same-remaining (after-network-of c .network-of .ensures),
       either,
       either,
