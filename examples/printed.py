@@ -86,7 +86,8 @@ def says(section, word):
         return RESULTS[field(word, 0, 2)]
     if section == "network":
         counter = f", counter {field(word, 5, 8)}" if field(word, 5, 8) else ""
-        return f"asked {MODES[field(word, 0, 2)]}, {NETWORK_STATES[field(word, 2, 3)]}{counter}{to_go}"
+        heard = ", heard" if field(word, 13, 1) else ""
+        return f"asked {MODES[field(word, 0, 2)]}, {NETWORK_STATES[field(word, 2, 3)]}{counter}{heard}{to_go}"
     if section == "source":
         return STATUSES[field(word, 0, 2)] + to_go
     if not field(word, 0, 1):

@@ -105,6 +105,7 @@ static void events(void)
     expect("a request", herringcart_event(HERRINGCART_MODE_REQUEST, 1, 0, 5), 0x11000500);
     expect("a tick", herringcart_event(HERRINGCART_TICK, 0, 0, 0), 0);
     expect("a bus-off", herringcart_event(HERRINGCART_BUS_OFF, 1, 0, 0), 0x51000000);
+    expect("a heard", herringcart_event(HERRINGCART_HEARD, 1, 0, 0), 0x71000000);
     expect("all fields", herringcart_event(HERRINGCART_WAKEUP_CLEAR, 15, 0xAB, 0xCD), 0x6FABCD00);
     static const uint32_t large[][4] = {{16, 0, 0, 0}, {0, 16, 0, 0}, {0, 0, 256, 0}, {0, 0, 0, 256}};
     for (size_t i = 0; i < sizeof large / sizeof *large; i++) {

@@ -42,9 +42,9 @@
 #include <stdint.h>
 
 /* The version of this header and of the archive beside it. docs/CHANGES.md says what each version changes. */
-#define HERRINGCART_VERSION "3.0"
+#define HERRINGCART_VERSION "3.1"
 #define HERRINGCART_VERSION_MAJOR 3
-#define HERRINGCART_VERSION_MINOR 0
+#define HERRINGCART_VERSION_MINOR 1
 
 #ifdef __cplusplus
 extern "C" {
@@ -80,7 +80,7 @@ enum herringcart_answer {
     HERRINGCART_UNFIT_STATE = 2,        /* the state does not fit the table */
     HERRINGCART_WRONG_STATE_WORDS = 2,  /* the same number, of herringcart_make_fresh: the length is not the table's */
     HERRINGCART_SHORT_TRACE = 3,        /* trace_words is less than B */
-    HERRINGCART_MALFORMED_EVENT = 4,    /* a field that must be 0 is not, or the kind is above 6 */
+    HERRINGCART_MALFORMED_EVENT = 4,    /* a field that must be 0 is not, or the kind is above 7 */
     HERRINGCART_NO_SUCH_THING = 5,      /* no such port, source or network, or not one for this kind */
     HERRINGCART_OTHER_OWNER = 6         /* the thing is not the owner's */
 };
@@ -93,7 +93,8 @@ enum herringcart_kind {
     HERRINGCART_WAKEUP = 3,        /* of a source */
     HERRINGCART_WAKEUP_VALID = 4,  /* of a source */
     HERRINGCART_BUS_OFF = 5,       /* of a network */
-    HERRINGCART_WAKEUP_CLEAR = 6   /* of a source */
+    HERRINGCART_WAKEUP_CLEAR = 6,  /* of a source */
+    HERRINGCART_HEARD = 7          /* of a network: traffic was sent or received */
 };
 
 /* The modes that a network is asked for, and what its port shows: these three, or that it recovers. */

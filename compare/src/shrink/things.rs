@@ -163,7 +163,7 @@ fn moved_event(word: u32, section: Section, at: usize) -> Option<u32> {
     let event = Event::of(word);
     let of = match event.kind {
         event::MODE_REQUEST | event::EVENT_REQUEST => Section::Ports,
-        event::BUS_OFF => Section::Networks,
+        event::BUS_OFF | event::HEARD => Section::Networks,
         event::WAKEUP | event::WAKEUP_VALID | event::WAKEUP_CLEAR => Section::Sources,
         _ => return Some(word),
     };

@@ -9,6 +9,7 @@ const TABLE: [u32; 12] = [
 const TICK: u32 = 0;
 const REQUEST: u32 = 0x1100_0500;
 const BUS_OFF: u32 = 0x5100_0000;
+const HEARD: u32 = 0x7100_0000;
 const UNTOUCHED: u32 = 0x5555_5555;
 
 /// Takes one event with B trace words lent; gives the answer and the trace.
@@ -41,6 +42,17 @@ fn the_marked_run() {
     quiet(&mut state, &[TICK; 3]);
     assert_eq!(state[3], 0x9008_0005);
     quiet(&mut state, &[TICK; 5]);
+    assert_eq!(state[3], 0x9800_0000);
+}
+
+#[test]
+fn heard_ends_the_check() {
+    let mut state = [0x8140_0000, 0x8080_0000, 0x4000_0000, 0x9008_0005];
+    quiet(&mut state, &[HEARD]);
+    assert_eq!(state[3], 0x900C_0005);
+    quiet(&mut state, &[TICK]);
+    assert_eq!(state, [0x8140_0000, 0x8080_0000, 0x4000_0000, 0x9800_0000]);
+    quiet(&mut state, &[HEARD]);
     assert_eq!(state[3], 0x9800_0000);
 }
 
