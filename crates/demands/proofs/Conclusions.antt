@@ -16,7 +16,7 @@ use Rattle.demands.specs.Calls as calls
 use Rattle.demands.specs.Conclusions.{OfTable, OfFresh, OfEvent}
 use Rattle.demands.proofs.Demand1.{table-answered, fresh-answered, event-answered}
 use Rattle.demands.proofs.Demand2.{steps, lists, accepts}
-use Rattle.demands.proofs.Requests.{clears, hears}
+use Rattle.demands.proofs.Requests.{clears, heards}
 use Rattle.demands.proofs.Demand3.{demand-3}
 
 pub of-table : (t : List ℕ) (reason place b : ℕ) → ChecksTableIn t reason place b → OfTable t reason place b
@@ -55,7 +55,7 @@ of-event t s trace e k n s′ trace′ p =
       steps = λ z. steps t s trace e k n s′ trace′ p z;
       lists = λ z. lists t s trace e k n s′ trace′ p z;
       clears = λ z. clears t s trace e k n s′ trace′ p z;
-      heard = λ z. hears t s trace e k n s′ trace′ p z;
+      heard = λ z. heards t s trace e k n s′ trace′ p z;
       unreached = λ l un. bad-table t s (length trace) e k (event-answered t s trace e k n s′ trace′ p .number) (unreached-refused t l un);
       taken = λ z s₀ xs q is. goes-on t s trace e k n s′ trace′ p z s₀ xs q is;
     }

@@ -19,8 +19,7 @@ use Rattle.laws.proofs.FitKept.{Fits}
 use Rattle.laws.proofs.Happen.{Taken}
 use Rattle.laws.proofs.Steps.{fresh-fits}
 use Rattle.stranger.specs.Logs.{Entry, Follows, Log, stateAfter}
-use Rattle.stranger.specs.Demand.{busOffTaken, heardTaken, becomesPending, ownersEvent}
-use Rattle.stranger.specs.Demand as demand
+use Rattle.stranger.specs.Demand.{busOffTaken, hears, heardTaken, becomesPending, ownersEvent}
 use Rattle.stranger.specs.Statements.{newly}
 use Rattle.stranger.proofs.Logs.{log-fits}
 use Rattle.stranger.proofs.NotEmpty.{kind-is, index-is, wakeup-known, bus-off-known, heard-known}
@@ -90,11 +89,11 @@ module _ (t : List ℕ) (h : accepted t ≡ true) (xs : List Entry) (played : Pl
       (bus-off-exactly t h i b s x (follows t s trace _ k n s′ trace′ p z) fit) ∙ off in
       (z, eqb-true _ _ (and-right (not (eqb (networkIn t i s .state) stateRecover)) _ now))
 
-  hears : (i : ℕ) → i < networks t → listens (networkIn t i s) ≡ true
+  keeps : (i : ℕ) → i < networks t → listens (networkIn t i s) ≡ true
       → (k n : ℕ) (s′ trace′ : List ℕ) → TakesEventIn t s trace (ownersEvent eventHeard (networkOwner t i) i) k n s′ trace′ → (k ≡ 0) ×
       (networkIn t i s′ .heard ≡ 1)
-  unfolding heardTaken demand.hears
-  hears i b on k n s′ trace′ p =
+  unfolding heardTaken hears
+  keeps i b on k n s′ trace′ p =
       let o = networkOwner t i in let few = facts t h .counts .networks in
       let z : k ≡ 0 = answer-alike _ k n s′ trace′ p ∙ heard-known t h i b in
       let x : Entry = record { event = ownersEvent eventHeard o i; state = s′; words = take n trace′ } in (
@@ -109,7 +108,7 @@ answered-after t h =
       alike = λ xs p trace e k n s′ trace′ room q. answer-alike t h xs p trace room e k n s′ trace′ q;
       wakes = λ xs p i b one idle trace k n s′ trace′ room q. wakes t h xs p trace room i b one idle k n s′ trace′ q;
       falls = λ xs p i b took trace k n s′ trace′ room q. falls t h xs p trace room i b took k n s′ trace′ q;
-      hears = λ xs p i b on trace k n s′ trace′ room q. hears t h xs p trace room i b on k n s′ trace′ q;
+      keeps = λ xs p i b on trace k n s′ trace′ room q. keeps t h xs p trace room i b on k n s′ trace′ q;
     }
 
 -- The demand, from whatever state `make_fresh` made.

@@ -26,5 +26,5 @@ of-done P holds t s trace e k n s′ trace′ p z =
 pub clears : OfEachCall (λ t s trace e n s′ trace′. ClearCounts t e s s′ (take n trace′))
 clears = of-done ClearCounts clear-counts
 
-pub hears : OfEachCall (λ t s trace e n s′ trace′. HeardCounts t e s s′ (take n trace′))
-hears = of-done HeardCounts heard-counts
+pub heards : OfEachCall (λ t s trace e n s′ trace′. HeardCounts t e s s′ (take n trace′))
+heards = of-done HeardCounts heard-counts

@@ -33,7 +33,7 @@ pub record AnsweredAfter (t s : List ℕ) : Type 0 where
       → (trace : List ℕ) (k n : ℕ) (s′ trace′ : List ℕ) → bound t ≤ length trace
       → TakesEventIn t (stateAfter s xs) trace (ownersEvent eventBusOff (networkOwner t i) i) k n s′ trace′ → (k ≡ 0) × (networkIn t i s′ .state ≡ stateRecover)
   -- a heard that its owner sends in check is kept for the next tick
-  pub hears : (xs : List Entry) → Played t s xs → (i : ℕ) → i < networks t → listens (networkIn t i (stateAfter s xs)) ≡ true
+  pub keeps : (xs : List Entry) → Played t s xs → (i : ℕ) → i < networks t → listens (networkIn t i (stateAfter s xs)) ≡ true
       → (trace : List ℕ) (k n : ℕ) (s′ trace′ : List ℕ) → bound t ≤ length trace
       → TakesEventIn t (stateAfter s xs) trace (ownersEvent eventHeard (networkOwner t i) i) k n s′ trace′ → (k ≡ 0) × (networkIn t i s′ .heard ≡ 1)
 

@@ -35,7 +35,7 @@ use Rattle.stranger.proofs.Ticked.{ticked-cases}
 use Rattle.stranger.proofs.Asked.{asked-last}
 
 ticked-asked : (t : List ℕ) (n : ℕ) (c : Network) → tickedNetwork t n c .asked ≡ c .asked
-ticked-asked t n c = ticked-cases t n c (λ x. x .asked ≡ c .asked) (λ st k r from. refl) refl
+ticked-asked t n c = ticked-cases t n c (λ x. x .asked ≡ c .asked) (λ st k r from. refl) (λ other. refl)
 
 module _ (t : List ℕ) (f : Facts t) (n : ℕ) (b : n < networks t) where
   abbrev Asks : ℕ → List ℕ → Type 0

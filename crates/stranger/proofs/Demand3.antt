@@ -15,7 +15,7 @@ use Rattle.stranger.specs.Statements.{NetworkWaits, SourceWaits, NoStran
 use Rattle.stranger.proofs.Logs.{log-parts, log-fits, after-append}
 use Rattle.stranger.proofs.View.{same-view-refl}
 use Rattle.stranger.proofs.Strangers.{strangers-unseen, seen-beside}
-use Rattle.stranger.proofs.Moments.{entry-asks-own, heard-by-owner, network-moments, source-moments}
+use Rattle.stranger.proofs.Moments.{entry-asks-own, heard-by-owner, network-moments, network-settles, source-moments}
 use Rattle.stranger.proofs.Shows.{network-shows, source-shows}
 use Rattle.stranger.proofs.AskedAfter.{asked-from-fresh}
 use Rattle.stranger.proofs.Countdown.{network-between, network-at-tick, network-at-most, network-exactly}
@@ -72,6 +72,8 @@ module _ (t : List ℕ) (h : accepted t ≡ true) (Went : List Entry → Type 0)
   no-stranger =
       record {
         network = λ n b xs ys w v e. network-moments t h n b (fresh t) (fresh t) xs ys (log _ w) (log _ v) (same-view-refl t _ (fresh t)) e 0;
+        settles = λ n b before xs before′ ys w v e L latest k. network-settles t h n b _ _ xs ys (log-parts t (fresh t) before xs (log _ w) .1)
+            (log-parts t (fresh t) before′ ys (log _ v) .1) e L latest k;
         source = λ k b xs ys w v e. source-moments t h k b (fresh t) (fresh t) xs ys (log _ w) (log _ v) (same-view-refl t _ (fresh t)) e 0;
         same = λ o xs ys w v e. seen-beside t h o (fresh t) (fresh t) xs ys (log _ w) (log _ v) (same-view-refl t o (fresh t)) e;
         unseen = λ o xs x w k. strangers-unseen t h o (stateAfter (fresh t) xs) x (last xs x w) k;

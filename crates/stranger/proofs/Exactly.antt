@@ -40,7 +40,7 @@ newly-not v a b d = rw (ne-eqb b v d, and-false)
 -- The network.
 
 ticked-recover : (t : List ℕ) (n : ℕ) (c : Network) → (c .state ≡ stateRecover → ⊥) → tickedNetwork t n c .state ≡ stateRecover → ⊥
-ticked-recover t n c d = ticked-cases t n c (λ x. x .state ≡ stateRecover → ⊥) (λ st k r from z. d (from z)) d
+ticked-recover t n c d = ticked-cases t n c (λ x. x .state ≡ stateRecover → ⊥) (λ st k r from z. d (from z)) (λ other. d)
 
 takes-not-recover : (c : Network) → takes c ≡ true → c .state ≡ stateRecover → ⊥
 unfolding takes
@@ -67,7 +67,7 @@ bus-off-exactly t h n b s x f fit =
     (λ g. rw (d, e, g) (sym (newly-same stateRecover (c .state)))) (λ g. rw (d, e, g) (sym (newly-same stateRecover (c .state)))))))
 
 ticked-unheard : (t : List ℕ) (n : ℕ) (c : Network) → (c .heard ≡ 1 → ⊥) → tickedNetwork t n c .heard ≡ 1 → ⊥
-ticked-unheard t n c d = ticked-cases t n c (λ x. x .heard ≡ 1 → ⊥) (λ st k r from z. omega arith) d
+ticked-unheard t n c d = ticked-cases t n c (λ x. x .heard ≡ 1 → ⊥) (λ st k r from z. omega arith) (λ other. d)
 
 -- A heard that is taken leaves it heard, and nothing else newly does.
 

@@ -3,6 +3,7 @@ use mathlib.Core.Path.{_≡_, refl, _∙_, ap}
 use mathlib.Core.Bool.{false, _&&_}
 use mathlib.Core.List.{List, []}
 use Prim.Native.Nat.{ℕ, _<_}
+use native.Mathlib.Omega.{arith}
 use lib.Dec.{eqb}
 use borrow.Author.Tests.{eqb-true, ne-eqb}
 use Rattle.rulebook.specs.Table.{networks}
@@ -17,6 +18,7 @@ use Rattle.laws.proofs.FitEvents.{happen-fits}
 use Rattle.laws.proofs.Happen.{Taken, of-heard}
 use Rattle.stranger.specs.Heard.{AtRest, HeardCounts}
 use Rattle.stranger.proofs.Moves.{nextNetwork, network-moves}
+use Rattle.stranger.proofs.Ticked.{ticked-cases}
 
 at-rest : (state : ℕ) (c x : Network) → c .state ≡ x .state → c .counter ≡ x .counter → c .heard ≡ x .heard → c .remaining ≡ x .remaining
     → AtRest state x → AtRest state c
@@ -53,6 +55,15 @@ module _ (t : List ℕ) (f : Facts t) (e : ℕ) (s : List ℕ) (w : Taken t e) (
       (ap (λ (x : Network). x .counter) own ∙ ap (λ (x : Network). x .counter) next) (ap (λ (x : Network). x .heard) own ∙ ap (λ (x : Network). x .heard) next)
       (ap (λ (x : Network). x .remaining) own ∙ ap (λ (x : Network). x .remaining) next) (moved-rests state (networkIn t n s))
 
+  gone : (n : ℕ) (b : n < networks t) → eventKind e ≡ eventTick → networkIn t n after .heard ≡ 0
+  unfolding nextNetwork
+  gone n b k =
+      let o = network-in t s fit n b in let small = o .heard₁ in
+      let next : nextNetwork t f n b e s ≡ tickedNetwork t n (networkIn t n s) = rw k in
+      ap (λ (x : Network). x .heard) (network-moves t f n b e s w fit .own) ∙ ap (λ (x : Network). x .heard) next
+      ∙ ticked-cases t n (networkIn t n s) (λ x. x .heard ≡ 0) (λ st j r from. refl)
+      (λ other. let not-one : (networkIn t n s .heard ≡ 1 → ⊥) = λ z. other (o .listens z) in omega arith)
+
   keeps : (n : ℕ) (b : n < networks t) → (eventKind e ≡ eventTick → ⊥) → (eventKind e ≡ eventBusOff → eventIndex e ≡ n → ⊥)
       → (eventKind e ≡ eventHeard → eventIndex e ≡ n → ⊥) → networkIn t n after .heard ≡ networkIn t n s .heard
   unfolding nextNetwork
@@ -72,6 +83,7 @@ module _ (t : List ℕ) (f : Facts t) (e : ℕ) (s : List ℕ) (w : Taken t e) (
         taken = λ n b k c a h. ticked n b k stateFull (heard-full t n _ c a h);
         none = λ n b k a. ticked n b k stateNone (none-before-heard t n _ a);
         silent = λ n b k c a. ticked n b k stateSilent (silent-before-heard t n _ a c);
+        gone = gone;
         only = λ n b h. network-in t after (happen-fits t f e s w fit) n b .listens h;
         keeps = keeps;
       }

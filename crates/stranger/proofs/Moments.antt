@@ -1,9 +1,10 @@
 -- No stranger brings about, alters or keeps away a moment of a network or source: a bus-off or heard taken, a request of another mode, a source
 -- woken, validated or cleared, a turn of state or status. Assumes nothing.
 use mathlib.Core.Path.{_≡_, refl, sym, _∙_, ap}
-use mathlib.Core.Bool.{true, false, and-false}
-use mathlib.Core.List.{List, []}
-use Prim.Native.Nat.{ℕ, _<_}
+use mathlib.Core.Bool.{true, false, cond, and-false}
+use mathlib.Core.List.{List, [], _∷_}
+use Prim.Native.Nat.{ℕ, _+_, _<_}
+use native.Mathlib.Nat.{zero-add}
 use lib.Dec.{eqb}
 use borrow.Author.Tests.{eqb-true, eq-eqb}
 use Rattle.rulebook.specs.Words.{word}
@@ -18,13 +19,13 @@ use Rattle.laws.proofs.Facts.{facts}
 use Rattle.laws.proofs.FitEvents.{may-show}
 use Rattle.laws.proofs.Happen.{of-bus-off, of-heard, of-wakeup, of-ending}
 use Rattle.stranger.specs.Logs.{Entry, Follows, Log, strangersEntry, struckOut}
-use Rattle.stranger.specs.Demand.{busOffTaken, hears, heardTaken, asksOther, anyWord, asksAnother, becomesPending, ended}
+use Rattle.stranger.specs.Demand.{ticks, busOffTaken, hears, heardTaken, heardFrom, settlesAt, asksOther, anyWord, asksAnother, becomesPending, ended}
 use Rattle.stranger.specs.Demand.{networkMoment, sourceMoment, moments}
 use Rattle.stranger.specs.View.{SameView, AsksOwn}
 use Rattle.stranger.proofs.Logs.{taken}
 use Rattle.stranger.proofs.View.{port-word, network-word, source-word}
 use Rattle.stranger.proofs.Owners.{self-known}
-use Rattle.stranger.proofs.Strangers.{SameSeen, strangers-unseen, moments-beside}
+use Rattle.stranger.proofs.Strangers.{SameSeen, strangers-tick, strangers-unseen, moments-beside}
 use Rattle.stranger.proofs.AsksOwn.{happen-asks-own, asks-in-own-words}
 
 module _ (t : List ℕ) (h : accepted t ≡ true) where
@@ -60,10 +61,13 @@ module _ (t : List ℕ) (h : accepted t ≡ true) where
         clash (rw (own ∙ ap (networkOwner t) here) at k) (self-known o))
         (λ e. e)
 
+    strangers-silent : (s : List ℕ) (x : Entry) → Follows t s x → strangersEntry o x ≡ true → hears n x ≡ false
+    unfolding strangersEntry
+    strangers-silent s x f k = split (hears n x) (λ e. clash (rw (heard-by-owner n s x f e) at k) (self-known o)) (λ e. e)
+
     strangers-heard : (s : List ℕ) (x : Entry) → Follows t s x → strangersEntry o x ≡ true → heardTaken t n s x ≡ false
-    unfolding heardTaken strangersEntry
-    strangers-heard s x f k =
-        split (hears n x) (λ e. clash (rw (heard-by-owner n s x f e) at k) (self-known o)) (λ e. rw e)
+    unfolding heardTaken
+    strangers-heard s x f k = rw (strangers-silent s x f k)
 
     strangers-ask : (s : List ℕ) (x : Entry) → Follows t s x → strangersEntry o x ≡ true → asksAnother n x ≡ false
     unfolding asksAnother anyWord
@@ -104,6 +108,27 @@ module _ (t : List ℕ) (h : accepted t ≡ true) where
     pub network-moments : (s₁ s₂ : List ℕ) (xs ys : List Entry) → Log t s₁ xs → Log t s₂ ys → SameView t o s₁ s₂ → struckOut o xs ≡ struckOut o ys → (j : ℕ)
         → moments (networkMoment t n) j s₁ xs ≡ moments (networkMoment t n) j s₂ ys
     network-moments = moments-beside t h o (networkMoment t n) network-quiet network-alike
+
+    -- The tick at which it is settled goes by the events alone, and by none of a stranger's.
+
+    bare : List ℕ → List Entry
+    bare [] = []
+    bare (e ∷ es) = record { event = e; state = []; words = [] } ∷ bare es
+
+    settles-bare : (L latest k : ℕ) (s : List ℕ) (xs : List Entry) → Log t s xs → settlesAt n L latest k xs ≡ settlesAt n L latest k (bare (struckOut o xs))
+    unfolding settlesAt heardFrom hears ticks struckOut bare
+    settles-bare L latest k s [] l = refl
+    settles-bare L latest k s (x ∷ xs) l =
+        split (strangersEntry o x)
+        (λ e. rw (e, struckOut, strangers-silent s x (l .0) e, strangers-tick t h o s x (l .0) e, zero-add k) (settles-bare L latest k (x .state) xs (l .1)))
+        (λ e. rw (e, struckOut)
+        (split (heardFrom n L k x) (λ d. rw d)
+        (λ d. rw d (settles-bare L latest (cond (ticks x) 1 0 + k) (x .state) xs (l .1)))))
+
+    pub network-settles : (s₁ s₂ : List ℕ) (xs ys : List Entry) → Log t s₁ xs → Log t s₂ ys → struckOut o xs ≡ struckOut o ys → (L latest k : ℕ)
+        → settlesAt n L latest k xs ≡ settlesAt n L latest k ys
+    network-settles s₁ s₂ xs ys l m e L latest k =
+        settles-bare L latest k s₁ xs l ∙ ap (λ (es : List ℕ). settlesAt n L latest k (bare es)) e ∙ sym (settles-bare L latest k s₂ ys m)
 
   -- Source k, its owner o.
   module _ (k : ℕ) (b : k < sources t) where

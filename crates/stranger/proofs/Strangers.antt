@@ -40,7 +40,7 @@ module _ (t : List ℕ) (h : accepted t ≡ true) (o : ℕ) where
       record { state = rw (f .state) (alike .view); words = rw (f .words) (sym (alike .own)) }
 
   -- it is no tick
-  strangers-tick : (s : List ℕ) (x : Entry) → Follows t s x → strangersEntry o x ≡ true → ticks x ≡ false
+  pub strangers-tick : (s : List ℕ) (x : Entry) → Follows t s x → strangersEntry o x ≡ true → ticks x ≡ false
   unfolding strangersEntry ticks
   strangers-tick s x f k =
       split (ticks x)

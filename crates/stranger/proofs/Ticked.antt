@@ -1,18 +1,20 @@
--- What a tick makes of a network: it moves, into recover only from there, or stays as it is. Assumes nothing.
+-- What a tick makes of a network: it moves, into recover only from there, or stays as it is, which it never does in check. Assumes
+-- nothing.
 use mathlib.Core.Path.{_≡_}
 use mathlib.Core.Bool.{_&&_, _||_, not}
 use mathlib.Core.List.{List}
 use Prim.Native.Nat.{ℕ, _-_}
 use native.Mathlib.Omega.{arith}
 use lib.Dec.{leb, eqb}
-use borrow.Author.Tests.{eqb-true}
+use borrow.Author.Tests.{eqb-true, eqb-false}
 use Rattle.rulebook.specs.Table.{eTicks}
 use Rattle.rulebook.specs.State.{Network, askedNone, askedSilent, askedFull, stateNone, stateSilent, stateCheck, stateFull, stateRecover}
 use Rattle.rulebook.specs.Events.{moved, countedNetwork, tickedNetwork}
 use Rattle.laws.proofs.Tests.{split}
 
 module _ (t : List ℕ) (n : ℕ) (c : Network) (P : Network → Type 0)
-    (moves : (st k r : ℕ) → (st ≡ stateRecover → c .state ≡ stateRecover) → P (moved st k r c)) (stays : P c) where
+    (moves : (st k r : ℕ) → (st ≡ stateRecover → c .state ≡ stateRecover) → P (moved st k r c))
+    (stays : (c .state ≡ stateCheck → ⊥) → P c) where
   counted-cases : P (countedNetwork t n c)
   unfolding countedNetwork
   counted-cases =
@@ -22,7 +24,7 @@ module _ (t : List ℕ) (n : ℕ) (c : Network) (P : Network → Type 0)
       (λ e. split (eqb (c .state) stateCheck)
       (λ g. split (eqb (c .heard) 1 || leb (c .remaining) 1) (λ i. rw (e, g, i) (moves stateFull 0 0 (λ z. absurd (omega arith))))
       (λ i. rw (e, g, i) (moves stateCheck (c .counter) (c .remaining - 1) (λ z. absurd (omega arith)))))
-      (λ g. rw (e, g) stays))
+      (λ g. rw (e, g) (stays (eqb-false _ _ g))))
 
   pub ticked-cases : P (tickedNetwork t n c)
   unfolding tickedNetwork

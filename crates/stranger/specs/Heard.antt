@@ -30,6 +30,8 @@ pub record HeardCounts (t : List ℕ) (e : ℕ) (s s′ ws : List ℕ) : Type 0 
   pub none : (n : ℕ) → n < networks t → eventKind e ≡ eventTick → networkIn t n s .asked ≡ askedNone → AtRest stateNone (networkIn t n s′)
   pub silent : (n : ℕ) → n < networks t → eventKind e ≡ eventTick → networkIn t n s .state ≡ stateCheck → networkIn t n s .asked ≡ askedSilent
       → AtRest stateSilent (networkIn t n s′)
+  -- it is the next tick that takes it, or nothing does: after a tick nothing is heard, whatever was
+  pub gone : (n : ℕ) → n < networks t → eventKind e ≡ eventTick → networkIn t n s′ .heard ≡ 0
   -- "It may be 1 only in check." So "a move out of check clears it, a bus-off included"
   pub only : (n : ℕ) → n < networks t → networkIn t n s′ .heard ≡ 1 → networkIn t n s′ .state ≡ stateCheck
   -- every other event keeps it, whatever its lists ask for

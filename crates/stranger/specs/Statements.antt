@@ -103,6 +103,10 @@ pub record SourceWaits (t s : List ℕ) (Went : List Entry → Type 0) : Type 0 
 pub record NoStranger (t s : List ℕ) (Went : List Entry → Type 0) : Type 0 where
   pub network : (n : ℕ) → n < networks t → (xs ys : List Entry) → Went xs → Went ys → struckOut (networkOwner t n) xs ≡ struckOut (networkOwner t n) ys
       → moments (networkMoment t n) 0 s xs ≡ moments (networkMoment t n) 0 s ys
+  -- so the tick at which a network is settled is the same, whatever went before
+  pub settles : (n : ℕ) → n < networks t → (before xs before′ ys : List Entry) → Went (before ++ xs) → Went (before′ ++ ys)
+      → struckOut (networkOwner t n) xs ≡ struckOut (networkOwner t n) ys
+      → (L latest k : ℕ) → settlesAt n L latest k xs ≡ settlesAt n L latest k ys
   pub source : (k : ℕ) → k < sources t → (xs ys : List Entry) → Went xs → Went ys → struckOut (sourceOwner t k) xs ≡ struckOut (sourceOwner t k) ys
       → moments (sourceMoment t k) 0 s xs ≡ moments (sourceMoment t k) 0 s ys
   -- the view behind it, for every operator o and for the platform: o sees the same after each entry that is no stranger's
