@@ -24,18 +24,19 @@ pub fn check(words: &[u32]) -> Check {
 /// The table and its B, or the reason and place of its refusal.
 pub fn accept(words: &[u32]) -> Result<(Table<'_>, usize), (u32, usize)> {
     let table = shaped(words).map_err(|reason| (reason, 0))?;
-    refuse_lowest(5, &table, |_, word| breaks_own_fields(word))?;
+    let all: Vec<(usize, Word)> = table.words().collect();
+    refuse_lowest(5, &all, |_, word| breaks_own_fields(word))?;
     let thing_ports = table.thing_ports();
-    refuse_lowest(6, &table, |number, word| names_wrongly(&table, &thing_ports, number, word))?;
+    refuse_lowest(6, &all, |number, word| names_wrongly(&table, &thing_ports, number, word))?;
     let expression_depths = depths(&expression_names(&table));
     let list_names = list_names(&table);
     let list_depths = depths(&list_names);
-    refuse_lowest(7, &table, |number, word| match word {
+    refuse_lowest(7, &all, |number, word| match word {
         Word::Expression(_) => expression_depths[number].is_none(),
         Word::List(_) => list_depths[number].is_none(),
         _ => false,
     })?;
-    refuse_lowest(8, &table, |_, word| clashes(&table, word))?;
+    refuse_lowest(8, &all, |_, word| clashes(&table, word))?;
     // Q-6: "It is reason 10, placed at the lowest such list word. It stands after owner clashes
     // and before the sum of costs."
     if let Some(lowest) = reached(&table, &list_names).iter().position(|&reached| !reached) {
@@ -64,13 +65,13 @@ fn shaped(words: &[u32]) -> Result<Table<'_>, u32> {
     Ok(table)
 }
 
-/// Refuses the table at the lowest word that breaks the reason's rule.
+/// Refuses the table at the lowest of its words past the header that breaks the reason's rule.
 fn refuse_lowest(
     reason: u32,
-    table: &Table,
+    words: &[(usize, Word)],
     breaks: impl Fn(usize, Word) -> bool,
 ) -> Result<(), (u32, usize)> {
-    match table.words().position(|(number, word)| breaks(number, word)) {
+    match words.iter().position(|&(number, word)| breaks(number, word)) {
         Some(past_header) => Err((reason, HEADER + past_header)),
         None => Ok(()),
     }

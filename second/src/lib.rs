@@ -1,6 +1,6 @@
 //! The second program of Herringcart: document 01's rules written again, with
-//! document 02's requests, from the documents and
-//! their readings alone, as the judge of the first.
+//! document 02's requests, from the documents
+//! and their readings alone, as the judge of the first.
 
 // The rules, in the document's order.
 pub mod words;
@@ -17,6 +17,8 @@ pub mod events;
 
 pub mod step;
 
+pub mod play;
+
 pub mod program;
 
 // What the rules are tried with.
@@ -25,5 +27,6 @@ pub mod stream;
 pub mod testing;
 
 pub use check::{Check, check};
+pub use play::{Played, play};
 pub use state::{check_state, fresh};
 pub use step::{Outcome, step};

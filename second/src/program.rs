@@ -1,10 +1,13 @@
-//! The program: a table and a file of events, and what is printed.
+//! The programs: a table and a file of events, and what is printed.
 
-use std::fmt::Write;
+use std::fmt::Write as _;
+use std::io::{self, Write};
 
 use crate::check::accept;
-use crate::state::{fresh, state_length};
+use crate::play::{TRACE_FULL, play};
+use crate::state::{fresh, start, state_length};
 use crate::step::step;
+use crate::words::{Section, Table};
 
 /// The whole words of a file, high byte first; bytes past the last are ignored.
 pub fn words(bytes: &[u8]) -> Vec<u32> {
@@ -33,9 +36,81 @@ pub fn printed(table: &[u8], events: &[u8]) -> String {
     lines
 }
 
-/// Reads both files before anything is printed, so that an unreadable one
+/// Both files' bytes, read before anything is printed, so that an unreadable one
 /// leaves no output.
-pub fn run(table: &str, events: &str) -> Result<String, String> {
+fn read(table: &str, events: &str) -> Result<(Vec<u8>, Vec<u8>), String> {
     let read = |path: &str| std::fs::read(path).map_err(|why| format!("cannot read {path}: {why}"));
-    Ok(printed(&read(table)?, &read(events)?))
+    Ok((read(table)?, read(events)?))
+}
+
+pub fn run(table: &str, events: &str) -> Result<String, String> {
+    let (table, events) = read(table, events)?;
+    Ok(printed(&table, &events))
+}
+
+/// Trace words lent beyond B to each call of a day: so many that the checks of table and state,
+/// one of each a call, hardly count.
+pub const SPARE: usize = 1 << 16;
+
+/// What is printed where a day is played, for the two files' bytes.
+pub fn played(table: &[u8], events: &[u8]) -> String {
+    let mut lines = vec![];
+    write_played(&mut lines, table, events, SPARE).expect("memory takes it");
+    String::from_utf8(lines).expect("letters, digits and spaces")
+}
+
+/// Plays a day from a fresh state, call after call, with B and so many trace words more lent to
+/// each, and prints it as it goes. Every call takes an event or ends the day.
+pub fn write_played(
+    out: &mut impl Write,
+    table: &[u8],
+    events: &[u8],
+    spare: usize,
+) -> io::Result<()> {
+    let (table, events) = (words(table), words(events));
+    let (shape, b) = match accept(&table) {
+        Ok(accepted) => accepted,
+        Err((reason, place)) => return write!(out, "{reason}\n{place}\n"),
+    };
+    let mut state = vec![0; state_length(&shape)];
+    fresh(&table, &mut state);
+    let mut trace = vec![0; b + spare];
+    let (mut taken, mut answer) = (0, TRACE_FULL);
+    // it "can be resumed from that event".
+    while answer == TRACE_FULL {
+        let played = play(&table, &mut state, &mut trace, &events[taken..]);
+        for word in &trace[..played.count] {
+            writeln!(out, "trace {word:08X}")?;
+        }
+        assert!(played.taken > 0 || played.answer != TRACE_FULL, "the day would never end");
+        taken += played.taken;
+        answer = played.answer;
+    }
+    write_state(out, &shape, &state)?;
+    writeln!(out, "taken {taken}\nanswer {answer}")
+}
+
+/// A state's words, each with its section's name and its number there.
+fn write_state(out: &mut impl Write, table: &Table, state: &[u32]) -> io::Result<()> {
+    let named = [
+        ("port", Section::Ports),
+        ("rule", Section::Rules),
+        ("network", Section::Networks),
+        ("source", Section::Sources),
+    ];
+    for (name, section) in named {
+        let words = &state[start(table, section)..][..table.count(section)];
+        for (number, word) in words.iter().enumerate() {
+            writeln!(out, "{name} {number} {word:08X}")?;
+        }
+    }
+    Ok(())
+}
+
+/// Prints the day of two files.
+pub fn play_files(out: &mut impl Write, table: &str, events: &str) -> Result<(), String> {
+    let (table, events) = read(table, events)?;
+    write_played(out, &table, &events, SPARE)
+        .and_then(|()| out.flush())
+        .map_err(|why| format!("cannot print: {why}"))
 }

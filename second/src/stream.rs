@@ -3,12 +3,16 @@
 use std::io::{self, Read, Write};
 
 use crate::cases::Case;
-use crate::{check, check_state, fresh, step};
+use crate::{check, check_state, fresh, play, step};
 
 /// What a state slice holds before a fresh one is made in it.
 pub const STATE_FILL: u32 = 0xAAAA_AAAA;
-/// What the lent trace holds before each event.
+/// What the lent trace holds before each event and before each play.
 pub const TRACE_FILL: u32 = 0x5555_5555;
+/// How many of a case's events are played.
+pub const PLAYED: usize = 12;
+/// The most trace words that are lent to a play.
+pub const MOST_ROOM: usize = 20_000;
 
 pub fn write_words(out: &mut impl Write, words: &[u32]) -> io::Result<()> {
     words.iter().try_for_each(|word| out.write_all(&word.to_be_bytes()))
@@ -44,7 +48,75 @@ pub fn result_words(case: &Case) -> Vec<u32> {
         words.extend(&state);
         words.extend(&trace);
     }
+    words.extend(play_words(case));
     words
+}
+
+/// The plays of a case's first events, each with another room and from the case's state.
+fn play_words(case: &Case) -> Vec<u32> {
+    let rooms = play_rooms(case);
+    let mut words = vec![rooms.len() as u32];
+    for room in rooms {
+        let (mut state, mut trace) = (case.state.clone(), vec![TRACE_FILL; room]);
+        let played = play(&case.table, &mut state, &mut trace, first_events(case));
+        words.extend([room as u32, played.taken as u32, played.count as u32, played.answer]);
+        words.extend(state);
+        words.extend(trace);
+    }
+    words
+}
+
+fn first_events(case: &Case) -> &[u32] {
+    &case.events[..case.events.len().min(PLAYED)]
+}
+
+/// The rooms a case's first events are played in, all different: the case's own; the least in
+/// which the trace is not full before the play ends, and one word less; the most in which it is
+/// full about half way. A table or state that is refused is played in the case's room alone.
+pub fn play_rooms(case: &Case) -> Vec<usize> {
+    let mut rooms = vec![case.room.min(MOST_ROOM)];
+    if check_state(&case.table, &case.state) != 0 {
+        return rooms;
+    }
+    let needed = rooms_needed(case);
+    let least = needed.last().copied().unwrap_or(0);
+    let stopping = [Some(least), half_way(&needed)].into_iter().flatten();
+    let stopping = stopping.filter_map(|room| room.checked_sub(1));
+    for room in [least].into_iter().chain(stopping) {
+        if !rooms.contains(&room) {
+            rooms.push(room);
+        }
+    }
+    rooms
+}
+
+/// The least room in which each event of a play is looked at, up to the one that ends it; as far
+/// as that is not too much to lend. With one word less, the play stops there or at an event before
+/// since which none has written.
+fn rooms_needed(case: &Case) -> Vec<usize> {
+    let b = check(&case.table).b;
+    let (mut state, mut trace) = (case.state.clone(), vec![TRACE_FILL; b]);
+    let (mut needed, mut written) = (vec![], 0);
+    for &event in first_events(case) {
+        if written + b > MOST_ROOM {
+            break;
+        }
+        needed.push(written + b);
+        let outcome = step(&case.table, &mut state, &mut trace, event);
+        if outcome.answer != 0 {
+            break;
+        }
+        written += outcome.count;
+    }
+    needed
+}
+
+/// What the event nearest to the middle needs of those that a play can stop at: the events behind
+/// one that wrote. None where a play can stop at the first event only.
+fn half_way(needed: &[usize]) -> Option<usize> {
+    let middle = needed.len() / 2;
+    let behind_words = (1..needed.len()).filter(|&at| needed[at] > needed[at - 1]);
+    behind_words.min_by_key(|at| at.abs_diff(middle)).map(|at| needed[at])
 }
 
 /// The next case of a stream; None at its end.

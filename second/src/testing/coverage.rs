@@ -5,7 +5,7 @@ use std::collections::{BTreeMap, BTreeSet};
 use std::fmt;
 
 use super::heard::{self, Heard};
-use super::names;
+use super::{names, play_rows, played};
 use crate::cases::refused::{COST_4097, DEPTH_8_EXPRESSION, DEPTH_8_LIST, RING};
 use crate::cases::states::{MISFITS, Misfit};
 use crate::cases::unreached::UNREACHED_4097;
@@ -295,7 +295,9 @@ impl Coverage {
             .chain(SECTIONS.map(Row::limit))
             .chain(SPECIAL.map(Row::Special))
             .chain(names::ROWS.map(Row::Special))
-            .chain(heard::ROWS.map(Row::Special));
+            .chain(heard::ROWS.map(Row::Special))
+            .chain(play_rows::ROWS.map(Row::Special))
+            .chain(played::ROWS.map(Row::Special));
         Coverage(rows.map(|row| (row, 0)).collect())
     }
 

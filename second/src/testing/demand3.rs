@@ -176,10 +176,7 @@ pub fn try_struck_out(
     log: &[Entry],
     met: &mut Met,
 ) -> Result<(), String> {
-    let owners = owners_of_words(draft);
-    let has_words = |operator: &u32| *operator == PLATFORM || owners.contains(operator);
-    for operator in (0..16).filter(has_words) {
-        let side = Side { draft, owners: &owners, operator };
+    for side in &sides(draft) {
         let (kept, struck): (Vec<&Entry>, Vec<&Entry>) =
             log.iter().partition(|entry| side.has(entry.event.owner));
         let events = kept.iter().map(|entry| entry.event.word()).collect();
@@ -190,16 +187,24 @@ pub fn try_struck_out(
     Ok(())
 }
 
+/// The platform, and every operator that has words.
+pub fn sides(draft: &Draft) -> Vec<Side<'_>> {
+    let owners = owners_of_words(draft);
+    let has_words = |operator: &u32| *operator == PLATFORM || owners.contains(operator);
+    let side = |operator: u32| Side { draft, owners: owners.clone(), operator };
+    (0..16).filter(has_words).map(side).collect()
+}
+
 /// An operator and the platform, or the platform alone.
-struct Side<'a> {
+pub struct Side<'a> {
     draft: &'a Draft,
     /// Whose each word of a state is.
-    owners: &'a [u32],
+    owners: Vec<u32>,
     operator: u32,
 }
 
 impl Side<'_> {
-    fn has(&self, owner: u32) -> bool {
+    pub fn has(&self, owner: u32) -> bool {
         owner == self.operator || owner == PLATFORM
     }
 
@@ -207,11 +212,20 @@ impl Side<'_> {
         self.has(self.draft.networks[network].0.owner)
     }
 
+    /// Its words of a state.
+    pub fn words(&self, state: &[u32]) -> Vec<u32> {
+        let words = state.iter().zip(&self.owners).filter(|(_, owner)| self.has(**owner));
+        words.map(|(&word, _)| word).collect()
+    }
+
+    /// Its words of a trace.
+    pub fn trace(&self, trace: &[u32]) -> Vec<u32> {
+        trace.iter().copied().filter(|&word| self.has(TraceWord::of(word).owner)).collect()
+    }
+
     /// What it sees of an event: the answer, its words and its trace words.
     fn view(&self, entry: &Entry) -> (u32, Vec<u32>, Vec<u32>) {
-        let words = entry.after.iter().zip(self.owners).filter(|(_, owner)| self.has(**owner));
-        let trace = entry.trace.iter().filter(|&&word| self.has(TraceWord::of(word).owner));
-        (entry.answer, words.map(|(&word, _)| word).collect(), trace.copied().collect())
+        (entry.answer, self.words(&entry.after), self.trace(&entry.trace))
     }
 
     /// The ticks at which its networks take what was heard, each with the network.

@@ -7,7 +7,7 @@ use super::levels::{self, Levels};
 use super::log::{Entry, hold, run};
 use super::skipping::Skipping;
 use super::traces::{self, evaluated, items_run, started};
-use super::{demand3, ports, reach};
+use super::{demand3, play, played, ports, reach};
 use crate::cases::draft::{Depth, Draft, SEVEN};
 use crate::cases::states::fresh_state;
 use crate::cases::{Case, Known, Made};
@@ -39,20 +39,31 @@ pub fn try_case(made: &Made) -> Result<Met, String> {
     }
     levels::meet_refused(&case.table, checked, &mut met)?;
     reach::try_reach(&case.table, checked, &mut met)?;
+    play::try_plays(case, checked.b, &log, &mut met)?;
     if checked.reason == 0 {
-        let draft = read(&case.table);
-        if known.fit {
-            meet_fit(&draft, &case.state, &mut met);
-        }
-        try_table(&draft, checked.b, &mut met)?;
-        try_log(case, &draft, &log, checked.b, &mut met)?;
-        levels::try_equalities(case, &draft, &log, &mut met)?;
-        if known.fresh && case.room >= checked.b {
-            demand3::try_countdowns(&draft, &log, &mut met)?;
-            demand3::try_struck_out(case, &draft, &log, &mut met)?;
-        }
+        try_accepted(made, checked.b, &log, &mut met)?;
+    } else {
+        played::try_reason(case, checked, &mut met)?;
     }
     Ok(met)
+}
+
+/// A case whose table stands.
+fn try_accepted(made: &Made, b: usize, log: &[Entry], met: &mut Met) -> Result<(), String> {
+    let (case, known, draft) = (&made.case, &made.known, read(&made.case.table));
+    if known.fit {
+        meet_fit(&draft, &case.state, met);
+    }
+    try_table(&draft, b, met)?;
+    try_log(case, &draft, log, b, met)?;
+    levels::try_equalities(case, &draft, log, met)?;
+    if known.fresh && case.room >= b {
+        demand3::try_countdowns(&draft, log, met)?;
+        demand3::try_struck_out(case, &draft, log, met)?;
+        play::try_struck_out(case, &draft, b, log, met)?;
+        played::try_day(case, &draft, log, met)?;
+    }
+    Ok(())
 }
 
 fn read(words: &[u32]) -> Draft {

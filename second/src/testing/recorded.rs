@@ -5,6 +5,7 @@ use std::cell::RefCell;
 
 use crate::cases::Case;
 use crate::check::{Check, accept};
+use crate::play::Played;
 use crate::state::state_length;
 use crate::step::Outcome;
 use crate::{program, stream};
@@ -43,8 +44,14 @@ pub fn step(table: &[u32], state: &mut [u32], trace: &mut [u32], event: u32) -> 
     crate::step(table, state, trace, event)
 }
 
-/// The program's run: from a fresh state, with B trace words lent.
-pub fn printed(table: &[u8], events: &[u8]) -> String {
+/// Noted like an event's call; its plays are asked for with every case's.
+pub fn play(table: &[u32], state: &mut [u32], trace: &mut [u32], events: &[u32]) -> Played {
+    note(table, state, trace.len(), events);
+    crate::play(table, state, trace, events)
+}
+
+/// A program's run: from a fresh state, with B trace words lent.
+fn note_files(table: &[u8], events: &[u8]) {
     let (words, sent) = (program::words(table), program::words(events));
     let (mut state, mut room) = (vec![], 0);
     if let Ok((shape, b)) = accept(&words) {
@@ -52,7 +59,16 @@ pub fn printed(table: &[u8], events: &[u8]) -> String {
         crate::fresh(&words, &mut state);
     }
     note(&words, &state, room, &sent);
+}
+
+pub fn printed(table: &[u8], events: &[u8]) -> String {
+    note_files(table, events);
     program::printed(table, events)
+}
+
+pub fn played(table: &[u8], events: &[u8]) -> String {
+    note_files(table, events);
+    program::played(table, events)
 }
 
 pub fn result_words(case: &Case) -> Vec<u32> {

@@ -1,6 +1,6 @@
 //! Fixed cases: each a few words long, its outcome worked out by hand from
-//! documents 01 and 02 and named after the sentence or reading it tells
-//! apart.
+//! documents 01 and 02 and named after the sentence or reading it
+//! tells apart.
 //!
 //! Expected words stand in hex, so that no layout is judged by itself:
 //! - port state: 80000000 defined, 40000000 marked, value times 00400000, remaining;
@@ -32,6 +32,8 @@ mod marked;
 mod names;
 mod networks;
 mod owners;
+mod play;
+mod played;
 mod program;
 mod reached;
 mod shape;
@@ -66,7 +68,9 @@ pub fn all() -> Vec<(&'static str, fn())> {
         levels::CASES,
         lists::CASES,
         clears::CASES,
+        play::CASES,
         program::CASES,
+        played::CASES,
         streams::CASES,
         demand3::CASES,
     ]

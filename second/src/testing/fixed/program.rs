@@ -16,17 +16,17 @@ const EIGHT_LINES: &str =
 const FRESH_LINES: &str = "00000000\n00000000\n00000000\n00000000\n";
 
 /// A file of these bytes for as long as the process lives.
-fn file(name: &str, bytes: &[u8]) -> String {
+pub fn file(name: &str, bytes: &[u8]) -> String {
     let name = format!("herringcart-second-{}-{name}", std::process::id());
     let path = std::env::temp_dir().join(name);
     std::fs::write(&path, bytes).expect("a file in the temporary folder");
     path.to_string_lossy().into_owned()
 }
 
-/// Starts this very program as `run TABLE EVENTS`.
-fn start(table: &str, events: &str) -> Output {
+/// Starts this very program, as `run TABLE EVENTS` for one.
+pub fn start(command: &str, table: &str, events: &str) -> Output {
     let program = std::env::current_exe().expect("the program's own path");
-    Command::new(program).args(["run", table, events]).output().expect("the program starts")
+    Command::new(program).args([command, table, events]).output().expect("the program starts")
 }
 
 fixed_cases! {
@@ -37,7 +37,7 @@ fixed_cases! {
     fn program_started_prints_the_same() {
         let (table, events) =
             (file("table", &bytes(&MARKED)), file("events", &bytes(&[0x1100_0500])));
-        let output = start(&table, &events);
+        let output = start("run", &table, &events);
         std::fs::remove_file(table).and(std::fs::remove_file(events)).expect("the files go");
         assert_eq!(String::from_utf8_lossy(&output.stdout), EIGHT_LINES);
         assert!(output.status.success() && output.stderr.is_empty());
@@ -106,7 +106,7 @@ fixed_cases! {
         let missing = format!("{table}-missing");
         for (table, events) in [(&table, &missing), (&missing, &table)] {
             assert!(run(table, events).unwrap_err().contains(&missing));
-            let output = start(table, events);
+            let output = start("run", table, events);
             assert!(output.stdout.is_empty() && !output.status.success());
             assert!(String::from_utf8_lossy(&output.stderr).contains(&missing));
         }

@@ -1,9 +1,12 @@
 //! The streams that other programs are compared by.
 
 use super::marked::MARKED;
+use super::*;
 use crate::cases::Case;
-use crate::stream::{case_words, read_case, write_words};
+use crate::stream::{case_words, play_rooms, read_case, write_words};
 use crate::testing::recorded::result_words;
+
+const AFTER: [u32; 4] = [0x8140_0000, 0, 0x4000_0000, 0x8000_0000];
 
 fn marked_case(room: usize) -> Case {
     Case { table: MARKED.to_vec(), state: vec![0; 4], room, events: vec![0x1100_0500] }
@@ -16,20 +19,70 @@ fixed_cases! {
     }
 
     fn stream_of_its_results() {
-        let state = [0x8140_0000, 0, 0x4000_0000, 0x8000_0000];
         let trace = [0xF100_0000, 0x4100_0002, 0x0100_1234, 0x5555_5555];
         // Reason, place, B; fresh and its words; the state's check; answer, count, words.
-        let expected = [&[0, 0, 3][..], &[0, 0, 0, 0, 0], &[0], &[0, 3], &state, &trace].concat();
+        let single = [&[0, 0, 3][..], &[0, 0, 0, 0, 0], &[0], &[0, 3], &AFTER, &trace].concat();
+        // Room, taken, count, answer, words: the case's room, B, and a word less.
+        let own = [&[4, 1, 3, 0][..], &AFTER, &trace].concat();
+        let least = [&[3, 1, 3, 0][..], &AFTER, &trace[..3]].concat();
+        let full = [&[2, 0, 0, 3][..], &[0; 4], &[0x5555_5555; 2]].concat();
+        let expected = [single, vec![3], own, least, full].concat();
         assert_eq!(result_words(&marked_case(4)), expected);
     }
 
     fn stream_of_refusals() {
-        let expected =
-            [&[0, 0, 3][..], &[0, 0, 0, 0, 0], &[0], &[3, 0], &[0; 4], &[0x5555_5555; 2]].concat();
-        assert_eq!(result_words(&marked_case(2)), expected);
+        let unwritten = [[0; 4].as_slice(), &[0x5555_5555; 2]].concat();
+        let single = [&[0, 0, 3][..], &[0, 0, 0, 0, 0], &[0], &[3, 0], &unwritten].concat();
+        let own = [&[2, 0, 0, 3][..], &unwritten].concat();
+        let least =
+            [&[3, 1, 3, 0][..], &AFTER, &[0xF100_0000, 0x4100_0002, 0x0100_1234]].concat();
+        assert_eq!(result_words(&marked_case(2)), [single, vec![2], own, least].concat());
         let bad = Case { table: MARKED[..11].to_vec(), state: vec![7; 2], ..marked_case(1) };
-        let expected = [4, 0, 0, 1, 0xAAAA_AAAA, 0xAAAA_AAAA, 1, 1, 0, 7, 7, 0x5555_5555];
-        assert_eq!(result_words(&bad), expected);
+        let single = [4, 0, 0, 1, 0xAAAA_AAAA, 0xAAAA_AAAA, 1, 1, 0, 7, 7, 0x5555_5555];
+        let play = [1, 1, 0, 0, 1, 7, 7, 0x5555_5555];
+        assert_eq!(result_words(&bad), [&single[..], &play].concat());
+    }
+
+    /// Requests of 5 write three words, and those of 6 none.
+    fn stream_has_plays_that_end_and_that_stop_at_the_end_and_half_way() {
+        let turns = |refused: &[u32]| {
+            let events = [&[0x1100_0500, 0x1100_0600].repeat(4)[..], refused].concat();
+            play_rooms(&Case { events, ..marked_case(3) })
+        };
+        // The eighth event needs four runs and B; the fourth, half way, two runs and B.
+        assert_eq!(turns(&[]), [3, 15, 14, 8]);
+        // The refused event is looked at too, and what comes behind it is not.
+        assert_eq!(turns(&[0x1200_0500, 0x1100_0500, 0x1100_0600]), [3, 15, 14, 8]);
+        // A tenth: five runs.
+        assert_eq!(turns(&[0x1100_0500, 0x1100_0600]), [3, 18, 17, 11]);
+    }
+
+    fn stream_has_plays_of_twelve_events_and_no_more() {
+        let events = [0x1100_0500, 0x1100_0600].repeat(20);
+        let case = Case { events, ..marked_case(5) };
+        assert_eq!(play_rooms(&case)[..3], [5, 21, 20]);
+        let twelve = result_words(&Case { events: case.events[..12].to_vec(), ..case.clone() });
+        let plays = 1 + play_rooms(&case).iter().map(|room| 4 + 4 + room).sum::<usize>();
+        let all = result_words(&case);
+        assert_eq!(all[all.len() - plays..], twelve[twelve.len() - plays..]);
+    }
+
+    fn stream_has_plays_in_the_cases_room_alone_where_nothing_can_be_played() {
+        let refused = Case { table: MARKED[..11].to_vec(), ..marked_case(7) };
+        let unfit = Case { state: vec![1; 4], ..marked_case(7) };
+        assert_eq!([play_rooms(&refused), play_rooms(&unfit)], [[7], [7]]);
+        // Nothing is needed for no events.
+        assert_eq!(play_rooms(&Case { events: vec![], ..marked_case(7) }), [7, 0]);
+    }
+
+    fn stream_has_no_play_of_more_than_20000_words() {
+        let rules: Vec<u32> = (0..16).map(|number| rule(0, 0, number, NONE)).collect();
+        let table =
+            plain(&[mode(0)], &[equal(0, 5)], &rules, &[list(0, 0, 255); 16], &[call(0); 255]);
+        let events = vec![0x1000_0500; 12];
+        let case = Case { table, state: vec![0; 17], room: 30_000, events };
+        // The fourth event is the last that could be lent its 16,384 words; the third is half way.
+        assert_eq!(play_rooms(&case), [20_000, 16_384, 16_383, 12_287]);
     }
 
     fn stream_is_read_as_it_was_written() {
