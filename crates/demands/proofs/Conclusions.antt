@@ -1,23 +1,25 @@
 -- What the demands conclude of one call follows from what its entry promises. Assumes nothing.
 use mathlib.Core.Path.{_≡_, _∙_}
 use mathlib.Core.Bool.{false}
-use mathlib.Core.List.{List, [], _∷_, _++_}
+use mathlib.Core.List.{List, append-nil}
 use Prim.Native.Nat.{ℕ}
-use lib.ListN.{length, take}
+use native.Mathlib.Omega.{arith}
+use lib.ListN.{length}
 use Rattle.rulebook.specs.Reasons.{accepted}
-use Rattle.rulebook.specs.Step.{firstFault}
+use Rattle.rulebook.specs.Step.{refusedState, firstFault}
 use Rattle.laws.proofs.Levels.{levels}
 use Rattle.laws.proofs.Started.{lists-started, unreached-refused}
-use Rattle.stranger.specs.Logs.{Entry, stateAfter}
 use Rattle.tables.specs.Finding.{promised}
-use Rattle.manager.specs.Promises.{ChecksTableIn, MakesFreshIn, TakesEventIn}
-use Rattle.demands.specs.Calls.{Played}
+use Rattle.manager.specs.Promises.{ChecksTableIn, MakesFreshIn, TakesEventIn, PlaysIn}
 use Rattle.demands.specs.Calls as calls
-use Rattle.demands.specs.Conclusions.{OfTable, OfFresh, OfEvent}
+use Rattle.demands.specs.Conclusions.{OfTable, OfFresh, OfEvent, OfPlay}
 use Rattle.demands.proofs.Demand1.{table-answered, fresh-answered, event-answered}
 use Rattle.demands.proofs.Demand2.{steps, lists, accepts}
 use Rattle.demands.proofs.Requests.{clears, heards}
 use Rattle.demands.proofs.Demand3.{demand-3}
+use Rattle.demands.proofs.Calls.{appended}
+use Rattle.demands.proofs.Plays.{play-answered, play-log, play-state, play-words}
+use Rattle.demands.proofs.Resumed.{play-goes}
 
 pub of-table : (t : List ℕ) (reason place b : ℕ) → ChecksTableIn t reason place b → OfTable t reason place b
 unfolding promised
@@ -30,23 +32,12 @@ of-table t reason place b p =
     }
 
 pub of-fresh : (t s : List ℕ) (k : ℕ) (s′ : List ℕ) → MakesFreshIn t s k s′ → OfFresh t s k s′
-of-fresh t s k s′ p = record { answered = fresh-answered t s k s′ p; waits = λ z. demand-3 t s k s′ p z .0; after = λ z. demand-3 t s k s′ p z .1 }
+of-fresh t s k s′ p = record { answered = fresh-answered t s k s′ p; waits = λ z. demand-3 t s k s′ p z }
 
 -- a table with a reason is met before all else
 bad-table : (t s : List ℕ) (room e k : ℕ) → k ≡ firstFault t s room e → accepted t ≡ false → k ≡ 1
 unfolding firstFault
 bad-table t s room e k is a = is ∙ rw a
-
--- one call more
-goes-on : (t s trace : List ℕ) (e k n : ℕ) (s′ trace′ : List ℕ) → TakesEventIn t s trace e k n s′ trace′ → k ≡ 0 → (s₀ : List ℕ) (xs : List Entry)
-    → Played t s₀ xs → stateAfter s₀ xs ≡ s
-    → Played t s₀ (xs ++ record { event = e; state = s′; words = take n trace′ } ∷ [])
-unfolding stateAfter
-goes-on t s trace e k n s′ trace′ p z s₀ xs calls.none is = rw is (calls.taken e p z calls.none)
-goes-on t s trace e k n s′ trace′ p z s₀ xs (calls.refused {s′ = u} d q r rest) is =
-    calls.refused d q r (goes-on t s trace e k n s′ trace′ p z u xs rest (rw (event-answered t s₀ _ d _ _ u _ q .stateKept r) is))
-goes-on t s trace e k n s′ trace′ p z s₀ xs (calls.taken {s′ = u} d {xs = ys} q r rest) is =
-    calls.taken d q r (goes-on t s trace e k n s′ trace′ p z u ys rest is)
 
 pub of-event : (t s trace : List ℕ) (e k n : ℕ) (s′ trace′ : List ℕ) → TakesEventIn t s trace e k n s′ trace′ → OfEvent t s trace e k n s′ trace′
 of-event t s trace e k n s′ trace′ p =
@@ -57,5 +48,21 @@ of-event t s trace e k n s′ trace′ p =
       clears = λ z. clears t s trace e k n s′ trace′ p z;
       heard = λ z. heards t s trace e k n s′ trace′ p z;
       unreached = λ l un. bad-table t s (length trace) e k (event-answered t s trace e k n s′ trace′ p .number) (unreached-refused t l un);
-      taken = λ z s₀ xs q is. goes-on t s trace e k n s′ trace′ p z s₀ xs q is;
+      taken = λ z s₀ xs q is. appended s q is (calls.taken e p z calls.none);
+    }
+
+bad-play : (t s : List ℕ) (k : ℕ) {A : Type 0} → ((refusedState t s ≡ 0 → ⊥) → (k ≡ refusedState t s) × A) → accepted t ≡ false → k ≡ 1
+unfolding refusedState
+bad-play t s k f a = rw a at (f (λ z. let y : 1 ≡ 0 = rw a at z in omega arith) .0)
+
+pub of-play : (t s trace es : List ℕ) (k n m : ℕ) (s′ trace′ : List ℕ) → PlaysIn t s trace es k n m s′ trace′ → OfPlay t s trace es k n m s′ trace′
+of-play t s trace es k n m s′ trace′ p =
+    record {
+      answered = play-answered t s trace es k n m s′ trace′ p;
+      goes = play-goes t s trace es k n m s′ trace′ p;
+      log = play-log t s trace es k n m s′ trace′ p;
+      state = play-state t s trace es k n m s′ trace′ p;
+      words = play-words t s trace es k n m s′ trace′ p;
+      unreached = λ l un. bad-play t s k (play-answered t s trace es k n m s′ trace′ p .unstood) (unreached-refused t l un);
+      taken = λ s₀ xs q is. appended s q is (rw append-nil at (calls.played es p calls.none));
     }

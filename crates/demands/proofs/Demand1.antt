@@ -14,6 +14,7 @@ use Rattle.laws.proofs.Facts.{facts}
 use Rattle.laws.proofs.Steps.{refusal-changes-nothing, happen-shallow}
 use Rattle.tables.specs.Finding.{promised}
 use Rattle.manager.specs.Promises.{ChecksTableIn, MakesFreshIn, ChecksStateIn, TakesEventIn}
+use Rattle.demands.proofs.Plays.{play-answered}
 use Rattle.demands.specs.Demand1.{TableAnswered, FreshAnswered, StateAnswered, EventAnswered, Demand1}
 
 -- The table check.
@@ -77,4 +78,4 @@ event-answered t s trace e k n s′ trace′ p =
     same r = refusal-changes-nothing t s (length trace) e (λ z. r (p .answer ∙ z))
 
 pub demand-1 : Demand1
-demand-1 = record { checkTable = table-answered; makeFresh = fresh-answered; checkState = state-answered; takeEvent = event-answered }
+demand-1 = record { checkTable = table-answered; makeFresh = fresh-answered; checkState = state-answered; takeEvent = event-answered; play = play-answered }

@@ -5,6 +5,7 @@ use mathlib.Core.List.{List}
 use Prim.Native.Nat.{ℕ, _≤_, _<_}
 use native.Mathlib.Omega.{arith}
 use lib.ListN.{length, take}
+use lib.Seq.{take-length}
 use lib.Dec.{eqb}
 use borrow.Author.Tests.{eqb-true, eq-eqb, le-leb, le-ltb}
 use Rattle.rulebook.specs.Table.{networks, networkOwner, sources, sourceOwner, timeout}
@@ -12,42 +13,27 @@ use Rattle.rulebook.specs.Reasons.{accepted, bound}
 use Rattle.rulebook.specs.State.{fresh, stateRecover, statusNone, statusPending, statusExpired}
 use Rattle.rulebook.specs.Lists.{networkIn}
 use Rattle.rulebook.specs.Events.{eventWakeup, eventBusOff, eventHeard, statusIn, takes, listens}
-use Rattle.rulebook.specs.Step.{firstFault, refusedEvent}
+use Rattle.rulebook.specs.Step.{refusedState, firstFault, refusedEvent}
 use Rattle.laws.proofs.Tests.{split, and-right}
 use Rattle.laws.proofs.Facts.{facts}
 use Rattle.laws.proofs.FitKept.{Fits}
-use Rattle.laws.proofs.Happen.{Taken}
 use Rattle.laws.proofs.Steps.{fresh-fits}
-use Rattle.stranger.specs.Logs.{Entry, Follows, Log, stateAfter}
+use Rattle.laws.proofs.Play.{stands}
+use Rattle.stranger.specs.Logs.{Entry, stateAfter, logFrom, joined, struckOut}
 use Rattle.stranger.specs.Demand.{busOffTaken, hears, heardTaken, becomesPending, ownersEvent}
-use Rattle.stranger.specs.Statements.{newly}
+use Rattle.stranger.specs.Statements.{Demand3, newly}
 use Rattle.stranger.proofs.Logs.{log-fits}
+use Rattle.stranger.proofs.Played.{struck-taken, struck-again}
 use Rattle.stranger.proofs.NotEmpty.{kind-is, index-is, wakeup-known, bus-off-known, heard-known}
 use Rattle.stranger.proofs.Exactly.{bus-off-exactly, heard-kept, wakeup-exactly}
 use Rattle.stranger.proofs.Demand3 as stranger
 use Rattle.manager.specs.Promises.{MakesFreshIn, TakesEventIn}
 use Rattle.demands.specs.Calls.{Played}
-use Rattle.demands.specs.Calls as calls
-use Rattle.demands.specs.Demand3.{AnsweredAfter, Demand3OfCalls}
+use Rattle.demands.specs.Plays.{Resumed}
+use Rattle.demands.specs.Demand3.{AnsweredAfter, StruckOutPlayed, Demand3OfCalls}
 use Rattle.demands.proofs.Demand1.{fresh-answered, event-answered}
-use Rattle.demands.proofs.Demand2.{call, steps}
-
--- What calls gave is a log of the rulebook's steps.
-
-not-refused : (t : List ℕ) (e : ℕ) → Taken t e → refusedEvent t e ≡ 0
-unfolding refusedEvent
-not-refused t e w = rw (w .wellFormed, w .known, w .owner)
-
-follows : (t s trace : List ℕ) (e k n : ℕ) (s′ trace′ : List ℕ) → TakesEventIn t s trace e k n s′ trace′ → k ≡ 0
-    → Follows t s (record { event = e; state = s′; words = take n trace′ })
-follows t s trace e k n s′ trace′ p z =
-    let x = steps t s trace e k n s′ trace′ p z in
-    record { taken = not-refused t e (call t s trace e k n s′ trace′ p z .taken); state = x .state; words = x .new }
-
-pub log-of : (t s : List ℕ) (xs : List Entry) → Played t s xs → Log t s xs
-log-of t s xs calls.none = tt
-log-of t s xs (calls.refused {s′ = u} e p n rest) = rw (event-answered t s _ e _ _ u _ p .stateKept n) at (log-of t u xs rest)
-log-of t s xs (calls.taken {s′ = u} e {xs = ys} p z rest) = (follows t s _ e _ _ u _ p z, log-of t u ys rest)
+use Rattle.demands.proofs.Calls.{follows, log-of}
+use Rattle.demands.proofs.Resumed.{resumed-log, all-taken}
 
 -- The answers after any calls.
 
@@ -111,6 +97,38 @@ answered-after t h =
       keeps = λ xs p i b on trace k n s′ trace′ room q. keeps t h xs p trace room i b on k n s′ trace′ q;
     }
 
+-- The strangers struck out of the events taken, and the rest played and resumed.
+
+module _ (t : List ℕ) (h : accepted t ≡ true) where
+  demand : Demand3 t (fresh t) (Played t (fresh t))
+  demand = stranger.demand-3 t h (Played t (fresh t)) (log-of t (fresh t))
+
+  stood : refusedState t (fresh t) ≡ 0
+  stood = stands t (fresh t) h (fresh-fits t h)
+
+  module _ (o : ℕ) (xs : List Entry) (went : Played t (fresh t) xs) {k n : ℕ} {s′ ws : List ℕ} (r : Resumed t (fresh t) (struckOut o xs) k n s′ ws) where
+    abbrev es : List ℕ
+    es = struckOut o xs
+
+    struck-done : (k ≡ 0) × (n ≡ length es)
+    struck-done = all-taken r stood (struck-taken t (fresh t) o xs (log-of t (fresh t) xs went))
+
+    struck-log : (let ys = logFrom t (fresh t) es in
+        Played t (fresh t) ys × (struckOut o ys ≡ es) × (stateAfter (fresh t) ys ≡ s′) × (joined ys ≡ ws))
+    struck-log =
+        let l = rw (struck-done .1, take-length es) at (resumed-log r) in
+        (l .0, struck-again t (fresh t) o xs, l .1, l .2)
+
+  struck : StruckOutPlayed t (fresh t)
+  struck =
+      record {
+        done = struck-done;
+        log = struck-log;
+        network = λ i b xs w r. let l = struck-log _ xs w r in demand .strangers .network i b xs _ w (l .0) (sym (l .1));
+        source = λ i b xs w r. let l = struck-log _ xs w r in demand .strangers .source i b xs _ w (l .0) (sym (l .1));
+        same = λ o xs w r. let l = struck-log o xs w r in demand .strangers .same o xs _ w (l .0) (sym (l .1));
+      }
+
 -- The demand, from whatever state `make_fresh` made.
 
 accepted-when : (t s : List ℕ) (k : ℕ) (s′ : List ℕ) → MakesFreshIn t s k s′ → k ≡ 0 → accepted t ≡ true
@@ -119,4 +137,4 @@ accepted-when t s k s′ p z = split (accepted t) (λ a. a) (λ a. let y = fresh
 pub demand-3 : Demand3OfCalls
 demand-3 t s₀ k s p z =
     let h = accepted-when t s₀ k s p z in
-    rw (fresh-answered t s₀ k s p .made z) (stranger.demand-3 t h (Played t (fresh t)) (log-of t (fresh t)), answered-after t h)
+    rw (fresh-answered t s₀ k s p .made z) (record { waits = demand t h; after = answered-after t h; struck = struck t h })

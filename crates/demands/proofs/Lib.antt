@@ -1,6 +1,10 @@
 -- The demands, proved from the laws and from `stranger`.
+pub mod Plays
+pub mod Singles
+pub mod Resumed
 pub mod Demand1
 pub mod Demand2
+pub mod Calls
 pub mod Demand3
 pub mod Requests
 pub mod Conclusions

@@ -10,13 +10,13 @@ use Rattle.laws.specs.Chosen.{Arbitrated}
 use Rattle.laws.specs.Cleared.{ClearCounts}
 use Rattle.laws.specs.Levels.{Levels}
 use Rattle.laws.specs.Reached.{Unreached, ListsStarted}
-use Rattle.stranger.specs.Logs.{Entry, stateAfter}
-use Rattle.stranger.specs.Statements.{Demand3}
+use Rattle.stranger.specs.Logs.{Entry, Log, stateAfter, logFrom, joined}
 use Rattle.stranger.specs.Heard.{HeardCounts}
 use Rattle.demands.specs.Calls.{Played}
+use Rattle.demands.specs.Plays.{PlayAnswered, PlayGoes}
 use Rattle.demands.specs.Demand1.{TableAnswered, FreshAnswered, StateAnswered, EventAnswered}
 use Rattle.demands.specs.Demand2.{Steps}
-use Rattle.demands.specs.Demand3.{AnsweredAfter}
+use Rattle.demands.specs.Demand3.{Demand3After}
 
 pub record OfTable (t : List ℕ) (reason place b : ℕ) : Type 0 where
   pub answered : TableAnswered t reason place b
@@ -29,8 +29,7 @@ pub record OfTable (t : List ℕ) (reason place b : ℕ) : Type 0 where
 pub record OfFresh (t s : List ℕ) (k : ℕ) (s′ : List ℕ) : Type 0 where
   pub answered : FreshAnswered t s k s′
   -- whatever calls follow from this state
-  pub waits : k ≡ 0 → Demand3 t s′ (Played t s′)
-  pub after : k ≡ 0 → AnsweredAfter t s′
+  pub waits : k ≡ 0 → Demand3After t s′
 
 abbrev pub OfState : List ℕ → List ℕ → ℕ → Type 0
 OfState t s k = StateAnswered t s k
@@ -48,3 +47,16 @@ pub record OfEvent (t s trace : List ℕ) (e k n : ℕ) (s′ trace′ : List �
   -- the log goes on: calls that led from s₀ to s, and this one
   pub taken : k ≡ 0 → (s₀ : List ℕ) (xs : List Entry) → Played t s₀ xs → stateAfter s₀ xs ≡ s
       → Played t s₀ (xs ++ record { event = e; state = s′; words = take n trace′ } ∷ [])
+
+-- Q-1, of a play of es: k what ended it, n events taken, m trace words written
+pub record OfPlay (t s trace es : List ℕ) (k n m : ℕ) (s′ trace′ : List ℕ) : Type 0 where
+  pub answered : PlayAnswered t s trace es k n m s′ trace′
+  pub goes : PlayGoes t s trace es k n m s′ trace′
+  -- the events taken are a log of the rulebook's steps, which ends in the play's state and whose words, joined, are the play's
+  pub log : Log t s (logFrom t s (take n es))
+  pub state : stateAfter s (logFrom t s (take n es)) ≡ s′
+  pub words : joined (logFrom t s (take n es)) ≡ take m trace′
+  -- Q-6: "Every event call meets it as answer 1."
+  pub unreached : (l : ℕ) → Unreached t l → k ≡ 1
+  -- the log goes on: calls that led from s₀ to s, and this play
+  pub taken : (s₀ : List ℕ) (xs : List Entry) → Played t s₀ xs → stateAfter s₀ xs ≡ s → Played t s₀ (xs ++ logFrom t s (take n es))

@@ -9,7 +9,8 @@ use Rattle.rulebook.specs.Reasons.{accepted, bound}
 use Rattle.rulebook.specs.State.{stateLength, fits, fresh}
 use Rattle.rulebook.specs.Step.{firstFault}
 use Rattle.laws.specs.Acceptance.{Given}
-use Rattle.manager.specs.Promises.{ChecksTableIn, MakesFreshIn, ChecksStateIn, TakesEventIn}
+use Rattle.manager.specs.Promises.{ChecksTableIn, MakesFreshIn, ChecksStateIn, TakesEventIn, PlaysIn}
+use Rattle.demands.specs.Plays.{PlayAnswered}
 
 -- the table check: the first reason that holds, at the lowest word that breaks its rule; B of an accepted table
 pub record TableAnswered (t : List ℕ) (reason place b : ℕ) : Type 0 where
@@ -44,3 +45,5 @@ pub record Demand1 : Type 0 where
   pub makeFresh : (t s : List ℕ) (k : ℕ) (s′ : List ℕ) → MakesFreshIn t s k s′ → FreshAnswered t s k s′
   pub checkState : (t s : List ℕ) (k : ℕ) → ChecksStateIn t s k → StateAnswered t s k
   pub takeEvent : (t s trace : List ℕ) (e k n : ℕ) (s′ trace′ : List ℕ) → TakesEventIn t s trace e k n s′ trace′ → EventAnswered t s trace e k n s′ trace′
+  -- Q-1: of a play the first refusal, and what it changes nothing of
+  pub play : (t s trace es : List ℕ) (k n m : ℕ) (s′ trace′ : List ℕ) → PlaysIn t s trace es k n m s′ trace′ → PlayAnswered t s trace es k n m s′ trace′

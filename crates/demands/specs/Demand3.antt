@@ -1,4 +1,4 @@
--- Demand 3 over calls: s is what `make_fresh` made, and any results of the event call follow, each state passed on. Its sentences are
+-- Demand 3 over calls: s is what `make_fresh` made, and any results of the event call and of plays follow, each state passed on. Its sentences are
 -- those of stranger/specs/Statements, over the logs that calls gave.
 use mathlib.Core.Path.{_≡_}
 use mathlib.Core.Bool.{true, _||_}
@@ -12,11 +12,13 @@ use Rattle.rulebook.specs.State.{stateRecover, statusNone, statusPending, statu
 use Rattle.rulebook.specs.Lists.{networkIn}
 use Rattle.rulebook.specs.Events.{eventWakeup, eventBusOff, eventHeard, statusIn, takes, listens}
 use Rattle.rulebook.specs.Step.{refusedEvent}
-use Rattle.stranger.specs.Logs.{Entry, stateAfter}
-use Rattle.stranger.specs.Demand.{ownersEvent}
+use Rattle.stranger.specs.Logs.{Entry, stateAfter, logFrom, joined, struckOut}
+use Rattle.stranger.specs.View.{seen}
+use Rattle.stranger.specs.Demand.{networkMoment, sourceMoment, moments, ownersEvent}
 use Rattle.stranger.specs.Statements.{Demand3}
 use Rattle.manager.specs.Promises.{MakesFreshIn, TakesEventIn}
 use Rattle.demands.specs.Calls.{Played}
+use Rattle.demands.specs.Plays.{Resumed}
 
 -- After any calls, an event for which B trace words are lent.
 pub record AnsweredAfter (t s : List ℕ) : Type 0 where
@@ -37,5 +39,30 @@ pub record AnsweredAfter (t s : List ℕ) : Type 0 where
       → (trace : List ℕ) (k n : ℕ) (s′ trace′ : List ℕ) → bound t ≤ length trace
       → TakesEventIn t (stateAfter s xs) trace (ownersEvent eventHeard (networkOwner t i) i) k n s′ trace′ → (k ≡ 0) × (networkIn t i s′ .heard ≡ 1)
 
+-- Q-1: "since a stranger's lists may write more once its events are struck out, a play that then stops at 'trace full' is resumed with
+-- room until those events are done". xs is what was taken, by plays and single calls; the strangers to o are struck out of it (of a
+-- file of events it would be false, for a stranger's refused event ends a play), and the rest is played from s, resumed with any traces.
+pub record StruckOutPlayed (t s : List ℕ) : Type 0 where
+  -- all of it is taken
+  pub done : (o : ℕ) (xs : List Entry) → Played t s xs → {k n : ℕ} {s′ ws : List ℕ} → Resumed t s (struckOut o xs) k n s′ ws
+      → (k ≡ 0) × (n ≡ length (struckOut o xs))
+  -- it leaves this log, which ends in its state and has its words
+  pub log : (o : ℕ) (xs : List Entry) → Played t s xs → {k n : ℕ} {s′ ws : List ℕ} → Resumed t s (struckOut o xs) k n s′ ws
+      → (let ys = logFrom t s (struckOut o xs) in Played t s ys × (struckOut o ys ≡ struckOut o xs) × (stateAfter s ys ≡ s′) × (joined ys ≡ ws))
+  -- "each of them falls at the same tick", and o sees the same
+  pub network : (i : ℕ) → i < networks t → (xs : List Entry) → Played t s xs → {k n : ℕ} {s′ ws : List ℕ}
+      → Resumed t s (struckOut (networkOwner t i) xs) k n s′ ws
+      → moments (networkMoment t i) 0 s xs ≡ moments (networkMoment t i) 0 s (logFrom t s (struckOut (networkOwner t i) xs))
+  pub source : (i : ℕ) → i < sources t → (xs : List Entry) → Played t s xs → {k n : ℕ} {s′ ws : List ℕ}
+      → Resumed t s (struckOut (sourceOwner t i) xs) k n s′ ws
+      → moments (sourceMoment t i) 0 s xs ≡ moments (sourceMoment t i) 0 s (logFrom t s (struckOut (sourceOwner t i) xs))
+  pub same : (o : ℕ) (xs : List Entry) → Played t s xs → {k n : ℕ} {s′ ws : List ℕ} → Resumed t s (struckOut o xs) k n s′ ws
+      → seen t o xs ≡ seen t o (logFrom t s (struckOut o xs))
+
+pub record Demand3After (t s : List ℕ) : Type 0 where
+  pub waits : Demand3 t s (Played t s)
+  pub after : AnsweredAfter t s
+  pub struck : StruckOutPlayed t s
+
 abbrev pub Demand3OfCalls : Type 0
-Demand3OfCalls = (t s₀ : List ℕ) (k : ℕ) (s : List ℕ) → MakesFreshIn t s₀ k s → k ≡ 0 → Demand3 t s (Played t s) × AnsweredAfter t s
+Demand3OfCalls = (t s₀ : List ℕ) (k : ℕ) (s : List ℕ) → MakesFreshIn t s₀ k s → k ≡ 0 → Demand3After t s

@@ -1,5 +1,6 @@
 -- The user's three demands, over what the public entries promise.
 pub mod Calls
+pub mod Plays
 pub mod Demand1
 pub mod Demand2
 pub mod Demand3

@@ -2,10 +2,11 @@
 ghost use Rattle.tables.specs.Finding.{finding};
 ghost use Rattle.states.specs.Made.{numberOf as madeNumber};
 ghost use Rattle.events.specs.Answers.{numberOf, countOf};
-ghost use Rattle.manager.specs.Answers.{stateNumber};
-ghost use Rattle.demands.specs.Conclusions.{OfTable, OfFresh, OfState, OfEvent};
+ghost use Rattle.manager.specs.Answers.{stateNumber, endNumber};
+ghost use Rattle.demands.specs.Conclusions.{OfTable, OfFresh, OfState, OfEvent, OfPlay};
 use events::Answer;
 use manager::Fit;
+use manager::Played;
 use states::Made;
 use tables::Checked;
 
@@ -31,4 +32,11 @@ pub fn take_event(t: &[u32], s: &mut [u32], trace: &mut [u32], e: u32) -> Answer
     ensures { λ r. ⌜ OfEvent (now (t .entry)) (now (s .entry)) (now (trace .entry)) e (numberOf r) (countOf r) (now (s .exit)) (now (trace .exit)) ⌝ }
 {
     manager::take_event(t, s, trace, e)
+}
+
+pub fn play(t: &[u32], s: &mut [u32], trace: &mut [u32], es: &[u32]) -> Played
+    ensures { λ r. ⌜ OfPlay (now (t .entry)) (now (s .entry)) (now (trace .entry)) (now (es .entry)) (endNumber (r .end)) (r .taken) (r .count)
+        (now (s .exit)) (now (trace .exit)) ⌝ }
+{
+    manager::play(t, s, trace, es)
 }

@@ -1,5 +1,5 @@
 // The same entries as a gateway links them, in numbers.
-ghost use Rattle.demands.specs.Conclusions.{OfTable, OfFresh, OfState, OfEvent};
+ghost use Rattle.demands.specs.Conclusions.{OfTable, OfFresh, OfState, OfEvent, OfPlay};
 
 pub fn check_table(t: &[u32], place: &mut usize, bound: &mut u32) -> u32
     ensures { λ r. ⌜ OfTable (now (t .entry)) r (now (place .exit)) (now (bound .exit)) ⌝ }
@@ -23,4 +23,18 @@ pub fn take_event(t: &[u32], s: &mut [u32], trace: &mut [u32], e: u32, count: &m
     ensures { λ r. ⌜ OfEvent (now (t .entry)) (now (s .entry)) (now (trace .entry)) e r (now (count .exit)) (now (s .exit)) (now (trace .exit)) ⌝ }
 {
     gateway::herringcart_take_event(t, s, trace, e, count)
+}
+
+pub fn play(
+    t: &[u32],
+    s: &mut [u32],
+    trace: &mut [u32],
+    es: &[u32],
+    taken: &mut usize,
+    count: &mut usize,
+) -> u32
+    ensures { λ r. ⌜ OfPlay (now (t .entry)) (now (s .entry)) (now (trace .entry)) (now (es .entry)) r (now (taken .exit)) (now (count .exit))
+        (now (s .exit)) (now (trace .exit)) ⌝ }
+{
+    gateway::herringcart_play(t, s, trace, es, taken, count)
 }

@@ -1,4 +1,4 @@
--- Two results that a promise in numbers allows are equal, entry by entry. Assumes nothing.
+-- Two results that a promise in numbers allows are equal, entry by entry; of a play `manager` says so (`one-play`). Assumes nothing.
 use Prim.Native.Nat.{ℕ}
 use mathlib.Core.Path.{_≡_, sym, _∙_}
 use mathlib.Core.List.{List}

@@ -3,7 +3,7 @@
 ghost use mathlib.Core.Path.{_≡_};
 ghost use Rattle.states.specs.Made.{numberOf as madeNumber};
 ghost use Rattle.manager.specs.Answers.{stateNumber};
-ghost use Rattle.manager.specs.Promises.{ChecksTableIn, CountsWords, MakesFreshIn, ChecksStateIn, TakesEventIn};
+ghost use Rattle.manager.specs.Promises.{ChecksTableIn, CountsWords, MakesFreshIn, ChecksStateIn, TakesEventIn, PlaysIn};
 use manager::Fit;
 use states::Made;
 
@@ -76,4 +76,25 @@ pub extern "C" fn herringcart_take_event(
     let answer = manager::take_event(table, state, trace, event);
     *count = events::count(answer);
     events::number(answer)
+}
+
+// Plays event words one after the other: gives the number of what ended it, 0 after the last event, writes state and trace in place, how
+// many events were taken and how many trace words written.
+#[no_mangle]
+pub extern "C" fn herringcart_play(
+    table: &[u32],
+    state: &mut [u32],
+    trace: &mut [u32],
+    events: &[u32],
+    taken: &mut usize,
+    count: &mut usize,
+) -> u32
+    ensures { λ r. ⌜ PlaysIn (now (table .entry)) (now (state .entry)) (now (trace .entry)) (now (events .entry)) r
+        (now (taken .exit)) (now (count .exit)) (now (state .exit)) (now (trace .exit)) ⌝ }
+{
+    let played = manager::play(table, state, trace, events);
+    *taken = played.taken;
+    *count = played.count;
+    let end = played.end;
+    manager::end_number(end)
 }

@@ -19,6 +19,7 @@ pub mod FitKept
 pub mod Happen
 pub mod FitEvents
 pub mod Steps
+pub mod Play
 pub mod Chains
 pub mod Chosen
 pub mod Marks

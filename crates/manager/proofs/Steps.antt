@@ -1,59 +1,62 @@
 -- The event call: its exits, and what its run needs. Assumes nothing.
 use Prim.Native.Nat.{ℕ, _≤_}
-use mathlib.Core.Path.{_≡_, refl, sym, _∙_, ap}
+use mathlib.Core.Path.{_≡_, refl}
 use mathlib.Core.Bool.{true, false}
 use mathlib.Core.List.{List}
 use native.Mathlib.Omega.{arith}
 use lib.ListN.{length}
 use lib.Dec.{leb}
-use borrow.Author.Tests.{leb-true, leb-false, lt-ltb, le-ltb}
+use borrow.Author.Tests.{leb-true, leb-false, le-ltb}
 use Rattle.rulebook.specs.Table.{rules}
 use Rattle.rulebook.specs.Reasons.{bound, accepted}
-use Rattle.rulebook.specs.State.{fits}
 use Rattle.rulebook.specs.Events.{happen}
-use Rattle.rulebook.specs.Step.{firstFault, refusedEvent, conclude, step, handle}
+use Rattle.rulebook.specs.Step.{refusedState, firstFault, refusedEvent, conclude, step, handle}
 use Rattle.laws.proofs.Facts.{facts}
 use Rattle.laws.proofs.Steps.{happen-shallow, happen-paid}
-use Rattle.tables.specs.declared.Checked.{Checked}
-use Rattle.tables.specs.declared.Checked.the-variants.{Accepted}
-use Rattle.tables.specs.Finding as tables
+use Rattle.laws.proofs.Play.{stood-table, stood-state, step-unadmitted, step-full}
+use Rattle.words.specs.declared.sections.Layout.{Layout}
 use Rattle.lists.specs.Runs.{Safe}
-use Rattle.events.specs.declared.Answer.the-variants.{BadTable, UnfitState, ShortTrace}
-use Rattle.events.specs.Answers.{Reports}
+use Rattle.events.specs.declared.Answer.{Answer}
+use Rattle.events.specs.declared.Answer.the-variants.{ShortTrace}
+use Rattle.events.specs.Answers.{numberOf, countOf, Reports}
+use Rattle.manager.specs.Promises.{Admitted}
 
--- B, as the check's answer tells it
-pub finding-bound : (t : List ℕ) (b : ℕ) (r : Checked) → r ≡ Accepted b → tables.finding r ≡ tables.promised t → accepted t ≡ true → b ≡ bound t
-unfolding tables.promised
-finding-bound t b r e h a = ap (λ (x : Checked). tables.finding x .bound) (sym e) ∙ ap (λ (x : tables.Finding). x .bound) h ∙ rw a
+-- table or state does not stand
+pub reports-unadmitted : (t s trace : List ℕ) (e : ℕ) (r : Answer) → (refusedState t s ≡ 0 → ⊥) → numberOf r ≡ refusedState t s → countOf r ≡ 0
+    → Reports (step t s (length trace) e) trace r s trace
+reports-unadmitted t s trace e r n is none =
+    rw (step-unadmitted t s n (length trace) e) (record { answer = is; count = none; state = refl; words = refl })
 
-module _ (t s trace : List ℕ) (e : ℕ) where
-  pub bad-table : accepted t ≡ false → Reports (step t s (length trace) e) trace BadTable s trace
-  unfolding step conclude firstFault
-  bad-table h = rw h (record { answer = refl; count = refl; state = refl; words = refl })
-
-  pub unfit-state : accepted t ≡ true → fits t s ≡ false → Reports (step t s (length trace) e) trace UnfitState s trace
-  unfolding step conclude firstFault
-  unfit-state h k = rw (h, k) (record { answer = refl; count = refl; state = refl; words = refl })
-
-  module _ (b : ℕ) (is : b ≡ bound t) where
-    pub short-trace : accepted t ≡ true → fits t s ≡ true → leb b (length trace) ≡ false → Reports (step t s (length trace) e) trace ShortTrace s trace
-    unfolding step conclude firstFault
-    short-trace h k r =
-        let less = leb-false b (length trace) r in
-        rw (h, k, lt-ltb (length trace) (bound t) (rw is at less)) (record { answer = refl; count = refl; state = refl; words = refl })
-
-    pub goes-on : accepted t ≡ true → fits t s ≡ true → leb b (length trace) ≡ true → step t s (length trace) e ≡ handle t s e
-    unfolding step handle conclude firstFault refusedEvent
-    goes-on h k r =
-        let enough = leb-true b (length trace) r in
-        rw (h, k, le-ltb (length trace) (bound t) (rw is at enough))
-
-    -- the run's words fit the trace, and it is not deep
-    pub safe : accepted t ≡ true → leb b (length trace) ≡ true → Safe (happen t e s) trace
-    safe h r =
-        let enough = leb-true b (length trace) r in
-        let paid = happen-paid t (facts t h) e s in
-        record { room = let least : bound t ≤ length trace = rw is at enough in omega arith; shallow = happen-shallow t (facts t h) e s }
+-- what the run needs: its words fit the trace, and it is not deep
+pub safe : (t s trace : List ℕ) (e : ℕ) → accepted t ≡ true → bound t ≤ length trace → Safe (happen t e s) trace
+safe t s trace e h enough =
+    record { room = let paid = happen-paid t (facts t h) e s in omega arith; shallow = happen-shallow t (facts t h) e s }
 
 pub few-rules : (t : List ℕ) (n : ℕ) → accepted t ≡ true → n ≡ rules t → n ≤ 256
 few-rules t n h e = let few = facts t h .counts .rules in omega arith
+
+-- Behind the check of table and state, which gave b.
+
+module _ {t s : List ℕ} {h : Layout} {b : ℕ} (ok : Admitted t s h b) (trace : List ℕ) (e : ℕ) where
+  table-stands : accepted t ≡ true
+  table-stands = stood-table t s (ok .stands)
+
+  pub short-trace : leb b (length trace) ≡ false → Reports (step t s (length trace) e) trace ShortTrace s trace
+  short-trace r =
+      let less = leb-false b (length trace) r in let is = ok .bound in
+      rw (step-full t s (length trace) e table-stands (stood-state t s (ok .stands)) (omega arith))
+      (record { answer = refl; count = refl; state = refl; words = refl })
+
+  enough : leb b (length trace) ≡ true → bound t ≤ length trace
+  enough r = let least = leb-true b (length trace) r in let is = ok .bound in omega arith
+
+  pub goes-on : leb b (length trace) ≡ true → step t s (length trace) e ≡ handle t s e
+  unfolding step handle conclude firstFault refusedEvent
+  goes-on r = rw (table-stands, stood-state t s (ok .stands), le-ltb (length trace) (bound t) (enough r))
+
+  -- what the run asks for
+  pub few : h .rules ≤ 256
+  few = few-rules t _ table-stands (ok .laid .rules .value)
+
+  pub run-safe : leb b (length trace) ≡ true → Safe (happen t e s) trace
+  run-safe r = safe t s trace e table-stands (enough r)

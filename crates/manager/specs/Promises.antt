@@ -3,10 +3,15 @@
 -- numbers are of.
 use Prim.Native.Nat.{ℕ}
 use mathlib.Core.Path.{_≡_}
-use mathlib.Core.List.{List}
-use lib.ListN.{length}
+use mathlib.Core.List.{List, _++_}
+use lib.ListN.{length, drop}
+use Rattle.rulebook.specs.Reasons.{bound}
 use Rattle.rulebook.specs.State.{stateLength}
 use Rattle.rulebook.specs.Step.{refusedState, step}
+use Rattle.rulebook.specs.Play.{play}
+use Rattle.rulebook.specs.Play as rulebook
+use Rattle.words.specs.declared.sections.Layout.{Layout}
+use Rattle.words.specs.Sections.{Laid}
 use Rattle.tables.specs.declared.Checked.{Checked}
 use Rattle.tables.specs.Finding.{finding, Says, promised}
 use Rattle.states.specs.declared.Made.{Made}
@@ -15,7 +20,8 @@ use Rattle.states.specs.Made as made
 use Rattle.events.specs.declared.Answer.{Answer}
 use Rattle.events.specs.Answers.{numberOf, countOf, Tells}
 use Rattle.manager.specs.declared.Fit.{Fit}
-use Rattle.manager.specs.Answers.{stateNumber}
+use Rattle.manager.specs.declared.Played.{Played}
+use Rattle.manager.specs.Answers.{stateNumber, endNumber}
 
 -- `check_table` of table t: the reason, the place and B, 0 where there is none
 
@@ -53,3 +59,25 @@ TakesEventIn t s trace e k n s′ trace′ = Tells (step t s (length trace) e) t
 
 abbrev pub TakesEvent : List ℕ → List ℕ → List ℕ → ℕ → Answer → List ℕ → List ℕ → Type 0
 TakesEvent t s trace e r s′ trace′ = TakesEventIn t s trace e (numberOf r) (countOf r) s′ trace′
+
+-- `play` of table t, state s, the lent trace and the event words es: the number k of what ended it, n events taken, m trace words
+-- written, state and trace afterwards. The joined words stand at the front of the trace, and its other words are unchanged.
+
+pub record TellsPlay (p : rulebook.Play) (trace : List ℕ) (k n m : ℕ) (s′ trace′ : List ℕ) : Type 0 where
+  pub answer : k ≡ p .answer
+  pub taken : n ≡ p .taken
+  pub count : m ≡ length (p .words)
+  pub state : s′ ≡ p .state
+  pub words : trace′ ≡ p .words ++ drop (length (p .words)) trace
+
+abbrev pub PlaysIn : List ℕ → List ℕ → List ℕ → List ℕ → ℕ → ℕ → ℕ → List ℕ → List ℕ → Type 0
+PlaysIn t s trace es k n m s′ trace′ = TellsPlay (play t s (length trace) es) trace k n m s′ trace′
+
+abbrev pub Plays : List ℕ → List ℕ → List ℕ → List ℕ → Played → List ℕ → List ℕ → Type 0
+Plays t s trace es r s′ trace′ = PlaysIn t s trace es (endNumber (r .end)) (r .taken) (r .count) s′ trace′
+
+-- asked inside, once table and state are checked: the layout is the table's, and b is B
+pub record Admitted (t s : List ℕ) (h : Layout) (b : ℕ) : Type 0 where
+  pub stands : refusedState t s ≡ 0
+  pub laid : Laid t h
+  pub bound : b ≡ bound t

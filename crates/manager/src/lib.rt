@@ -1,9 +1,19 @@
 // The public entries. Each takes anything and checks for itself.
-ghost use Rattle.manager.specs.Promises.{ChecksTable, CountsWords, MakesFresh, ChecksState, TakesEvent};
+ghost use mathlib.Core.Path.{_≡_};
+ghost use Rattle.states.specs.Admission.{numberOf as admissionNumber};
+ghost use Rattle.events.specs.Answers.{numberOf, countOf};
+ghost use Rattle.manager.specs.Answers.{stateNumber, endNumber};
+ghost use Rattle.manager.specs.Promises.{ChecksTable, CountsWords, MakesFresh, ChecksState, Admitted, TakesEvent, Plays};
 use events::Answer;
+use lists::nothing;
 use refusals::Check;
+use refusals::passed_if;
+use states::Admission;
 use states::Made;
+use states::admit;
 use tables::Checked;
+use words::sections::Layout;
+use words::sections::read_accepted;
 
 // Checks a table: accepted, with B, or the first reason that holds and its place.
 pub fn check_table(t: &[u32]) -> Checked
@@ -33,36 +43,143 @@ pub enum Fit {
     Unfit,
 }
 
+fn fit_of(admission: Admission) -> Fit
+    ensures { λ r. ⌜ stateNumber r ≡ admissionNumber admission ⌝ }
+{
+    match admission {
+        Admission::Stands(_) => Fit::Fits,
+        Admission::BadTable => Fit::BadTable,
+        Admission::Unfit => Fit::Unfit,
+    }
+}
+
 // Checks a state against a table.
 pub fn check_state(t: &[u32], s: &[u32]) -> Fit
     ensures { λ r. ⌜ ChecksState (now (t .entry)) (now (s .entry)) r ⌝ }
 {
-    let checked = tables::check(t);
-    let Checked::Accepted(_) = checked else {
-        return Fit::BadTable;
-    };
-    if states::fits(t, s) {
-        return Fit::Fits;
+    fit_of(admit(t, s))
+}
+
+// The answer where table or state does not stand.
+fn not_admitted(admission: Admission) -> Answer
+    ensures { λ r. ⌜ (numberOf r ≡ admissionNumber admission) × (countOf r ≡ 0) ⌝ }
+{
+    match admission {
+        Admission::Stands(_) => Answer::Done(nothing()),
+        Admission::BadTable => Answer::BadTable,
+        Admission::Unfit => Answer::UnfitState,
     }
-    Fit::Unfit
+}
+
+// One event behind the check of table and state, which gave B.
+fn take_next(t: &[u32], h: Layout, b: u32, e: u32, s: &mut [u32], trace: &mut [u32]) -> Answer
+    requires { ⌜ Admitted (now t) (now s) h b ⌝ }
+    ensures { λ r. ⌜ TakesEvent (now (t .entry)) (now (s .entry)) (now (trace .entry)) e r (now (s .exit)) (now (trace .exit)) ⌝ }
+{
+    let room = passed_if(b as usize <= trace.len());
+    let Check::Passed = room else {
+        return Answer::ShortTrace;
+    };
+    events::handle(t, h, e, s, trace)
 }
 
 // Takes one event. The state and the trace are written in place; a refusal changes no word of either.
 pub fn take_event(t: &[u32], s: &mut [u32], trace: &mut [u32], e: u32) -> Answer
     ensures { λ r. ⌜ TakesEvent (now (t .entry)) (now (s .entry)) (now (trace .entry)) e r (now (s .exit)) (now (trace .exit)) ⌝ }
 {
-    let checked = tables::check(t);
-    let Checked::Accepted(b) = checked else {
-        return Answer::BadTable;
+    let admission = admit(t, s);
+    let Admission::Stands(b) = admission else {
+        return not_admitted(admission);
     };
-    let state = refusals::passed_if(states::fits(t, s));
-    let Check::Passed = state else {
-        return Answer::UnfitState;
+    let h = read_accepted(t);
+    take_next(t, h, b, e, s, trace)
+}
+
+// What ended a play: all its events are taken, or which answer stood before the next. A trace that is full is answer 3's.
+pub enum End {
+    Done,
+    BadTable,
+    UnfitState,
+    TraceFull,
+    Malformed,
+    NoSuchThing,
+    NotItsOwner,
+}
+
+// An end's number.
+pub fn end_number(end: End) -> u32
+    ensures { λ r. ⌜ r ≡ endNumber end ⌝ }
+{
+    match end {
+        End::Done => 0,
+        End::BadTable => 1,
+        End::UnfitState => 2,
+        End::TraceFull => 3,
+        End::Malformed => 4,
+        End::NoSuchThing => 5,
+        End::NotItsOwner => 6,
+    }
+}
+
+// The end that a single call's answer makes.
+fn end_of(answer: Answer) -> End
+    ensures { λ r. ⌜ endNumber r ≡ numberOf answer ⌝ }
+{
+    match answer {
+        Answer::Done(_) => End::Done,
+        Answer::BadTable => End::BadTable,
+        Answer::UnfitState => End::UnfitState,
+        Answer::ShortTrace => End::TraceFull,
+        Answer::Malformed => End::Malformed,
+        Answer::NoSuchThing => End::NoSuchThing,
+        Answer::NotItsOwner => End::NotItsOwner,
+    }
+}
+
+// How many events were taken, how many trace words they wrote, and what ended the play.
+pub struct Played {
+    pub taken: usize,
+    pub count: usize,
+    pub end: End,
+}
+
+// The events of a play, each in the trace words that those before it left free.
+fn play_on(t: &[u32], h: Layout, b: u32, s: &mut [u32], trace: &mut [u32], es: &[u32]) -> Played
+    requires { ⌜ Admitted (now t) (now s) h b ⌝ }
+    ensures { λ r. ⌜ Plays (now (t .entry)) (now (s .entry)) (now (trace .entry)) (now (es .entry)) r (now (s .exit)) (now (trace .exit)) ⌝ }
+{
+    let mut taken: usize = 0;
+    let mut count: usize = 0;
+    while taken < es.len() {
+        let answer = take_next(t, h, b, es[taken], s, &mut trace[count..]);
+        let Answer::Done(written) = answer else {
+            let end = end_of(answer);
+            return Played { taken, count, end };
+        };
+        count += written.count;
+        taken += 1;
+    }
+    Played {
+        taken,
+        count,
+        end: End::Done,
+    }
+}
+
+// Plays event words one after the other, table and state checked once. Before an event it stops if fewer than B trace words are
+// free, or if the event is refused; the state and the trace are then those of the events taken.
+pub fn play(t: &[u32], s: &mut [u32], trace: &mut [u32], es: &[u32]) -> Played
+    ensures { λ r. ⌜ Plays (now (t .entry)) (now (s .entry)) (now (trace .entry)) (now (es .entry)) r (now (s .exit)) (now (trace .exit)) ⌝ }
+{
+    let admission = admit(t, s);
+    let Admission::Stands(b) = admission else {
+        let end = end_of(not_admitted(admission));
+        return Played {
+            taken: 0,
+            count: 0,
+            end,
+        };
     };
-    let room = refusals::passed_if(b as usize <= trace.len());
-    let Check::Passed = room else {
-        return Answer::ShortTrace;
-    };
-    let h = words::sections::read_accepted(t);
-    events::handle(t, h, e, s, trace)
+    let h = read_accepted(t);
+    play_on(t, h, b, s, trace, es)
 }

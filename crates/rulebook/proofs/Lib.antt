@@ -3,4 +3,5 @@ pub mod AtOrAbove
 pub mod Reached
 pub mod Marked
 pub mod OneStep
+pub mod Play
 pub mod Width

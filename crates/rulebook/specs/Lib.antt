@@ -8,4 +8,5 @@ pub mod Lists
 pub mod Arbitration
 pub mod Events
 pub mod Step
+pub mod Play
 pub mod Marked

@@ -60,7 +60,7 @@ module _ (k : ℕ) (t : List ℕ) (enough : 3185 < k) where
   pub cut-check : check (take k t) ≡ check t
   cut-check = below k (length t) long-cut (λ h. rw (take-all k t h))
 
-  long-refused : k < length t → accepted t ≡ false
+  pub long-refused : k < length t → accepted t ≡ false
   long-refused h =
       split (accepted t)
       (λ a. let f = facts t a in let l = longest t (f .counts) in let e = f .exact in absurd (omega arith))
@@ -71,7 +71,7 @@ module _ (k : ℕ) (t : List ℕ) (enough : 3185 < k) where
 four : (k : ℕ) → 4 * suc k ≡ suc (suc (suc (suc (4 * k))))
 four k = omega arith
 
-words-take : (k : ℕ) (xs : List ℕ) → wordsOf (take (4 * k) xs) ≡ take k (wordsOf xs)
+pub words-take : (k : ℕ) (xs : List ℕ) → wordsOf (take (4 * k) xs) ≡ take k (wordsOf xs)
 unfolding wordsOf
 words-take zero xs = refl
 words-take (suc k) (a ∷ b ∷ c ∷ d ∷ xs) = rw (four k, words-take k xs)

@@ -2,6 +2,7 @@
 use Prim.Native.Nat.{ℕ, _+_, _*_, _^_, _<_, _≤_}
 use mathlib.Core.Path.{_≡_, ap, _∙_}
 use mathlib.Core.List.{List, _++_}
+use native.Mathlib.Nat.{zero-add}
 use native.Mathlib.Omega.{arith}
 use lib.ListN.{length, take, length-append}
 use lib.Seq.{take-take, take-all, length-take-le}
@@ -32,6 +33,25 @@ one-put {line} {out} {at} {next} {after} h p =
     let q = laid line out at next after p h in
     record { place = q .0; bytes = q .1 }
 
+-- a line, or a part of one, put behind what was laid
+pub put-then : {xs line out : List ℕ} {at n₁ n₂ : ℕ} {o₁ o₂ : List ℕ} → at + length xs + length line ≤ length out → PutAt xs out at n₁ o₁
+    → Put line o₁ n₁ n₂ o₂
+    → PutAt (xs ++ line) out at n₂ o₂
+put-then {xs} {line} h p q =
+    let long = put-length {xs = xs} (omega arith) p in
+    put-more {xs = xs} {ys = line} (omega arith) p (one-put {line = line} (omega (arith, p .place)) q)
+
+-- Lines at the front: nothing where fewer than `room` bytes are lent, and where so many are that they have room.
+
+pub unlaid : (room : ℕ) (xs out : List ℕ) → length out < room → PutLines room xs out 0 out
+unlaid room xs out h = let q = lt-leb room (length out) h in record { count = rw q; bytes = rw q; inside = omega arith }
+
+pub put-lines : (room : ℕ) {xs out : List ℕ} {n : ℕ} {after : List ℕ} → room ≤ length out → length xs ≤ room → PutAt xs out 0 n after
+    → PutLines room xs out n after
+put-lines room {out = out} h few p =
+    let q = le-leb room (length out) h in
+    record { count = rw q (p .place ∙ zero-add _); bytes = rw q (p .bytes); inside = omega (arith, p .place) }
+
 -- the first `to` words, where there is room for their lines
 pub words-put : {out : List ℕ} {at : ℕ} {ws : List ℕ} {to : ℕ} {r : Laid} {after : List ℕ} → to ≤ length ws → at + 9 * to ≤ length out
     → PutWords out at ws 0 to r after
@@ -55,9 +75,6 @@ lines-long n s ws h =
 
 -- The two lines of a reason.
 
-pub reason-unlaid : (xs out : List ℕ) → length out < 22 → PutLines 22 xs out 0 out
-reason-unlaid xs out h = let q = lt-leb 22 (length out) h in record { count = rw q; bytes = rw q; inside = omega arith }
-
 pub reason-laid : {out o₁ o₂ : List ℕ} {n₁ n₂ : ℕ} (k i : ℕ) → k < 2 ^ 32 → i < 2 ^ 32 → 22 ≤ length out → Put (decimalLine k) out 0 n₁ o₁
     → Put (decimalLine i) o₁ n₁ n₂ o₂
     → PutLines 22 (reasonLines (verdict k i)) out n₂ o₂
@@ -66,15 +83,7 @@ reason-laid {out} k i hk hi h p q =
     let a = decimal-long k hk in
     let b = decimal-long i hi in
     let first = one-put {line = decimalLine k} (omega arith) p in
-    let long = put-length {xs = decimalLine k} (omega arith) first in
-    let second = one-put {line = decimalLine i} (omega (arith, first .place)) q in
-    let both = put-more {xs = decimalLine k} {ys = decimalLine i} (omega arith) first second in
-    let enough = le-leb 22 (length out) h in
-    record {
-      count = rw enough (both .place ∙ omega arith);
-      bytes = rw enough (both .bytes);
-      inside = omega (arith, both .place, length-append (decimalLine k) (decimalLine i));
-    }
+    put-lines 22 h (omega (arith, length-append (decimalLine k) (decimalLine i))) (put-then {xs = decimalLine k} {line = decimalLine i} (omega arith) first q)
 
 -- The lines of an event.
 

@@ -1,14 +1,14 @@
 -- An event that answers 1 to 3 do not refuse: what its call needs, how much it prints, and that the next one is not refused by them
 -- either. Assumes nothing.
 use Prim.Native.Nat.{ℕ, _+_, _*_, _<_, _≤_}
-use mathlib.Core.Path.{_≡_, refl, sym, _∙_}
+use mathlib.Core.Path.{_≡_, sym, _∙_}
 use mathlib.Core.Bool.{true, false}
 use mathlib.Core.List.{List}
 use native.Mathlib.Omega.{arith}
 use lib.ListN.{length, take, length-append, length-drop}
 use lib.Seq.{take-append-seam}
 use lib.Dec.{eqb, leb}
-use borrow.Author.Tests.{le-ltb, lt-ltb, le-leb, leb-false, leb-true, eqb-true}
+use borrow.Author.Tests.{le-ltb, lt-ltb, leb-false, leb-true, eqb-true}
 use Rattle.rulebook.specs.Reasons.{bound, accepted}
 use Rattle.rulebook.specs.State.{fits}
 use Rattle.rulebook.specs.Events.{happen}
@@ -21,6 +21,7 @@ use Rattle.laws.proofs.Steps.{step-cases, words-within, step-fits, callable}
 use Rattle.lists.specs.Runs.{Safe}
 use Rattle.events.specs.declared.Answer.{Answer}
 use Rattle.events.specs.Answers.{numberOf, countOf, Reports}
+use Rattle.laws.proofs.Play.{stood-table, stood-state}
 use Rattle.manager.proofs.Steps.{safe}
 use Rattle.session.specs.Printed.{lines, taken, eventLines, most}
 use Rattle.session.specs.Promises.{PutAt, Ready, tracedBy, TookOne}
@@ -37,17 +38,17 @@ unfolding refusedCall refusedState
 ready-is t s trace ready = rw (ready .table, ready .state, le-ltb (length trace) (bound t) (ready .enough))
 
 module _ (t s : List ℕ) (room : ℕ) where
-  pub no-table : accepted t ≡ false → false ≡ eqb (refusedCall t s room) 0
+  pub not-admitted : (refusedState t s ≡ 0 → ⊥) → false ≡ eqb (refusedCall t s room) 0
   unfolding refusedCall refusedState
-  no-table h = rw h
+  not-admitted n =
+      split (accepted t)
+      (λ a. split (fits t s) (λ b. absurd (n (rw (a, b)))) (λ b. rw (a, b)))
+      (λ a. rw a)
 
-  pub no-fit : accepted t ≡ true → fits t s ≡ false → false ≡ eqb (refusedCall t s room) 0
+  pub room-decides : refusedState t s ≡ 0 → leb (bound t) room ≡ eqb (refusedCall t s room) 0
   unfolding refusedCall refusedState
-  no-fit h k = rw (h, k)
-
-  pub room-decides : accepted t ≡ true → fits t s ≡ true → leb (bound t) room ≡ eqb (refusedCall t s room) 0
-  unfolding refusedCall refusedState
-  room-decides h k =
+  room-decides z =
+      let h = stood-table t s z in let k = stood-state t s z in
       split (leb (bound t) room)
       (λ e. let b = leb-true (bound t) room e in rw (e, h, k, le-ltb room (bound t) b))
       (λ e. let b = leb-false (bound t) room e in rw (e, h, k, lt-ltb room (bound t) b))
@@ -58,7 +59,7 @@ module _ (t s trace : List ℕ) (e : ℕ) (ready : Ready t s trace) where
   taken-is = rw (ready .table, ready .state, le-ltb (bound t) (bound t) (omega arith))
 
   pub run-safe : Safe (happen t e s) trace
-  run-safe = safe t s trace e (bound t) refl (ready .table) (le-leb _ _ (ready .enough))
+  run-safe = safe t s trace e (ready .table) (ready .enough)
 
   pub answer-small : taken t s e .answer < 10
   answer-small = step-cases (λ r. r .answer < 10) t s (bound t) e (λ k a b. omega arith) (λ c w. omega arith)

@@ -73,7 +73,7 @@ words-append (a ∷ b ∷ []) ys h = absurd (omega arith)
 words-append (a ∷ []) ys h = absurd (omega arith)
 words-append [] ys h = refl
 
-two-parts : (xs ys : List ℕ) → (length xs % 4 ≡ 0) ⊎ (ys ≡ []) → wordsOf (xs ++ ys) ≡ wordsOf xs ++ wordsOf ys
+pub two-parts : (xs ys : List ℕ) → (length xs % 4 ≡ 0) ⊎ (ys ≡ []) → wordsOf (xs ++ ys) ≡ wordsOf xs ++ wordsOf ys
 unfolding wordsOf
 two-parts xs ys h = ⊎-elim (words-append xs ys) none h
   where

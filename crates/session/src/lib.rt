@@ -9,6 +9,8 @@ ghost use Rattle.words.specs.Sections.{Laid as LaidOut};
 ghost use Rattle.session.specs.Printed.{lines, reasonLines, most};
 ghost use Rattle.session.specs.Promises.{Opens, PutAt, PutLines, Ready, TookOne, offered, TookEvents};
 use events::Answer;
+use states::Admission;
+use states::admit;
 use tables::Checked;
 use text::input::read_word;
 use text::input::word_count;
@@ -107,14 +109,11 @@ fn take_one(
 fn ready(t: &[u32], s: &[u32], room: usize) -> bool
     ensures { λ r. ⌜ r ≡ eqb (refusedCall (now (t .entry)) (now (s .entry)) room) 0 ⌝ }
 {
-    let checked = tables::check(t);
-    let Checked::Accepted(b) = checked else {
+    let admission = admit(t, s);
+    let Admission::Stands(b) = admission else {
         return false;
     };
-    if states::fits(t, s) {
-        return b as usize <= room;
-    }
-    false
+    b as usize <= room
 }
 
 // How many events were taken, and how many bytes their lines are.

@@ -1,3 +1,4 @@
 -- Laws that belong to no one function.
 pub mod Fitting
 pub mod Making
+pub mod Admitting

@@ -1,2 +1,3 @@
 -- What the contracts of the state cite beside the rulebook.
 pub mod Made
+pub mod Admission

@@ -1,9 +1,10 @@
-// The state: whether one fits a table, and a fresh one.
+// The state: whether one fits a table, table and state checked together, and a fresh one.
 ghost use mathlib.Core.Path.{_≡_};
 ghost use Rattle.rulebook.specs.State.{portFits, ruleFits, networkFits, sourceFits, thingFits, fits as fitsOf, freshPort, packRule, freshThing, fresh as freshOf};
 ghost use Rattle.rulebook.specs.Table.{firstResult};
 ghost use Rattle.words.specs.Sections.{Laid};
 ghost use Rattle.words.specs.State.{thingOf};
+ghost use Rattle.states.specs.Admission.{Admits};
 ghost use Rattle.states.specs.Made.{OfLength, Fresh};
 use tables::Checked;
 use tables::check;
@@ -113,6 +114,27 @@ pub fn fits(t: &[u32], s: &[u32]) -> bool
         i += 1;
     }
     true
+}
+
+// What the check of a table and a state answers: both stand, with B, or which does not.
+pub enum Admission {
+    Stands(u32),
+    BadTable,
+    Unfit,
+}
+
+// Checks a table and then a state of it, for all that goes on from both.
+pub fn admit(t: &[u32], s: &[u32]) -> Admission
+    ensures { λ r. ⌜ Admits (now (t .entry)) (now (s .entry)) r ⌝ }
+{
+    let checked = check(t);
+    let Checked::Accepted(b) = checked else {
+        return Admission::BadTable;
+    };
+    if fits(t, s) {
+        return Admission::Stands(b);
+    }
+    Admission::Unfit
 }
 
 fn fresh_port(t: &[u32], p: u32) -> u32

@@ -8,6 +8,7 @@ pub mod Lists
 pub mod Arbitration
 pub mod Events
 pub mod Logs
+pub mod Played
 pub mod Strangers
 pub mod AsksOwn
 pub mod Moments

@@ -2,7 +2,7 @@
 -- entry, and no entry tells how much trace was lent.
 use mathlib.Core.Path.{_≡_}
 use mathlib.Core.Bool.{Bool, true, false}
-use mathlib.Core.List.{List, [], _∷_}
+use mathlib.Core.List.{List, [], _∷_, _++_}
 use Prim.Native.Nat.{ℕ}
 use Rattle.rulebook.specs.Table.{stranger}
 use Rattle.rulebook.specs.Events.{eventOwner, happen}
@@ -29,6 +29,16 @@ Log t s (x ∷ xs) = Follows t s x × Log t (x .state) xs
 unfoldable pub stateAfter : List ℕ → List Entry → List ℕ
 stateAfter s [] = s
 stateAfter s (x ∷ xs) = stateAfter (x .state) xs
+
+-- The log of events that are taken one after the other from state s, as single calls would leave it; and the words of a log, joined.
+
+unfoldable pub logFrom : List ℕ → List ℕ → List ℕ → List Entry
+logFrom t s [] = []
+logFrom t s (e ∷ es) = record { event = e; state = happen t e s .state; words = happen t e s .words } ∷ logFrom t (happen t e s .state) es
+
+unfoldable pub joined : List Entry → List ℕ
+joined [] = []
+joined (x ∷ xs) = x .words ++ joined xs
 
 -- an entry under the number of a stranger to o
 unfoldable pub strangersEntry : ℕ → Entry → Bool

@@ -51,9 +51,12 @@ places-within (suc k) n h =
     let q : n < 10 ^ suc k * 10 = rw pow-suc at h in
     omega (arith, places-more n b, places-within k (n / 10) (omega arith)))
 
-pub length-decimal : (n : ℕ) → n < 2 ^ 32 → length (decimal n) ≤ 10
+pub decimal-within : (k n : ℕ) → n < 10 ^ suc k → length (decimal n) ≤ suc k
 unfolding decimal
-length-decimal n h = rw length-digits (places-within 9 n (omega arith))
+decimal-within k n h = rw length-digits (places-within k n h)
+
+pub length-decimal : (n : ℕ) → n < 2 ^ 32 → length (decimal n) ≤ 10
+length-decimal n h = decimal-within 9 n (omega arith)
 
 -- the digits hold the number, so they say it
 

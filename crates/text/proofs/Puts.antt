@@ -2,13 +2,14 @@
 use Prim.Native.Nat.{ℕ, zero, suc, _+_, _-_, _/_, _%_, _<_, _≤_}
 use mathlib.Core.Path.{_≡_, sym, _∙_}
 use mathlib.Core.List.{List, [], _∷_, _++_}
-use native.Mathlib.Nat.{mod-lt, mod-eq-of-lt}
+use native.Mathlib.Nat.{add-zero, mod-lt, mod-eq-of-lt}
 use native.Mathlib.Omega.{arith}
 use lib.ListN.{length, set, length-append}
+use lib.Seq.{take-all, paste}
 use borrow.Author.Tests.{le-leb, lt-leb}
 use Rattle.text.specs.Lines.{hexDigit, digits}
 use Rattle.text.specs.Puts.{lay, Put}
-use Rattle.text.proofs.Digits.{length-digits}
+use Rattle.text.proofs.Digits.{below, length-digits}
 use Rattle.text.proofs.Lay.{lay-none, lay-back}
 
 module _ (line out : List ℕ) (at : ℕ) where
@@ -63,3 +64,20 @@ module _ (at base : ℕ) where
       room (digits base k n ++ end ∷ []) before at (at + k + 1) out (rw length-line (omega arith)) (sym (length-line k n end))
       (sym (lay-none out at) ∙ e ∙ lay-back before at (digits base k n) k end (length-digits base k n) (omega arith))
   digits-end before out k n end (suc i) rest h z e = absurd (omega arith)
+
+-- a loop that copies a label; one without bytes may be asked for behind the end
+
+no-label : (label out after : List ℕ) (at n : ℕ) → n ≡ length label → n ≤ 0 → length out < at → after ≡ lay out at label → Put label out at (at + n) after
+no-label [] out after at zero is h b e = rw (add-zero, e, lay-none) (no-room [] out at (omega arith))
+no-label [] out after at (suc n) is h b e = absurd (omega arith)
+no-label (x ∷ label) out after at n is h b e = absurd (omega arith)
+
+pub label-end : (label out after : List ℕ) (at n : ℕ) → n ≡ length label → n ≤ length out - at → after ≡ paste out at label n
+    → Put label out at (at + n) after
+unfolding lay
+label-end label out after at n is h e =
+    let all = take-all n label (omega arith) in
+    let whole : after ≡ lay out at label = rw (all, is) at e in
+    below (length out) at
+    (λ b. no-label label out after at n is (omega arith) b whole)
+    (λ b. room label out at (at + n) after (omega arith) (omega arith) whole)

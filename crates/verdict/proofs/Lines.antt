@@ -1,21 +1,17 @@
 -- The three lines of a verdict, laid one behind the other. Assumes nothing.
 use Prim.Native.Nat.{ℕ, _^_, _<_, _≤_}
-use mathlib.Core.Path.{_≡_, _∙_}
+use mathlib.Core.Path.{_≡_}
 use mathlib.Core.List.{List, _++_}
 use native.Mathlib.Omega.{arith}
 use lib.ListN.{length, length-append}
-use borrow.Author.Tests.{le-leb, lt-leb}
 use Rattle.text.specs.Lines.{decimalLine}
 use Rattle.text.specs.Puts.{Put}
 use Rattle.session.specs.Promises.{PutLines}
 use Rattle.session.proofs.Checks.{place-small, place-is}
-use Rattle.session.proofs.Lines.{put-more, put-length, one-put, decimal-long}
+use Rattle.session.proofs.Lines.{one-put, put-then, put-lines, decimal-long}
 use Rattle.tables.specs.declared.Checked.{Checked}
 use Rattle.tables.specs.Finding.{Finding, finding, promised, Says}
 use Rattle.verdict.specs.Verdict.{verdictLines, linesOf}
-
-pub unlaid : (xs out : List ℕ) → length out < 33 → PutLines 33 xs out 0 out
-unlaid xs out h = let q = lt-leb 33 (length out) h in record { count = rw q; bytes = rw q; inside = omega arith }
 
 laid-lines : {out o₁ o₂ o₃ : List ℕ} {n₁ n₂ n₃ : ℕ} (k i b : ℕ) → k < 2 ^ 32 → i < 2 ^ 32 → b < 2 ^ 32 → 33 ≤ length out
     → Put (decimalLine k) out 0 n₁ o₁ → Put (decimalLine i) o₁ n₁ n₂ o₂ → Put (decimalLine b) o₂ n₂ n₃ o₃
@@ -26,16 +22,10 @@ laid-lines {out} k i b hk hi hb h p q r =
     let li = decimal-long i hi in
     let lb = decimal-long b hb in
     let first = one-put {line = decimalLine k} (omega arith) p in
-    let l₁ = put-length {xs = decimalLine k} (omega arith) first in
-    let second = one-put {line = decimalLine i} (omega (arith, first .place)) q in
-    let two = put-more {xs = decimalLine k} {ys = decimalLine i} (omega arith) first second in
     let long = length-append (decimalLine k) (decimalLine i) in
-    let l₂ = put-length {xs = decimalLine k ++ decimalLine i} (omega arith) two in
-    let third = one-put {line = decimalLine b} (omega (arith, two .place)) r in
-    let all = put-more {xs = decimalLine k ++ decimalLine i} {ys = decimalLine b} (omega arith) two third in
-    let whole = length-append (decimalLine k ++ decimalLine i) (decimalLine b) in
-    let enough = le-leb 33 (length out) h in
-    record { count = rw enough (all .place ∙ omega arith); bytes = rw enough (all .bytes); inside = omega (arith, all .place) }
+    let two = put-then {xs = decimalLine k} {line = decimalLine i} (omega arith) first q in
+    let all = put-then {xs = decimalLine k ++ decimalLine i} {line = decimalLine b} (omega arith) two r in
+    put-lines 33 h (omega (arith, length-append (decimalLine k ++ decimalLine i) (decimalLine b))) all
 
 -- in the numbers that a check tells
 pub laid : {out o₁ o₂ o₃ : List ℕ} {n₁ n₂ n₃ : ℕ} (x : Finding) (k i b : ℕ) → Says x k i b → k < 2 ^ 32 → i < 2 ^ 32 → b < 2 ^ 32

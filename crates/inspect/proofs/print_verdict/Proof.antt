@@ -10,8 +10,8 @@ use Rattle.inspect.proofs.print_verdict.Tie as tie
 abbrev after-lay-verdict : tie.After-out3 → tie.After-lay-verdict
 after-lay-verdict c = c .before .before
 
-slice-aggregate-write-all : tie.Need-slice-aggregate-write-all
-slice-aggregate-write-all c =
+slice-aggregate-print : tie.Need-slice-aggregate-print
+slice-aggregate-print c =
     sym (length-take-le _ _ (omega (arith, after-lay-verdict c .lay-verdict .ensures .inside, after-lay-verdict c .lay-verdict .kept .1 .0)))
 
 pub print-verdict-spec : {M : Type 1} → statement M
@@ -22,9 +22,6 @@ print-verdict-spec =
     (λ c. search needs)
     (λ c κs. search needs)
     (λ c. search needs)
-    slice-aggregate-write-all
+    slice-aggregate-print
     (λ c κs. search needs)
-    (λ c. search needs)
-    (λ c κs. search needs)
-    (λ c. search needs)
     (λ c. search needs))

@@ -1,5 +1,5 @@
 -- `session::lay_reason` meets its contract. Assumes nothing.
-use Rattle.session.proofs.Lines.{reason-unlaid, reason-laid}
+use Rattle.session.proofs.Lines.{unlaid, reason-laid}
 use borrow.Author.Needs.{needs}
 use Rattle.session.proofs.lay_reason.Statement.{statement}
 use Rattle.session.proofs.lay_reason.Tie as tie
@@ -9,7 +9,7 @@ abbrev after-put-decimal-line : tie.After-put-decimal-line2 → tie.After-put-de
 after-put-decimal-line c = c .before .before .before .before
 
 returns : tie.Need-returns
-returns c = reason-unlaid _ _ (c .if1 .taken)
+returns c = unlaid 22 _ _ (c .if1 .taken)
 
 returns-2 : tie.Need-returns-2
 returns-2 c =

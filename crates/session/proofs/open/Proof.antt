@@ -1,7 +1,7 @@
 -- `session::open` meets its promise: a reason's place is below 3,185, so it fits. Assumes nothing.
 use native.Mathlib.Omega.{arith}
 use Rattle.states.proofs.Making.{is-accepted, is-refused}
-use Rattle.manager.proofs.Steps.{finding-bound}
+use Rattle.states.proofs.Admitting.{finding-bound}
 use Rattle.session.proofs.Checks.{place-small, place-is, opens-none, opens}
 use borrow.Author.Needs.{needs}
 use Rattle.session.proofs.open.Statement.{statement}

@@ -1,6 +1,7 @@
 -- `verdict::lay_verdict` meets its promise: a reason's place is below 3,186, so it fits. Assumes nothing.
 use borrow.Author.Needs.{needs}
-use Rattle.verdict.proofs.Lines.{unlaid, laid, place-fits}
+use Rattle.session.proofs.Lines.{unlaid}
+use Rattle.verdict.proofs.Lines.{laid, place-fits}
 use Rattle.verdict.proofs.lay_verdict.Statement.{statement}
 use Rattle.verdict.proofs.lay_verdict.Tie as tie
 
@@ -18,7 +19,7 @@ abbrev after-check : tie.After-slice-known4 → tie.After-check
 after-check c = after-numbers c .before
 
 returns : tie.Need-returns
-returns c = unlaid _ _ (c .if1 .taken)
+returns c = unlaid 33 _ _ (c .if1 .taken)
 
 cast-place : tie.Need-cast-place
 cast-place c =

@@ -1,0 +1,4 @@
+-- What `play TABLE EVENTS` prints, and what the functions that lay it promise.
+pub mod Printed
+pub mod Promises
+pub mod Parts

@@ -1,0 +1,2 @@
+-- What the functions that open files promise.
+pub mod Holds
