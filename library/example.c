@@ -117,6 +117,39 @@ static void events(void)
     }
 }
 
+/* The run played in one call, in room for one event's words and B more: the first event fills three of them, the next are taken, and a
+ * refused one ends it. With one word of room less the trace is full behind the first event, and the rest is played from there. */
+static void play(void)
+{
+    static const uint32_t day[] = {0x11000500, 0, 0x51000000, 0, 0, 0, 0x21000500, 0};
+    static const uint32_t words[BOUND] = {0xF1000000, 0x41000002, 0x01001234};
+    static const uint32_t last[STATE_WORDS] = {0x81400000, 0x80800000, 0x40000000, 0x90080005};
+    const size_t length = sizeof day / sizeof *day;
+    for (size_t room = 2 * BOUND; room >= 2 * BOUND - 1; room--) {
+        uint32_t trace[2 * BOUND];
+        size_t taken = 99, count = 99, from = 0;
+        memset(trace, 0x55, sizeof trace);
+        expect("fresh", herringcart_make_fresh(table, TABLE_WORDS, state, STATE_WORDS), 0);
+        uint32_t end = herringcart_play(table, TABLE_WORDS, state, STATE_WORDS, trace, room, day, length, &taken, &count);
+        printf("play in %zu words: answer %" PRIu32 ", taken %zu, count %zu\n", room, end, taken, count);
+        expect_words("trace", trace, words, BOUND);
+        expect("count", count, BOUND);
+        for (size_t i = BOUND; i < 2 * BOUND; i++)
+            expect("a trace word past the count", trace[i], UNTOUCHED);
+        if (room < 2 * BOUND) {
+            expect("answer", end, HERRINGCART_TRACE_FULL);
+            expect("taken", taken, 1);
+            from = taken;
+            end = herringcart_play(table, TABLE_WORDS, state, STATE_WORDS, trace, room, day + from, length - from, &taken, &count);
+            printf("resumed: answer %" PRIu32 ", taken %zu, count %zu\n", end, taken, count);
+            expect("count", count, 0);
+        }
+        expect("answer", end, HERRINGCART_MALFORMED_EVENT);
+        expect("the refused event", from + taken, 6);
+        expect_words("state", state, last, STATE_WORDS);
+    }
+}
+
 int main(void)
 {
     static const struct expected refused[] = {
@@ -145,6 +178,7 @@ int main(void)
         take(&refused[i]);
     for (size_t i = 0; i < sizeof run / sizeof *run; i++)
         take(&run[i]);
+    play();
     printf("as document 01 has it\n");
     return 0;
 }

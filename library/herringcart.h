@@ -9,12 +9,12 @@
  *
  *   - No pointer is null, for a length of 0 neither: any aligned address other than null will do there.
  *   - uint32_t pointers are aligned for uint32_t, size_t pointers for size_t.
- *   - Each array is valid for its whole length for as long as the call runs: table and a `const` state to read, state
- *     and trace to read and write. All words of state and trace must have been written once before they are lent,
+ *   - Each array is valid for its whole length for as long as the call runs: table, events and a `const` state to read,
+ *     state and trace to read and write. All words of state and trace must have been written once before they are lent,
  *     with whatever values: the trace's too, for the call may read it.
  *   - An array is at most PTRDIFF_MAX bytes long.
- *   - What a call writes (state, trace, *place, *bound, *count) overlaps nothing else lent in the same call. Table and
- *     a `const` state may overlap.
+ *   - What a call writes (state, trace, *place, *bound, *count, *taken) overlaps nothing else lent in the same call.
+ *     Table, events and a `const` state may overlap.
  *   - While the call runs, no other thread, interrupt or device writes what is lent, and none reads what the call
  *     writes. The table may stand in read-only memory, and any number of calls may read it at the same time.
  *
@@ -29,7 +29,8 @@
  * What a call costs: all but herringcart_state_words check the whole table each time, for nothing is kept. Measured
  * on an Arm Neoverse N1 an event takes some 30 ns for each word of the table (docs/BENCHMARKS.md): 0.4 us with 12 words,
  * 86 us with 2,892. Tables made to be slow to check take up to 1.4 ms a call. The slowest that are known run 4,080 rule items
- * in one event: 3.5 ms, and 5.2 ms while a port is undefined. Whoever has a deadline measures with the table that is to be deployed.
+ * in one event: 3.5 ms, and 5.2 ms while a port is undefined. herringcart_play checks table and state once for all its events, and then
+ * an event costs what it does alone. Whoever has a deadline measures with the table that is to be deployed.
  */
 #ifndef HERRINGCART_H
 #define HERRINGCART_H
@@ -42,9 +43,9 @@
 #include <stdint.h>
 
 /* The version of this header and of the archive beside it. docs/CHANGES.md says what each version changes. */
-#define HERRINGCART_VERSION "3.1"
+#define HERRINGCART_VERSION "3.2"
 #define HERRINGCART_VERSION_MAJOR 3
-#define HERRINGCART_VERSION_MINOR 1
+#define HERRINGCART_VERSION_MINOR 2
 
 #ifdef __cplusplus
 extern "C" {
@@ -80,6 +81,7 @@ enum herringcart_answer {
     HERRINGCART_UNFIT_STATE = 2,        /* the state does not fit the table */
     HERRINGCART_WRONG_STATE_WORDS = 2,  /* the same number, of herringcart_make_fresh: the length is not the table's */
     HERRINGCART_SHORT_TRACE = 3,        /* trace_words is less than B */
+    HERRINGCART_TRACE_FULL = 3,         /* the same number, of herringcart_play: fewer than B trace words are free */
     HERRINGCART_MALFORMED_EVENT = 4,    /* a field that must be 0 is not, or the kind is above 7 */
     HERRINGCART_NO_SUCH_THING = 5,      /* no such port, source or network, or not one for this kind */
     HERRINGCART_OTHER_OWNER = 6         /* the thing is not the owner's */
@@ -139,6 +141,18 @@ uint32_t herringcart_check_state(const uint32_t *table, size_t table_words, cons
  * Always writes *count, 0 for a refused event. */
 uint32_t herringcart_take_event(const uint32_t *table, size_t table_words, uint32_t *state, size_t state_words,
                                 uint32_t *trace, size_t trace_words, uint32_t event, size_t *count);
+
+/* Plays recorded events one after the other, as herringcart_take_event would take them one by one, each with what the ones before it
+ * left of the trace; table and state are checked once. Gives what ended it: 0 if every event was taken; 1 or 2 if table or state is not in
+ * order, also where there are no events; or, before an event, HERRINGCART_TRACE_FULL if fewer than B trace words are free, else 4, 5 or 6
+ * if that event is refused. Always writes *taken, how many events were taken: the event that ended it is events[*taken]; and *count,
+ * how many words they wrote together. These stand at the front of the trace, and the later ones are unchanged; the state is the one
+ * after the last event taken.
+ *
+ * A play that ends with HERRINGCART_TRACE_FULL is resumed from that event: call again with events + *taken, the state as it stands and the
+ * trace to be written anew. With at least B words lent, each call takes an event or ends otherwise. */
+uint32_t herringcart_play(const uint32_t *table, size_t table_words, uint32_t *state, size_t state_words, uint32_t *trace,
+                          size_t trace_words, const uint32_t *events, size_t event_words, size_t *taken, size_t *count);
 
 #ifdef __cplusplus
 }

@@ -72,6 +72,14 @@ static void *take_event(void *given)
     return given;
 }
 
+static void *play(void *given)
+{
+    static const uint32_t day[] = {0x10000500};
+    size_t taken;
+    *(uint32_t *)given = herringcart_play(table, TABLE_WORDS, state, STATE_WORDS, trace, bound, day, 1, &taken, &count);
+    return given;
+}
+
 /* The bytes of stack that a thread takes for this call, itself included. */
 static size_t taken(void *(*call)(void *))
 {
@@ -99,6 +107,7 @@ int main(void)
         void *(*call)(void *);
     } calls[] = {
         {"check_table", check_table}, {"make_fresh", make_fresh}, {"check_state", check_state}, {"take_event", take_event},
+        {"play", play},
     };
     int status = 0;
     make_table();

@@ -1,5 +1,7 @@
 //! One case through both sides, every answer and every lent word compared.
 
+mod plays;
+
 use std::fmt;
 
 use second::cases::Case;
@@ -96,7 +98,8 @@ pub fn compare(subject: &impl Subject, case: &Case) -> Result<(), Difference> {
         compare_event(subject, table.words(), case.room, event, &mut states, &what)?;
         same_lent(&|| what("table"), &table, &untouched)?;
     }
-    Ok(())
+    plays::compare_plays(subject, table.words(), case)?;
+    same_lent(&|| "table after the plays".into(), &table, &untouched)
 }
 
 fn compare_check(subject: &impl Subject, table: &[u32]) -> Result<(), Difference> {

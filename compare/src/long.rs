@@ -8,11 +8,11 @@ use second::cases::draft::Draft;
 use second::cases::prng::Prng;
 use second::cases::sequences::sequence;
 use second::cases::tables::{Plan, grow};
-use second::program::printed;
+use second::program::{played, printed};
 use second::words::Table;
 
 use crate::bench::{MARKED, example};
-use crate::programs::{Program, bytes};
+use crate::programs::{Program, bytes, expected};
 
 /// The events of one of the program's blocks, which has 65,536 bytes.
 const BLOCK: usize = 16_384;
@@ -29,8 +29,8 @@ struct Long {
     past: usize,
 }
 
-pub fn long(folder: &str, command: &[&str]) -> Result<(), String> {
-    let program = Program::new(folder, command)?;
+pub fn long(kind: &str, folder: &str, command: &[&str]) -> Result<(), String> {
+    let program = Program::new(folder, command, expected(kind)?)?;
     let mut rng = Prng::new(SEED);
     let [truck, _] = example("truck").ok_or("examples/truck is missing")?;
     let plan = Plan::rich(&mut rng);
@@ -41,12 +41,20 @@ pub fn long(folder: &str, command: &[&str]) -> Result<(), String> {
         Long { name: "generated table", draft: generated, events: 2 * BLOCK + 1, past: 2 },
     ];
     for Long { name, draft, events: count, past } in files {
-        let (table, events) = (draft.words(), sent(&mut rng, &draft, count));
+        let (table, mut events) = (draft.words(), sent(&mut rng, &draft, count));
+        let shown = match kind {
+            "play" => {
+                // A refused event would end the play.
+                events = taken(&table, &events);
+                play_shows(&table, &events)
+            }
+            _ => shows(&table, &events),
+        };
         let compared = moves(&table, &events)
-            .and_then(|()| shows(&table, &events))
+            .and(shown)
             .and_then(|()| program.compare(&bytes(&table, 0), &bytes(&events, past)));
         compared.map_err(|what| format!("{name}: {what}"))?;
-        println!("{name}: {count} events: the same bytes");
+        println!("{kind}, {name}: {} events: the same bytes", events.len());
     }
     Ok(())
 }
@@ -91,6 +99,39 @@ fn shows(table: &[u32], events: &[u32]) -> Result<(), String> {
         let before = lines(&events[..place * BLOCK]).len();
         if whole[before..].starts_with(&lines(block)) {
             return Err(format!("block {place} does not show the state it starts from"));
+        }
+    }
+    Ok(())
+}
+
+/// Those of the events that are answered 0, which goes by table and event alone; as many as two blocks and the start of a third need.
+fn taken(table: &[u32], events: &[u32]) -> Vec<u32> {
+    let mut state = vec![0; herringcart::state_words(table)];
+    let mut trace = vec![0; second::check(table).b];
+    second::fresh(table, &mut state);
+    let mut good = |event: &u32| second::step(table, &mut state, &mut trace, *event).answer == 0;
+    let good: Vec<u32> = events.iter().copied().filter(|event| good(event)).collect();
+    let length = events.len().max(2 * BLOCK + 1);
+    good.iter().copied().cycle().take(length).collect()
+}
+
+/// Fails where a play that forgets its state at the start of a block prints what it should.
+fn play_shows(table: &[u32], events: &[u32]) -> Result<(), String> {
+    let lines = |events: &[u32]| played(&bytes(table, 0), &bytes(events, 0));
+    let traced = |text: &str| -> Vec<String> {
+        text.lines().filter(|line| line.starts_with("trace ")).map(String::from).collect()
+    };
+    let whole = lines(events);
+    for place in (BLOCK..events.len()).step_by(BLOCK) {
+        let (before, rest) = (lines(&events[..place]), lines(&events[place..]));
+        let forgetful = [traced(&before), traced(&rest)].concat();
+        // The last lines before `taken` are the state's; the count of a forgetful play is right.
+        let state = |text: &str| -> Vec<String> {
+            let last = |line: &&str| !line.starts_with("trace ") && !line.starts_with("taken ");
+            text.lines().filter(last).map(String::from).collect()
+        };
+        if forgetful == traced(&whole) && state(&rest) == state(&whole) {
+            return Err(format!("the block at {place} does not show the state it starts from"));
         }
     }
     Ok(())

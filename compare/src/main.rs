@@ -17,10 +17,13 @@ const USAGE: &str = "usage: compare cases SEED COUNT [SEED COUNT ...]
        compare fixed
        compare hunt SECONDS
        compare run TABLE EVENTS
-       compare programs DIR COUNT SEED PROGRAM...
-       compare long DIR PROGRAM...
+       compare play TABLE EVENTS
+       compare programs run|play DIR COUNT SEED PROGRAM...
+       compare long run|play DIR PROGRAM...
+       compare day DIR PROGRAM...
        compare bench
-       compare bench-programs PROGRAM...";
+       compare bench-programs PROGRAM...
+       compare bench-day PROGRAM...";
 
 unsafe extern "C" {
     fn signal(number: i32, action: usize) -> usize;
@@ -43,12 +46,17 @@ fn main() -> ExitCode {
         ["fixed"] => found::fixed(),
         ["hunt", seconds] => hunt::hunt(seconds),
         ["run", table, events] => programs::run(table, events),
-        ["programs", folder, count, seed, ref program @ ..] if !program.is_empty() => {
-            programs::programs(folder, count, seed, program)
+        ["play", table, events] => programs::play(table, events),
+        ["programs", kind, folder, count, seed, ref program @ ..] if !program.is_empty() => {
+            programs::programs(kind, folder, count, seed, program)
         }
-        ["long", folder, ref program @ ..] if !program.is_empty() => long::long(folder, program),
+        ["long", kind, folder, ref program @ ..] if !program.is_empty() => {
+            long::long(kind, folder, program)
+        }
+        ["day", folder, ref program @ ..] if !program.is_empty() => bench::day(folder, program),
         ["bench"] => bench::bench(),
         ["bench-programs", ref program @ ..] if !program.is_empty() => bench::programs(program),
+        ["bench-day", ref program @ ..] if !program.is_empty() => bench::bench_day(program),
         _ => {
             eprintln!("{USAGE}");
             return ExitCode::from(2);
@@ -58,7 +66,9 @@ fn main() -> ExitCode {
         Ok(()) => ExitCode::SUCCESS,
         Err(message) => {
             eprintln!("compare: {message}");
-            ExitCode::FAILURE
+            // as the programs that these two stand in for: a file cannot be read
+            let trouble = matches!(args[0], "run" | "play");
+            if trouble { ExitCode::from(2) } else { ExitCode::FAILURE }
         }
     }
 }

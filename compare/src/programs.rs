@@ -4,11 +4,12 @@ use std::fmt::Write as _;
 use std::fs;
 use std::io::{self, Write as _};
 use std::path::{Path, PathBuf};
-use std::process::{Command, Output};
+use std::process::{Command, Output, Stdio};
 use std::time::Duration;
 
+use herringcart::End;
 use second::cases::{Case, Cases};
-use second::program::{printed, words};
+use second::program::{played, printed, words};
 
 use crate::differ::Words;
 use crate::number;
@@ -44,18 +45,69 @@ fn by_library(table: &[u32], events: &[u32]) -> String {
     lines
 }
 
-/// The program's command line and the two files it is given.
+/// `play` over the proved library, in this process.
+pub fn play(table: &str, events: &str) -> Result<(), String> {
+    let read = |path: &str| fs::read(path).map_err(|why| format!("cannot read {path}: {why}"));
+    let (table, events) = (words(&read(table)?), words(&read(events)?));
+    let lines = played_by_library(&table, &events);
+    io::stdout().lock().write_all(lines.as_bytes()).map_err(|why| format!("cannot print: {why}"))
+}
+
+fn played_by_library(table: &[u32], events: &[u32]) -> String {
+    let check = herringcart::check_table(table);
+    if !check.accepted() {
+        return format!("{}\n{}\n", check.reason, check.place);
+    }
+    let mut state = vec![0; herringcart::state_words(table)];
+    let mut trace = vec![0; 2 * check.bound as usize];
+    herringcart::make_fresh(table, &mut state);
+    let (mut lines, mut taken) = (String::new(), 0);
+    let end = loop {
+        let played = herringcart::play(table, &mut state, &mut trace, &events[taken..]);
+        taken += played.taken;
+        for word in &trace[..played.count] {
+            let _ = writeln!(lines, "trace {word:08X}");
+        }
+        if played.end != End::TraceFull {
+            break played.end;
+        }
+    };
+    let counts = [table[0] >> 16 & 255, table[1] & 0xFFFF, table[0] >> 8 & 255, table[0] & 255];
+    let mut words = state.iter();
+    for (name, count) in ["port", "rule", "network", "source"].into_iter().zip(counts) {
+        for (number, word) in (0..count).zip(&mut words) {
+            let _ = writeln!(lines, "{name} {number} {word:08X}");
+        }
+    }
+    let _ = writeln!(lines, "taken {taken}\nanswer {}", end.number());
+    lines
+}
+
+/// What the second program prints for the bytes of a table and of its events.
+pub type Expected = fn(&[u8], &[u8]) -> String;
+
+/// What `run` and `play` are compared with, by their names.
+pub fn expected(name: &str) -> Result<Expected, String> {
+    match name {
+        "run" => Ok(printed),
+        "play" => Ok(played),
+        _ => Err(format!("neither run nor play: {name}")),
+    }
+}
+
+/// The program's command line, what it is to print, and the two files it is given.
 pub struct Program<'a> {
     command: &'a [&'a str],
+    expected: Expected,
     table: PathBuf,
     events: PathBuf,
 }
 
 impl<'a> Program<'a> {
-    pub fn new(folder: &str, command: &'a [&'a str]) -> Result<Self, String> {
+    pub fn new(folder: &str, command: &'a [&'a str], expected: Expected) -> Result<Self, String> {
         fs::create_dir_all(folder).map_err(|why| format!("cannot make {folder}: {why}"))?;
         let file = |name: &str| Path::new(folder).join(name);
-        Ok(Program { command, table: file("table"), events: file("events") })
+        Ok(Program { command, expected, table: file("table"), events: file("events") })
     }
 
     pub fn write(&self, table: &[u8], events: &[u8]) -> Result<(), String> {
@@ -72,11 +124,20 @@ impl<'a> Program<'a> {
         command.output().map_err(|why| format!("cannot start {name}: {why}"))
     }
 
+    /// Starts the program on its two files, its output thrown away.
+    pub fn quietly(&self) -> Result<(), String> {
+        let (name, arguments) = self.command.split_first().ok_or("no program")?;
+        let mut command = Command::new(name);
+        command.args(arguments).arg(&self.table).arg(&self.events).stdout(Stdio::null());
+        let status = command.status().map_err(|why| format!("cannot start {name}: {why}"))?;
+        if status.success() { Ok(()) } else { Err(format!("{name}: {status}")) }
+    }
+
     /// Fails where its standard output is not the second program's.
     pub fn compare(&self, table: &[u8], events: &[u8]) -> Result<(), String> {
         self.write(table, events)?;
         let output = self.start()?;
-        let expected = printed(table, events);
+        let expected = (self.expected)(table, events);
         if output.stdout == expected.as_bytes() && output.status.code().is_some() {
             return Ok(());
         }
@@ -99,9 +160,15 @@ pub fn bytes(words: &[u32], past: usize) -> Vec<u8> {
     bytes.chain([0x5A, 0xA5, 0xFF].into_iter().take(past)).collect()
 }
 
-pub fn programs(folder: &str, count: &str, seed: &str, command: &[&str]) -> Result<(), String> {
+pub fn programs(
+    kind: &str,
+    folder: &str,
+    count: &str,
+    seed: &str,
+    command: &[&str],
+) -> Result<(), String> {
     let (count, seed): (usize, u64) = (number(count)?, number(seed)?);
-    let program = Program::new(folder, command)?;
+    let program = Program::new(folder, command, expected(kind)?)?;
     for (place, made) in Cases::new(seed).take(count).enumerate() {
         let past = place % 4;
         let compare = |case: &Case| {
@@ -119,7 +186,7 @@ pub fn programs(folder: &str, count: &str, seed: &str, command: &[&str]) -> Resu
         }
     }
     missing_files(&program)?;
-    println!("{count} cases of seed {seed}: the same bytes; an unreadable file is told");
+    println!("{kind}, {count} cases of seed {seed}: the same bytes; an unreadable file is told");
     Ok(())
 }
 

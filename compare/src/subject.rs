@@ -1,7 +1,7 @@
 //! What is compared with the second program: the proved code. It stands behind
 //! a trait so that the tests can put a wrong one in its place.
 
-use herringcart::{Answer, Check};
+use herringcart::{Answer, Check, Played};
 
 pub trait Subject {
     fn check(&self, table: &[u32]) -> Check {
@@ -22,6 +22,10 @@ pub trait Subject {
 
     fn step(&self, table: &[u32], state: &mut [u32], trace: &mut [u32], event: u32) -> Answer {
         herringcart::take_event(table, state, trace, event)
+    }
+
+    fn play(&self, table: &[u32], state: &mut [u32], trace: &mut [u32], events: &[u32]) -> Played {
+        herringcart::play(table, state, trace, events)
     }
 }
 

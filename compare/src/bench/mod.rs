@@ -4,6 +4,7 @@
 
 mod before;
 mod clock;
+mod day;
 mod hostile;
 mod programs;
 mod sized;
@@ -15,11 +16,12 @@ mod wide;
 
 use std::fs;
 use std::hint::black_box;
-use std::path::Path;
+use std::path::{Path, PathBuf};
 
 use second::program::words;
 
 pub use clock::Clock;
+pub use day::{bench_day, day};
 use hostile::Hostile;
 pub use programs::programs;
 use times::Times;
@@ -43,6 +45,11 @@ pub fn example(name: &str) -> Option<[Vec<u32>; 2]> {
     let folder = Path::new(env!("CARGO_MANIFEST_DIR")).join("../examples");
     let read = |kind: &str| fs::read(folder.join(name).with_extension(kind)).ok();
     Some([words(&read("table")?), words(&read("events")?)])
+}
+
+/// Where the repository's builds are.
+fn target() -> PathBuf {
+    Path::new(env!("CARGO_MANIFEST_DIR")).join("../target")
 }
 
 pub fn bench() -> Result<(), String> {

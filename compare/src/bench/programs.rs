@@ -2,10 +2,11 @@
 
 use std::collections::hash_map::DefaultHasher;
 use std::hash::{Hash, Hasher};
-use std::path::{Path, PathBuf};
 use std::time::{Duration, Instant};
 
-use super::{MARKED, example, marked_run};
+use second::program::printed;
+
+use super::{MARKED, example, marked_run, target};
 use crate::programs::{Program, bytes};
 
 const EVENTS: usize = 400_000;
@@ -23,18 +24,15 @@ pub fn programs(command: &[&str]) -> Result<(), String> {
     }
 }
 
-fn target() -> PathBuf {
-    Path::new(env!("CARGO_MANIFEST_DIR")).join("../target")
-}
-
 /// The run over and over, the state passed on, by both programs.
 fn both(name: &str, table: &[u32], run: &[u32], command: &[&str]) -> Result<(), String> {
     let events: Vec<u32> = run.iter().copied().cycle().take(EVENTS).collect();
     let judge = target().join("second/release/second").to_string_lossy().into_owned();
     let folder = target().join("compare/bench").to_string_lossy().into_owned();
     let (table, events) = (bytes(table, 0), bytes(&events, 0));
-    let (proved, by_proved) = timed(&Program::new(&folder, command)?, &table, &events)?;
-    let (second, by_second) = timed(&Program::new(&folder, &[&judge, "run"])?, &table, &events)?;
+    let (proved, by_proved) = timed(&Program::new(&folder, command, printed)?, &table, &events)?;
+    let (second, by_second) =
+        timed(&Program::new(&folder, &[&judge, "run"], printed)?, &table, &events)?;
     let ratio = proved.as_secs_f64() / second.as_secs_f64();
     println!("{name}: proved {proved:.2?}, second {second:.2?}, ratio {ratio:.2}");
     println!("  output {} bytes, hash {:016X}", by_proved.0, by_proved.1);

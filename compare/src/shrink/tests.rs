@@ -1,6 +1,6 @@
 //! A side made wrong on purpose is found and its case made small.
 
-use herringcart::Answer;
+use herringcart::{Answer, End, Played};
 use second::cases::{Case, Cases};
 use second::words::*;
 
@@ -105,4 +105,46 @@ fn wrong_check_is_found_and_its_case_made_small() {
     assert!(small.events.is_empty() && small.state.is_empty());
     // A port, seven expressions, a rule.
     assert_eq!(small.table.len(), 12, "{small:X?}");
+}
+
+/// Counts an event that a play does not take.
+struct CountsRefused;
+
+impl Subject for CountsRefused {
+    fn play(&self, table: &[u32], state: &mut [u32], trace: &mut [u32], events: &[u32]) -> Played {
+        let played = herringcart::play(table, state, trace, events);
+        let refused = matches!(played.end, End::Malformed | End::NoSuchThing | End::NotItsOwner);
+        Played { taken: played.taken + usize::from(refused), ..played }
+    }
+}
+
+#[test]
+fn refused_event_that_a_play_counts_is_found_and_its_case_made_small() {
+    let small = found(&CountsRefused);
+    assert_eq!(small.events.len(), 1, "{small:X?}");
+}
+
+/// Lays the words of the last event that writes over those before it: what a play that starts each event at the front would leave.
+struct LaysOver;
+
+impl Subject for LaysOver {
+    fn play(&self, table: &[u32], state: &mut [u32], trace: &mut [u32], events: &[u32]) -> Played {
+        let room = trace.len();
+        let (mut taken, mut count) = (0, 0);
+        loop {
+            let one = &events[taken..events.len().min(taken + 1)];
+            let played = herringcart::play(table, state, &mut trace[..room - count], one);
+            taken += played.taken;
+            count += played.count;
+            if played.end != End::Done || taken == events.len() {
+                return Played { taken, count, ..played };
+            }
+        }
+    }
+}
+
+#[test]
+fn words_laid_over_earlier_ones_are_found() {
+    let small = found(&LaysOver);
+    assert!(small.events.len() <= 3, "{small:X?}");
 }

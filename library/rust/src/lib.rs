@@ -59,6 +59,42 @@ impl Answer {
     }
 }
 
+/// What ended a play.
+#[derive(Clone, Copy, PartialEq, Eq, Debug)]
+pub enum End {
+    /// Every event was taken.
+    Done,
+    /// The table has a reason.
+    BadTable,
+    /// The state does not fit.
+    UnfitState,
+    /// Fewer than B trace words are free for the next event: resume from it.
+    TraceFull,
+    /// The next event's word is malformed.
+    Malformed,
+    /// There is no such thing as the next event names.
+    NoSuchThing,
+    /// The thing that the next event names has another owner.
+    NotItsOwner,
+}
+
+impl End {
+    /// The documents' number.
+    pub fn number(self) -> u32 {
+        self as u32
+    }
+}
+
+/// What a play gives.
+#[derive(Clone, Copy, PartialEq, Eq, Debug)]
+pub struct Played {
+    pub end: End,
+    /// How many events were taken; the next one is the one that ended it.
+    pub taken: usize,
+    /// How many words they wrote at the front of the trace.
+    pub count: usize,
+}
+
 mod c {
     // As library/herringcart.h declares them. A slice is lent as its pointer
     // and its length in words.
@@ -90,6 +126,18 @@ mod c {
             trace: *mut u32,
             trace_words: usize,
             event: u32,
+            count: *mut usize,
+        ) -> u32;
+        pub fn herringcart_play(
+            table: *const u32,
+            table_words: usize,
+            state: *mut u32,
+            state_words: usize,
+            trace: *mut u32,
+            trace_words: usize,
+            events: *const u32,
+            event_words: usize,
+            taken: *mut usize,
             count: *mut usize,
         ) -> u32;
     }
@@ -151,4 +199,38 @@ pub fn take_event(table: &[u32], state: &mut [u32], trace: &mut [u32], event: u3
         )
     };
     Answer { number, count }
+}
+
+/// Plays events one after the other, table and state checked once, until none
+/// is left, one is refused, or fewer than B trace words are free. What was
+/// taken stands in state and trace; the event that ended it changed nothing.
+/// A play that ends with `TraceFull` is resumed with `&events[taken..]`.
+pub fn play(table: &[u32], state: &mut [u32], trace: &mut [u32], events: &[u32]) -> Played {
+    let (mut taken, mut count) = (UNWRITTEN.0, UNWRITTEN.0);
+    // SAFETY: see above; taken and count are locals of their own.
+    let number = unsafe {
+        c::herringcart_play(
+            table.as_ptr(),
+            table.len(),
+            state.as_mut_ptr(),
+            state.len(),
+            trace.as_mut_ptr(),
+            trace.len(),
+            events.as_ptr(),
+            events.len(),
+            &mut taken,
+            &mut count,
+        )
+    };
+    let end = match number {
+        0 => End::Done,
+        1 => End::BadTable,
+        2 => End::UnfitState,
+        3 => End::TraceFull,
+        4 => End::Malformed,
+        5 => End::NoSuchThing,
+        6 => End::NotItsOwner,
+        _ => unreachable!("the call gives no other number, which is proved"),
+    };
+    Played { end, taken, count }
 }

@@ -1,6 +1,8 @@
 //! Document 01's marked table, number by number, through the wrapper.
 
-use herringcart::{Answer, Check, check_state, check_table, make_fresh, state_words, take_event};
+use herringcart::{
+    Answer, Check, End, Played, check_state, check_table, make_fresh, play, state_words, take_event,
+};
 
 const TABLE: [u32; 12] = [
     0x0102_0100, 0x0001_0001, 0x0001_0002, 0x0100_0000, 0x2100_0000, 0x1010_2000, 0x030A_0005,
@@ -80,4 +82,46 @@ fn refused_tables_and_states() {
     assert_eq!((make_fresh(&wrong, &mut state), make_fresh(&TABLE, &mut state[..3])), (1, 2));
     assert_eq!((check_state(&wrong, &state), check_state(&TABLE, &state)), (1, 2));
     assert_eq!(state, [7; 4]);
+}
+
+const LAST: [u32; 4] = [0x8140_0000, 0x8080_0000, 0x4000_0000, 0x9008_0005];
+
+#[test]
+fn the_run_played_until_a_refused_event() {
+    let day = [REQUEST, TICK, BUS_OFF, TICK, TICK, TICK, 0x1200_0500, TICK];
+    let (mut state, mut trace) = ([0; 4], [UNTOUCHED; 6]);
+    let played = play(&TABLE, &mut state, &mut trace, &day);
+    assert_eq!(played, Played { end: End::NotItsOwner, taken: 6, count: 3 });
+    assert_eq!((played.end.number(), state), (6, LAST));
+    assert_eq!(trace, [0xF100_0000, 0x4100_0002, 0x0100_1234, UNTOUCHED, UNTOUCHED, UNTOUCHED]);
+}
+
+#[test]
+fn a_full_trace_is_resumed_from_its_event() {
+    let day = [REQUEST, TICK, BUS_OFF, TICK, TICK, TICK];
+    let (mut state, mut trace) = ([0; 4], [UNTOUCHED; 5]);
+    let played = play(&TABLE, &mut state, &mut trace, &day);
+    assert_eq!(played, Played { end: End::TraceFull, taken: 1, count: 3 });
+    assert_eq!(state, [0x8140_0000, 0, 0x4000_0000, 0x8000_0000]);
+    let rest = play(&TABLE, &mut state, &mut trace, &day[played.taken..]);
+    assert_eq!(rest, Played { end: End::Done, taken: 5, count: 0 });
+    assert_eq!(state, LAST);
+}
+
+#[test]
+fn what_ends_a_play_changes_nothing() {
+    for (table, words, room, events, end) in [
+        (&TABLE[..11], 4, 3, &[][..], End::BadTable),
+        (&TABLE, 3, 3, &[], End::UnfitState),
+        (&TABLE, 4, 2, &[], End::Done),
+        (&TABLE, 4, 2, &[0x2100_0500], End::TraceFull),
+        (&TABLE, 4, 3, &[0x2100_0500], End::Malformed),
+        (&TABLE, 4, 3, &[0x2100_0000], End::NoSuchThing),
+        (&TABLE, 4, 3, &[0x1200_0500], End::NotItsOwner),
+    ] {
+        let (mut state, mut trace) = ([0; 4], [UNTOUCHED; 3]);
+        let played = play(table, &mut state[..words], &mut trace[..room], events);
+        assert_eq!(played, Played { end, taken: 0, count: 0 });
+        assert_eq!((state, trace), ([0; 4], [UNTOUCHED; 3]));
+    }
 }
