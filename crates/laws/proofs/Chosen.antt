@@ -8,10 +8,10 @@ use native.Mathlib.Omega.{arith}
 use native.Mathlib.Nat.{zero-add}
 use lib.Dec.{ltb, eqb}
 use borrow.Author.Tests.{ltb-true, ltb-false, eqb-true, eqb-false, eq-eqb, ne-eqb, not-true}
-use Rattle.rulebook.specs.Words.{each}
+use Rattle.rulebook.specs.Words.{until}
 use Rattle.rulebook.specs.Table.{rules, lists, deferred, nestedOnly, ruleExpression, listOwner, firstItem, itemCount, triggered, noList}
 use Rattle.rulebook.specs.Expressions.{deepest, mentions}
-use Rattle.rulebook.specs.Lists.{Run, start, emit, resultIn, previousIn, listFor, choice, choiceIn, runItem, runItems, runList}
+use Rattle.rulebook.specs.Lists.{Run, start, emit, resultIn, previousIn, listFor, choice, choiceIn, stops, runItem, runItems, runList}
 use Rattle.rulebook.specs.Arbitration.{unmarkPorts, storeResults, evaluated, chooses, chosen, order, runChosen, decide, arbitrate}
 use Rattle.rulebook.specs.Events.{eventKind, eventIndex, eventValue, eventTick, eventMode, eventRequest, eventWakeup, request, arbitrateMarked, tick, happen}
 use Rattle.laws.specs.Facts.{Facts}
@@ -23,7 +23,7 @@ use Rattle.laws.proofs.Walks.{any-at, any-some}
 use Rattle.laws.proofs.Fields.{digit-small}
 use Rattle.laws.proofs.Cases.{if-chosen, if-not}
 use Rattle.laws.proofs.Order.{order-there, once, in-order}
-use Rattle.laws.proofs.Frame.{framed-each, item-framed, list-framed}
+use Rattle.laws.proofs.Frame.{afresh, framed-words, framed-until, item-framed, list-framed}
 use Rattle.laws.proofs.Happen.{happen-cases}
 
 -- Those members of a list that c holds of, in its order.
@@ -63,15 +63,15 @@ runs-kept t c (l ∷ ls) x =
 below : ℕ
 below = deepest - 1
 
--- what list l writes after its start word, from state s
-itemWords : List ℕ → ℕ → List ℕ → List ℕ
-itemWords t l s = each (firstItem t l) (itemCount t l) (runItem (runList below t) t (listOwner t l)) (start s) .words
+-- what list l writes after its start word, from where x is
+itemWords : List ℕ → ℕ → Run → List ℕ
+itemWords t l x = until (firstItem t l) (itemCount t l) (stops t) (runItem (runList below t) t (listOwner t l)) (afresh x) .words
 
-list-words : (t : List ℕ) (l : ℕ) (x : Run) → runList deepest t l x .words ≡ x .words ++ (startWord t l ∷ itemWords t l (x .state))
+list-words : (t : List ℕ) (l : ℕ) (x : Run) → runList deepest t l x .words ≡ x .words ++ (startWord t l ∷ itemWords t l x)
 unfolding runList runItems itemWords below
 list-words t l x =
     let item = item-framed t (runList below t) (list-framed t below) (listOwner t l) in
-    framed-each (runItem (runList below t) t (listOwner t l)) (firstItem t l) (itemCount t l) item .words (emit (startWord t l) x)
+    framed-words (framed-until t (runItem (runList below t) t (listOwner t l)) (firstItem t l) (itemCount t l) item) (emit (startWord t l) x)
     ∙ append-assoc (x .words) (startWord t l ∷ []) _
 
 -- the words of a run from x are x's, and then list by list
@@ -85,9 +85,9 @@ behind t [] x = record { more = []; words = sym (append-nil (x .words)); written
 behind t (l ∷ ls) x =
     let b = behind t ls (runList deepest t l x) in
     record {
-      more = startWord t l ∷ (itemWords t l (x .state) ++ b .more);
+      more = startWord t l ∷ (itemWords t l x ++ b .more);
       words = b .words ∙ ap (λ (ws : List ℕ). ws ++ b .more) (list-words t l x) ∙ append-assoc (x .words) _ _;
-      written = byFirst (itemWords t l (x .state)) (b .written);
+      written = byFirst (itemWords t l x) (b .written);
     }
 
 -- a list that stands among those that ran has its start word among the words
@@ -149,13 +149,13 @@ module _ (t : List ℕ) (f : Facts t) (q : ℕ → Bool) (s : List ℕ) where
 
 -- Every arbitration of an accepted table.
 
-module _ (t : List ℕ) (f : Facts t) (q : ℕ → Bool) (s : List ℕ) where
-  pub lists-ran : ListsRan t q s (arbitrate t q s .state) (arbitrate t q s .words)
+module _ (t : List ℕ) (f : Facts t) (q : ℕ → Bool) (os s : List ℕ) where
+  pub lists-ran : ListsRan t q os s (arbitrate t q os s .state) (arbitrate t q os s .words)
   unfolding arbitrate decide
   lists-ran =
       let u = unmarkPorts t q s in
       let c = chosen t q u in
-      let x = start (storeResults t q u) in
+      let x = start os (storeResults t q u) in
       let ls = kept c (order t) in
       let is : runChosen t c (order t) x ≡ runAll t ls x = runs-kept t c (order t) x in
       let one : (l : ℕ) → Chosen t q u l → times l ls ≡ 1 = λ l h. kept-times c l (order t) (chosen-test t f q u l h) ∙ once t l (h .list) in
@@ -174,28 +174,28 @@ module _ (t : List ℕ) (f : Facts t) (q : ℕ → Bool) (s : List ℕ) where
 
 -- Every event that an accepted table takes.
 
-module _ (t : List ℕ) (f : Facts t) (s : List ℕ) where
+module _ (t : List ℕ) (f : Facts t) (os s : List ℕ) where
   deferred-or-not : (p : ℕ) → (deferred t p ≡ 1 → ⊥) → deferred t p ≡ 0
   deferred-or-not p n = let b : deferred t p < 2 = digit-small _ 2 _ (omega arith) in omega arith
 
   port-set : (e value : ℕ) → setsPort e ≡ true → valueSet e ≡ value → (eventKind e ≡ eventTick → ⊥)
-      → Arbitrated t e s (request t (eventIndex e) value s .state) (request t (eventIndex e) value s .words)
+      → Arbitrated t e os s (request t (eventIndex e) value os s .state) (request t (eventIndex e) value os s .words)
   unfolding request
   port-set e value k v n =
       split (eqb (deferred t (eventIndex e)) 1)
       (λ d. rw d (noPort n (λ z. eqb-true _ _ d) refl))
-      (λ d. rw d (onePort k (deferred-or-not _ (eqb-false _ _ d)) (rw v (lists-ran t f _ _))))
+      (λ d. rw d (onePort k (deferred-or-not _ (eqb-false _ _ d)) (rw v (lists-ran t f _ os _))))
 
-  pub happen-arbitrates : (e : ℕ) → Arbitrated t e s (happen t e s .state) (happen t e s .words)
+  pub happen-arbitrates : (e : ℕ) → Arbitrated t e os s (happen t e os s .state) (happen t e os s .words)
   unfolding tick arbitrateMarked
   happen-arbitrates e =
-      happen-cases (λ x. Arbitrated t e s (x .state) (x .words)) t e s
-      (λ k. allMarked k (lists-ran t f _ _))
+      happen-cases (λ x. Arbitrated t e os s (x .state) (x .words)) t e os s
+      (λ k. allMarked k (lists-ran t f _ os _))
       (λ k. port-set e (eventValue e) (rw k) (rw k) (λ z. omega arith))
       (λ k. port-set e 1 (rw k) (rw k) (λ z. omega arith))
       other
     where
-      other : {u : List ℕ} → eventWakeup ≤ eventKind e → Arbitrated t e s u []
+      other : {u : List ℕ} → eventWakeup ≤ eventKind e → Arbitrated t e os s u []
       other h =
           let neither : setsPort e ≡ false = rw (ne-eqb (eventKind e) eventMode (λ y. omega arith), ne-eqb (eventKind e) eventRequest (λ y. omega arith)) in
           noPort (λ z. omega arith) (λ z. clash z neither) refl
@@ -243,7 +243,7 @@ same-order t (x ∷ xs) (y ∷ ys) a b h =
     = λ l. let n : cond (eqb l y) 1 0 + times l xs ≡ cond (eqb l y) 1 0 + times l ys = rw e at (h l) in omega arith in
     rw (e, same-order t xs ys (a .1) (b .1) rest)
 
-module _ (t : List ℕ) (q : ℕ → Bool) (s : List ℕ) {s₁ ws₁ s₂ ws₂ : List ℕ} (a : ListsRan t q s s₁ ws₁) (b : ListsRan t q s s₂ ws₂) where
+module _ (t : List ℕ) (q : ℕ → Bool) (os s : List ℕ) {s₁ ws₁ s₂ ws₂ : List ℕ} (a : ListsRan t q os s s₁ ws₁) (b : ListsRan t q os s s₂ ws₂) where
   as-often : (l : ℕ) → times l (a .ran) ≡ times l (b .ran)
   as-often l =
       split (ltb 0 (times l (a .ran))) (λ e. both (member _ l (a .ran) (a .noOther) (ltb-true _ _ e)))
@@ -258,6 +258,6 @@ module _ (t : List ℕ) (q : ℕ → Bool) (s : List ℕ) {s₁ ws₁ s₂ ws₂
 
   pub one-way-to-run : (s₁ ≡ s₂) × (ws₁ ≡ ws₂)
   one-way-to-run = (
-    a .state ∙ ap (λ (ls : List ℕ). runAll t ls (beforeLists t q s) .state) same-lists ∙ sym (b .state),
-    a .words ∙ ap (λ (ls : List ℕ). runAll t ls (beforeLists t q s) .words) same-lists ∙ sym (b .words),
+    a .state ∙ ap (λ (ls : List ℕ). runAll t ls (beforeLists t q os s) .state) same-lists ∙ sym (b .state),
+    a .words ∙ ap (λ (ls : List ℕ). runAll t ls (beforeLists t q os s) .words) same-lists ∙ sym (b .words),
   )

@@ -98,12 +98,12 @@ module _ (t : List ℕ) (f : Facts t) (p : ℕ) (b : p < ports t) where
 
   -- An arbitration: a mark that it does not clear comes through.
 
-  arbitrate-tells : (C : Type 0) (q : ℕ → Bool) (s : List ℕ) → p < length s → (C → (q p ≡ false) × Marked p s) → Tells C (arbitrate t q s)
+  arbitrate-tells : (C : Type 0) (q : ℕ → Bool) (os s : List ℕ) → p < length s → (C → (q p ≡ false) × Marked p s) → Tells C (arbitrate t q os s)
   unfolding arbitrate
-  arbitrate-tells C q s h through =
+  arbitrate-tells C q os s h through =
       let unmarked = unmarkPorts t q s in
       let long = split (q p) (λ e. unmark-it t p b q s e h .there) (λ e. unmark-others t p b q s e (record { there = h; mark = refl }) .there) in
-      decide-keeps t f (Tells C) (tells-kept C) q unmarked
+      decide-keeps t f (Tells C) (tells-kept C) q os unmarked
       (record {
         there = store-elsewhere t p b q unmarked (record { there = long; mark = refl }) .there;
         mark = ⊎-elim (λ c. store-elsewhere t p b q unmarked (unmark-others t p b q s (through c .0) (through c .1)))
@@ -111,60 +111,61 @@ module _ (t : List ℕ) (f : Facts t) (p : ℕ) (b : p < ports t) where
       })
 
   -- a request of another port, or a deferred one
-  request-marks : (q v : ℕ) (s : List ℕ) → (q ≡ p → deferred t p ≡ 1) → Marked p s → Marked p (request t q v s .state)
+  request-marks : (q v : ℕ) (os s : List ℕ) → (q ≡ p → deferred t p ≡ 1) → Marked p s → Marked p (request t q v os s .state)
   unfolding request only
-  request-marks q v s late h =
+  request-marks q v os s late h =
       split (eqb (deferred t q) 1) (λ e. rw e (port-marked-again p s q 1 v 0 (λ z. refl) h))
       (λ e. let other : (p ≡ q → ⊥) = λ z. eqb-false (deferred t q) 1 e (rw z at (late (sym z))) in
       let put = port-marked-again p s q 0 v 0 (λ z. absurd (other z)) h in
-      rw e (arbitrate-tells (Marked p (setPort q 0 v 0 s)) (only q) _ (put .there) (λ c. (ne-eqb p q other, c)) .mark (inl put)))
+      rw e (arbitrate-tells (Marked p (setPort q 0 v 0 s)) (only q) os _ (put .there) (λ c. (ne-eqb p q other, c)) .mark (inl put)))
 
   -- What an event's words tell.
 
-  told-by-none : (s : List ℕ) → p < length s → Tells ⊥ (start s)
-  told-by-none s h = record { there = h; mark = ⊎-elim (λ c. absurd c) (λ m. absurd (List·Memᴰ·not-nil (m .told))) }
+  told-by-none : (os s : List ℕ) → p < length s → Tells ⊥ (start os s)
+  told-by-none os s h = record { there = h; mark = ⊎-elim (λ c. absurd c) (λ m. absurd (List·Memᴰ·not-nil (m .told))) }
 
-  request-tells : (q v : ℕ) (s : List ℕ) → p < length s → Tells ⊥ (request t q v s)
+  request-tells : (q v : ℕ) (os s : List ℕ) → p < length s → Tells ⊥ (request t q v os s)
   unfolding request setPort
-  request-tells q v s h =
-      split (eqb (deferred t q) 1) (λ e. rw e (told-by-none _ (rw (length-set s q _) h)))
-      (λ e. rw e (arbitrate-tells ⊥ (only q) _ (rw (length-set s q _) h) (λ c. absurd c)))
+  request-tells q v os s h =
+      split (eqb (deferred t q) 1) (λ e. rw e (told-by-none os _ (rw (length-set s q _) h)))
+      (λ e. rw e (arbitrate-tells ⊥ (only q) os _ (rw (length-set s q _) h) (λ c. absurd c)))
 
-  happen-tells : (e : ℕ) (s : List ℕ) → Taken t e → Fits t s → Tells ⊥ (happen t e s)
+  happen-tells : (e : ℕ) (os s : List ℕ) → Taken t e → Fits t s → Tells ⊥ (happen t e os s)
   unfolding tick arbitrateMarked
-  happen-tells e s w h = go (happen t e) (event t e w) (happen-fits t f e s w h)
+  happen-tells e os s w h = go (happen t e) (event t e w) (happen-fits t f e os s w h)
     where
       long : (s′ : List ℕ) → Fits t s′ → p < length s′
       long s′ k = port-long t s′ k p b
 
-      go : (g : List ℕ → Run) → Event t e g → Fits t (g s .state) → Tells ⊥ (g s)
-      go g (aTick k u) z = arbitrate-tells ⊥ _ _ (long _ (things-fit t f s h)) (λ c. absurd c)
-      go g (aMode k u m n) z = request-tells _ _ s (long s h)
-      go g (aRequest k u m) z = request-tells _ _ s (long s h)
-      go g (ofSource k n of u c) z = told-by-none _ (long _ z)
-      go g (ofNetwork k of u c) z = told-by-none _ (long _ z)
+      go : (g : List ℕ → List ℕ → Run) → Event t e g → Fits t (g os s .state) → Tells ⊥ (g os s)
+      go g (aTick k u) z = arbitrate-tells ⊥ _ os _ (long _ (things-fit t f s h)) (λ c. absurd c)
+      go g (aMode k u m n) z = request-tells _ _ os s (long s h)
+      go g (aRequest k u m) z = request-tells _ _ os s (long s h)
+      go g (ofSource k n of u c) z = told-by-none os _ (long _ z)
+      go g (ofNetwork k of u c) z = told-by-none os _ (long _ z)
 
-  happen-waits : (e : ℕ) (s : List ℕ) → Taken t e → Fits t s → (eventKind e ≡ eventTick → ⊥) → (setsPort e ≡ true → eventIndex e ≡ p → deferred t p ≡ 1)
-      → Marked p s → Marked p (happen t e s .state)
-  happen-waits e s w fit no-tick late h = go (happen t e) (event t e w)
+  happen-waits : (e : ℕ) (os s : List ℕ) → Taken t e → Fits t s → (eventKind e ≡ eventTick → ⊥) → (setsPort e ≡ true → eventIndex e ≡ p → deferred t p ≡ 1)
+      → Marked p s → Marked p (happen t e os s .state)
+  happen-waits e os s w fit no-tick late h = go (happen t e) (event t e w)
     where
-      go : (g : List ℕ → Run) → Event t e g → Marked p (g s .state)
+      go : (g : List ℕ → List ℕ → Run) → Event t e g → Marked p (g os s .state)
       go g (aTick k u) = absurd (no-tick k)
-      go g (aMode k u m n) = request-marks (eventIndex e) _ s (late (rw k)) h
-      go g (aRequest k u m) = request-marks (eventIndex e) _ s (late (rw k)) h
+      go g (aMode k u m n) = request-marks (eventIndex e) _ os s (late (rw k)) h
+      go g (aRequest k u m) = request-marks (eventIndex e) _ os s (late (rw k)) h
       go g (ofSource k n of u c) = source-to t f (Marked p) e s u c (λ status r ok. source-marks t p b _ status r s h) h
       go g (ofNetwork k of u c) = network-to t f (Marked p) e s u c (of .there) fit (λ x ok same. network-marks t p b _ x s h) h
 
-pub clear-counts : (t : List ℕ) → Facts t → (e : ℕ) (s : List ℕ) → Taken t e → Fits t s → ClearCounts t e s (happen t e s .state) (happen t e s .words)
+pub clear-counts : (t : List ℕ) → Facts t → (e : ℕ) (os s : List ℕ) → Taken t e → Fits t s
+    → ClearCounts t e s (happen t e os s .state) (happen t e os s .words)
 unfolding markedIn only
-clear-counts t f e s w h =
+clear-counts t f e os s w h =
     record {
-      marks = λ p b m. shows t p b (happen-tells t f p b e s w h .mark (inr m));
+      marks = λ p b m. shows t p b (happen-tells t f p b e os s w h .mark (inr m));
       atTick = λ p r m. mentions-more t (only p) (markedIn t (tickThings t s))
           (λ x e. rw (eqb-true x p e) (shows t p (there p m) (things-mark t p (there p m) s (stands p m)))) deepest (ruleExpression t r);
-      waits = λ p m a. shows t p (there p m) (happen-waits t f p (there p m) e s w h (no-tick p a) (late p a) (stands p m));
+      waits = λ p m a. shows t p (there p m) (happen-waits t f p (there p m) e os s w h (no-tick p a) (late p a) (stands p m));
       goes = λ p b k why r n. hides t p b
-          (happen-quiet t f p b k e s w h (⊎-elim (λ a. inl a) (λ m. inr (hidden-unmarked t p b s (port-long t s h p b) m)) why) r n);
+          (happen-quiet t f p b k e os s w h (⊎-elim (λ a. inl a) (λ m. inr (hidden-unmarked t p b s (port-long t s h p b) m)) why) r n);
     }
   where
     there : (p : ℕ) → markedIn t s p ≡ true → p < ports t

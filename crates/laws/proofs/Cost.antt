@@ -6,14 +6,15 @@ use Prim.Native.Nat.{ℕ, zero, suc, _+_, _≤_, _<_}
 use native.Mathlib.Omega.{arith}
 use lib.ListN.{length, length-append}
 use lib.Dec.{eqb}
-use Rattle.rulebook.specs.Words.{sum, each}
+use Rattle.rulebook.specs.Words.{sum, until}
 use Rattle.rulebook.specs.Table.{lists, noList, listOwner, firstItem, itemCount, itemA}
 use Rattle.rulebook.specs.Expressions.{deepest}
 use Rattle.rulebook.specs.Reasons.{ruleNests, itemNests, listWithin, ruleCost, itemCost, costWithin, bound}
-use Rattle.rulebook.specs.Lists.{Run, emit, traceWord, traceListStart, act, unready, choiceIn, judge, runRule, runItem, runItems, runList}
+use Rattle.rulebook.specs.Lists.{Run, emit, traceWord, traceListStart, act, stops, unready, choiceIn, judge, runRule, runItem, runItems, runList}
 use Rattle.rulebook.specs.Arbitration.{unmarkPorts, chosen, order, runIf, runChosen, decide, arbitrate}
 use Rattle.laws.specs.Facts.{Facts}
 use Rattle.laws.proofs.Tests.{split, clash}
+use Rattle.laws.proofs.Walks.{until-last, until-next}
 use Rattle.laws.proofs.Cases.{item-list, item-rule, item-act, item-cases, rule-unready, rule-ready, choice-none, choice-some, if-chosen, if-not}
 use Rattle.laws.proofs.Nesting.{nests-list, nests-rule, nests-choice, within-there, within-item, cost-list, cost-rule, cost-act, rule-costs}
 use Rattle.laws.proofs.Nesting.{cost-choice, cost-there}
@@ -52,14 +53,15 @@ module _ (t : List ℕ) (fits : ℕ → Bool) (cost : ℕ → ℕ) (below : ℕ 
       (λ g h. rw (item-act below t o i x g h, cost-act t cost i g h, one-more) (omega arith))
 
   items-paid : (i n : ℕ) (x : Run) → ((j : ℕ) → i ≤ j → j < i + n → itemNests t fits j ≡ true)
-      → written (each i n (runItem below t o) x) ≤ written x + sum i n (itemCost t cost)
-  unfolding each sum
+      → written (until i n (stops t) (runItem below t o) x) ≤ written x + sum i n (itemCost t cost)
+  unfolding until sum
   items-paid i zero x h = omega arith
   items-paid i (suc n) x h =
       let a : written (runItem below t o i x) ≤ written x + itemCost t cost i = item-paid i x (h i (omega arith) (omega arith)) in
-      let b : written (each (suc i) n (runItem below t o) (runItem below t o i x)) ≤ written (runItem below t o i x) + sum (suc i) n
+      let b : written (until (suc i) n (stops t) (runItem below t o) (runItem below t o i x)) ≤ written (runItem below t o i x) + sum (suc i) n
       (itemCost t cost) = items-paid (suc i) n (runItem below t o i x) (λ j c d. h j (omega arith) (omega arith)) in
-      omega arith
+      split (stops t i x) (λ e. rw (until-last (stops t) (runItem below t o) i n x e) (omega arith))
+      (λ e. rw (until-next (stops t) (runItem below t o) i n x e) (omega arith))
 
 pub list-paid : (t : List ℕ) (d l : ℕ) (x : Run) → listWithin d t l ≡ true → written (runList d t l x) ≤ written x + costWithin d t l
 unfolding runList runItems listWithin
@@ -85,10 +87,10 @@ module _ (t : List ℕ) (f : Facts t) where
       (runIf t c l x) (e .1) in
       omega arith
 
-  pub arbitrate-paid : (q : ℕ → Bool) (s : List ℕ) → written (arbitrate t q s) ≤ bound t
+  pub arbitrate-paid : (q : ℕ → Bool) (os s : List ℕ) → written (arbitrate t q os s) ≤ bound t
   unfolding arbitrate decide bound
-  arbitrate-paid q s =
-      let p : written (arbitrate t q s) ≤ 0 + sumOver (costWithin deepest t) (order t) = chosen-paid (chosen t q (unmarkPorts t q s)) (order t) _
+  arbitrate-paid q os s =
+      let p : written (arbitrate t q os s) ≤ 0 + sumOver (costWithin deepest t) (order t) = chosen-paid (chosen t q (unmarkPorts t q s)) (order t) _
       (order-there t) in
       let e : sumOver (costWithin deepest t) (order t) ≡ sum 0 (lists t) (costWithin deepest t) = order-sum t (costWithin deepest t) in
       omega arith

@@ -7,11 +7,11 @@ use lib.Dec.{eqb}
 use Rattle.rulebook.specs.Table.{lists, noList, listOwner, firstItem, itemCount, itemA}
 use Rattle.rulebook.specs.Expressions.{deepest}
 use Rattle.rulebook.specs.Reasons.{ruleNests, itemNests, listWithin}
-use Rattle.rulebook.specs.Lists.{Run, act, unready, choiceIn, judge, runRule, runItem, runItems, runList}
+use Rattle.rulebook.specs.Lists.{Run, act, stops, unready, choiceIn, judge, runRule, runItem, runItems, runList}
 use Rattle.rulebook.specs.Arbitration.{order, runIf, runChosen, decide, arbitrate}
 use Rattle.laws.specs.Facts.{Facts}
 use Rattle.laws.proofs.Tests.{split, clash}
-use Rattle.laws.proofs.Walks.{each-keeps}
+use Rattle.laws.proofs.Walks.{until-keeps}
 use Rattle.laws.proofs.Cases.{item-list, item-rule, item-act, item-cases, rule-unready, rule-ready, choice-none, choice-some, if-chosen, if-not}
 use Rattle.laws.proofs.Nesting.{nests-list, nests-rule, nests-choice, within-item}
 use Rattle.laws.specs.Sequence.{Each}
@@ -39,7 +39,7 @@ pub list-shallow : (t : List ℕ) (d l : ℕ) (x : Run) → listWithin d t l ≡
 unfolding runList runItems listWithin
 list-shallow t zero l x h = clash h refl
 list-shallow t (suc d) l x h =
-    each-keeps (λ y. y .deep ≡ x .deep) (runItem (runList d t) t (listOwner t l)) (firstItem t l) (itemCount t l) _
+    until-keeps (λ y. y .deep ≡ x .deep) (stops t) (runItem (runList d t) t (listOwner t l)) (firstItem t l) (itemCount t l) _
     (λ i y a b e. item-shallow t (listWithin d t) (runList d t) (list-shallow t d) (listOwner t l) i y (within-item t d l i h a b) ∙ e) refl
 
 module _ (t : List ℕ) (f : Facts t) where
@@ -50,6 +50,6 @@ module _ (t : List ℕ) (f : Facts t) where
       chosen-shallow c ls (runIf t c l x) (e .1)
       ∙ split (c l) (λ h. rw (if-chosen t c l x h) (list-shallow t deepest l x (f .list l (e .0) .nested))) (λ h. rw (if-not t c l x h))
 
-  pub arbitrate-shallow : (q : ℕ → Bool) (s : List ℕ) → arbitrate t q s .deep ≡ false
+  pub arbitrate-shallow : (q : ℕ → Bool) (os s : List ℕ) → arbitrate t q os s .deep ≡ false
   unfolding arbitrate decide
-  arbitrate-shallow q s = chosen-shallow _ (order t) _ (order-there t)
+  arbitrate-shallow q os s = chosen-shallow _ (order t) _ (order-there t)

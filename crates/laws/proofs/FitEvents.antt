@@ -238,19 +238,21 @@ module _ (t : List ℕ) (f : Facts t) where
   requested-fits p m v s b nt v₈ ev m₂ imm h = port-put t s h p 1 m v 0 b (plain-ok t p m v nt m₂ imm v₈ ev)
 
   -- a request, deferred or immediate
-  pub request-cases : (P : Run → Type 0) (p v : ℕ) (s : List ℕ) → p < ports t → (portKind t p ≡ portTimer → ⊥) → v < 256 → (portKind t p ≡ portEvent → v ≤ 1)
+  pub request-cases : (P : Run → Type 0) (p v : ℕ) (os s : List ℕ) → p < ports t → (portKind t p ≡ portTimer → ⊥) → v < 256 → (portKind t p ≡ portEvent → v ≤ 1)
       → Fits t s
-      → (Fits t (setPort p 1 v 0 s) → P (start (setPort p 1 v 0 s))) → (Fits t (setPort p 0 v 0 s) → P (arbitrate t (only p) (setPort p 0 v 0 s))) → P
-      (request t p v s)
+      → (Fits t (setPort p 1 v 0 s) → P (start os (setPort p 1 v 0 s)))
+      → (Fits t (setPort p 0 v 0 s) → P (arbitrate t (only p) os (setPort p 0 v 0 s)))
+      → P (request t p v os s)
   unfolding request
-  request-cases P p v s b nt v₈ ev h late now =
+  request-cases P p v os s b nt v₈ ev h late now =
       split (eqb (deferred t p) 1)
       (λ e. let d : deferred t p ≡ 1 = eqb-true _ _ e in rw e (late (requested-fits p 1 v s b nt v₈ ev (omega arith) (λ z y. absurd (omega arith)) h)))
       (λ e. rw e (now (requested-fits p 0 v s b nt v₈ ev (omega arith) (λ z y. refl) h)))
 
-  request-fits : (p v : ℕ) (s : List ℕ) → p < ports t → (portKind t p ≡ portTimer → ⊥) → v < 256 → (portKind t p ≡ portEvent → v ≤ 1) → Fits t s
-      → Fits t (request t p v s .state)
-  request-fits p v s b nt v₈ ev h = request-cases (λ x. Fits t (x .state)) p v s b nt v₈ ev h (λ fit. fit) (λ fit. arbitrate-fits t f (only p) _ fit)
+  request-fits : (p v : ℕ) (os s : List ℕ) → p < ports t → (portKind t p ≡ portTimer → ⊥) → v < 256 → (portKind t p ≡ portEvent → v ≤ 1) → Fits t s
+      → Fits t (request t p v os s .state)
+  request-fits p v os s b nt v₈ ev h =
+      request-cases (λ x. Fits t (x .state)) p v os s b nt v₈ ev h (λ fit. fit) (λ fit. arbitrate-fits t f (only p) os _ fit)
 
   -- Kinds 3 to 7, once for all: a source moves to what fits it, a network to what fits it and asked as before, or the state stays.
   -- What holds of every such move, and of the state, holds of what the event leaves.
@@ -275,13 +277,13 @@ module _ (t : List ℕ) (f : Facts t) where
   network-to P e s g (aHeard k) b h moves stays =
       split (listens (networkIn t (eventIndex e) s)) (λ a. rw a (moves _ (hearing-ok _ _ (network-in t s h _ b) a) refl)) (λ a. rw a stays)
 
-  pub happen-fits : (e : ℕ) (s : List ℕ) → Taken t e → Fits t s → Fits t (happen t e s .state)
-  happen-fits e s w h = go (happen t e) (event t e w)
+  pub happen-fits : (e : ℕ) (os s : List ℕ) → Taken t e → Fits t s → Fits t (happen t e os s .state)
+  happen-fits e os s w h = go (happen t e) (event t e w)
     where
-      go : (g : List ℕ → Run) → Event t e g → Fits t (g s .state)
-      go g (aTick k o) = unfold tick arbitrateMarked in arbitrate-fits t f _ _ (things-fit s h)
+      go : (g : List ℕ → List ℕ → Run) → Event t e g → Fits t (g os s .state)
+      go g (aTick k o) = unfold tick arbitrateMarked in arbitrate-fits t f _ os _ (things-fit s h)
       go g (aMode k p m u) =
-          request-fits (eventIndex e) (eventValue e) s (p .there) (λ z. omega arith) (digit-small _ 256 _ (omega arith)) (λ z. absurd (omega arith)) h
-      go g (aRequest k p m) = request-fits (eventIndex e) 1 s (p .there) (λ z. omega arith) (omega arith) (λ z. omega arith) h
+          request-fits (eventIndex e) (eventValue e) os s (p .there) (λ z. omega arith) (digit-small _ 256 _ (omega arith)) (λ z. absurd (omega arith)) h
+      go g (aRequest k p m) = request-fits (eventIndex e) 1 os s (p .there) (λ z. omega arith) (omega arith) (λ z. omega arith) h
       go g (ofSource k n of u c) = source-to (Fits t) e s u c (λ status r o. move-source-fits (eventIndex e) status r s (of .there) o h) h
       go g (ofNetwork k of u c) = network-to (Fits t) e s u c (of .there) h (λ x o same. move-network-fits (eventIndex e) x s (of .there) o h) h

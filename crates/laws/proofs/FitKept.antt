@@ -151,5 +151,5 @@ fit-kept t f =
           });
     }
 
-pub arbitrate-fits : (t : List ℕ) → Facts t → (q : ℕ → Bool) (s : List ℕ) → Fits t s → Fits t (arbitrate t q s .state)
-arbitrate-fits t f q s h = arbitrate-keeps t f (Fits t) (fit-kept t f) q s h
+pub arbitrate-fits : (t : List ℕ) → Facts t → (q : ℕ → Bool) (os s : List ℕ) → Fits t s → Fits t (arbitrate t q os s .state)
+arbitrate-fits t f q os s h = arbitrate-keeps t f (Fits t) (fit-kept t f) q os s h

@@ -1,86 +1,89 @@
--- The frame of a run: a run from x is x's words followed by the words of the run from x's state alone, and likewise for the state
--- and for being deep. Room and depth of each part of a run follow from it. Assumes nothing.
+-- The frame of a run: a run from x is what x has written in front of the run from x's state and unread outcomes alone. Room and depth of
+-- each part of a run follow from it. Assumes nothing.
 use mathlib.Core.Path.{_≡_, refl, sym, _∙_, ap}
-use mathlib.Core.Bool.{Bool, _||_, or-false, or-true, or-assoc}
+use mathlib.Core.Bool.{Bool, true, false, _||_, or-false, or-true, or-assoc}
 use mathlib.Core.List.{List, [], _∷_, _++_, append-nil, append-assoc}
 use Prim.Native.Nat.{ℕ, zero, suc}
 use lib.Dec.{eqb}
-use Rattle.rulebook.specs.Words.{each}
+use Rattle.rulebook.specs.Words.{until}
 use Rattle.rulebook.specs.Table.{noList, listOwner, firstItem, itemCount, itemKind, itemA, itemRule}
 use Rattle.rulebook.specs.State.{undefinedResult}
-use Rattle.rulebook.specs.Lists.{Run, start, become, emit, tooDeep, traceWord, traceListStart, effect, act, unready, resultIn, choiceIn, setResult, judge}
+use Rattle.rulebook.specs.Lists.{Run, start, become, emit, tooDeep, leave, traceWord, traceListStart, effect, unread, act, stops, unready, resultIn}
+use Rattle.rulebook.specs.Lists.{choiceIn, setResult, judge}
 use Rattle.rulebook.specs.Lists.{runChoice, runRule, runItem, runItems, runList}
 use Rattle.rulebook.specs.Arbitration.{runIf, runChosen}
 use Rattle.laws.proofs.Tests.{split}
+use Rattle.laws.proofs.Walks.{until-last, until-next}
 use Rattle.laws.proofs.Cases.{item-list, item-rule, item-act, item-cases, rule-unready, rule-ready, choice-none, choice-some, if-chosen, if-not}
 
-pub record Framed (f : Run → Run) : Type 0 where
-  pub state : (x : Run) → f x .state ≡ f (start (x .state)) .state
-  pub words : (x : Run) → f x .words ≡ x .words ++ f (start (x .state)) .words
-  pub deep : (x : Run) → f x .deep ≡ (x .deep || f (start (x .state)) .deep)
+-- the run that has only just started where x is
+abbrev pub afresh : Run → Run
+afresh x = start (x .outcomes) (x .state)
 
--- nothing done, a word written and the state changed by what the state is, a list too deep
+-- run y, with what x has written in front
+abbrev pub over : Run → Run → Run
+over x y = record { state = y .state; words = x .words ++ y .words; deep = x .deep || y .deep; outcomes = y .outcomes }
+
+abbrev pub Framed : (Run → Run) → Type 0
+Framed f = (x : Run) → f x ≡ over x (f (afresh x))
+
+pub framed-words : {f : Run → Run} → Framed f → (x : Run) → f x .words ≡ x .words ++ f (afresh x) .words
+framed-words h x = ap (λ (y : Run). y .words) (h x)
+
+-- nothing done, a word written with the state and the outcomes changed by what they are, a list too deep
 
 pub framed-none : Framed (λ x. x)
-framed-none = record { state = λ x. refl; words = λ x. sym (append-nil (x .words)); deep = λ x. sym (or-false (x .deep)) }
+framed-none x = rw (append-nil, or-false)
 
-pub framed-put : (e : List ℕ → List ℕ) (w : List ℕ → ℕ) → Framed (λ x. become (e (x .state)) (emit (w (x .state)) x))
-framed-put e w = record { state = λ x. refl; words = λ x. refl; deep = λ x. sym (or-false (x .deep)) }
+pub framed-put : (e : List ℕ → List ℕ) (w : List ℕ → ℕ) (u : List ℕ → List ℕ)
+    → Framed (λ x. leave (u (x .outcomes)) (become (e (x .state)) (emit (w (x .state)) x)))
+framed-put e w u x = rw or-false
 
 framed-deep : Framed tooDeep
-framed-deep = record { state = λ x. refl; words = λ x. sym (append-nil (x .words)); deep = λ x. sym (or-true (x .deep)) }
+framed-deep x = rw (append-nil, or-true)
 
 -- one after the other
+
+over-over : (x y z : Run) → over (over x y) z ≡ over x (over y z)
+over-over x y z = rw (append-assoc, or-assoc)
+
 pub framed-then : (f g : Run → Run) → Framed f → Framed g → Framed (λ x. g (f x))
-framed-then f g a b =
-    record {
-      state = λ x. b .state (f x) ∙ ap (λ (s : List ℕ). g (start s) .state) (a .state x) ∙ sym (b .state (f (start (x .state))));
-      words = λ x.
-          b .words (f x)
-          ∙ ap (λ (s : List ℕ). f x .words ++ g (start s) .words) (a .state x)
-          ∙ ap (λ (w : List ℕ). w ++ g (start (f (start (x .state)) .state)) .words) (a .words x)
-          ∙ append-assoc (x .words) _ _
-          ∙ ap (λ (w : List ℕ). x .words ++ w) (sym (b .words (f (start (x .state)))));
-      deep = λ x.
-          b .deep (f x)
-          ∙ ap (λ (s : List ℕ). f x .deep || g (start s) .deep) (a .state x)
-          ∙ ap (λ (d : Bool). d || g (start (f (start (x .state)) .state)) .deep) (a .deep x)
-          ∙ or-assoc (x .deep) _ _
-          ∙ ap (λ (d : Bool). x .deep || d) (sym (b .deep (f (start (x .state)))));
-    }
+framed-then f g a b x =
+    b (f x)
+    ∙ ap (λ (y : Run). over y (g (afresh y))) (a x)
+    ∙ over-over x (f (afresh x)) _
+    ∙ ap (over x) (sym (b (f (afresh x))))
 
-pub framed-each : (f : ℕ → Run → Run) (i n : ℕ) → ((j : ℕ) → Framed (f j)) → Framed (each i n f)
-unfolding each
-framed-each f i zero h = framed-none
-framed-each f i (suc n) h = framed-then (f i) (each (suc i) n f) (h i) (framed-each f (suc i) n h)
+-- a choice that state and outcomes decide
+pub framed-by : (f : Run → Run) → ((x : Run) → (g : Run → Run) × Framed g × (f x ≡ g x) × (f (afresh x) ≡ g (afresh x))) → Framed f
+framed-by f c x = let d = c x in d .2 ∙ d .1 x ∙ ap (over x) (sym (d .3))
 
--- two runs that agree at x and at x's state alone: what one's frame says, the other's says
-framed-at : (f g : Run → Run) (x : Run) → f x ≡ g x → f (start (x .state)) ≡ g (start (x .state)) → Framed g
-    → (f x .state ≡ f (start (x .state)) .state) × (f x .words ≡ x .words ++ f (start (x .state)) .words) ×
-    (f x .deep ≡ (x .deep || f (start (x .state)) .deep))
-framed-at f g x a b h = (
-  ap (λ (r : Run). r .state) a ∙ h .state x ∙ sym (ap (λ (r : Run). r .state) b),
-  ap (λ (r : Run). r .words) a ∙ h .words x ∙ sym (ap (λ (r : Run). x .words ++ r .words) b),
-  ap (λ (r : Run). r .deep) a ∙ h .deep x ∙ sym (ap (λ (r : Run). x .deep || r .deep) b),
-)
+stops-afresh : (t : List ℕ) (i : ℕ) (x : Run) → stops t i (afresh x) ≡ stops t i x
+unfolding stops
+stops-afresh t i x = refl
 
--- a choice that the state decides
-pub framed-by : (f : Run → Run) → ((x : Run) → (g : Run → Run) × Framed g × (f x ≡ g x) × (f (start (x .state)) ≡ g (start (x .state)))) → Framed f
-framed-by f c =
-    record {
-      state = λ x. framed-at f (c x .0) x (c x .2) (c x .3) (c x .1) .0;
-      words = λ x. framed-at f (c x .0) x (c x .2) (c x .3) (c x .1) .1;
-      deep = λ x. framed-at f (c x .0) x (c x .2) (c x .3) (c x .1) .2;
-    }
+pub framed-until : (t : List ℕ) (f : ℕ → Run → Run) (i n : ℕ) → ((j : ℕ) → Framed (f j)) → Framed (until i n (stops t) f)
+unfolding until
+framed-until t f i zero h = framed-none
+framed-until t f i (suc n) h =
+    framed-by (until i (suc n) (stops t) f)
+    (λ x. split (stops t i x)
+    (λ e. (f i, h i, until-last (stops t) f i n x e, until-last (stops t) f i n (afresh x) (stops-afresh t i x ∙ e)))
+    (λ e. (
+      λ y. until (suc i) n (stops t) f (f i y),
+      framed-then (f i) (until (suc i) n (stops t) f) (h i) (framed-until t f (suc i) n h),
+      until-next (stops t) f i n x e,
+      until-next (stops t) f i n (afresh x) (stops-afresh t i x ∙ e),
+    )))
 
 module _ (t : List ℕ) (below : ℕ → Run → Run) (h : (l : ℕ) → Framed (below l)) (o : ℕ) where
   pub act-framed : (i : ℕ) → Framed (act t o i)
   unfolding act
-  act-framed i = framed-put (effect t i) (λ s. traceWord (itemKind t i) o (itemA t i) _)
+  act-framed i = framed-put (effect t i) (λ s. traceWord (itemKind t i) o (itemA t i) _) (unread t i)
 
   judge-framed : (r : ℕ) → Framed (judge t o r)
   unfolding judge
-  judge-framed r = framed-put (λ s. setResult t r (resultIn t s r) s) (λ s. traceWord itemRule o r (resultIn t s r))
+  judge-framed r = framed-put (λ s. setResult t r (resultIn t s r) s) (λ s. traceWord itemRule o r (resultIn t s r)) (λ os. os)
 
   pub choice-framed : (l : ℕ) → Framed (runChoice below l)
   choice-framed l =
@@ -94,7 +97,7 @@ module _ (t : List ℕ) (below : ℕ → Run → Run) (h : (l : ℕ) → Framed 
       (λ x. split (unready t (x .state) r)
       (λ e. (
         emit (traceWord itemRule o r undefinedResult),
-        framed-put (λ s. s) (λ s. traceWord itemRule o r undefinedResult),
+        framed-put (λ s. s) (λ s. traceWord itemRule o r undefinedResult) (λ os. os),
         rule-unready below t o r x e,
         rule-unready below t o r _ e,
       ))
@@ -117,9 +120,10 @@ pub list-framed : (t : List ℕ) (d l : ℕ) → Framed (runList d t l)
 unfolding runList runItems
 list-framed t zero l = framed-deep
 list-framed t (suc d) l =
-    framed-then (emit (traceWord traceListStart (listOwner t l) l 0)) (each (firstItem t l) (itemCount t l) (runItem (runList d t) t (listOwner t l)))
-    (framed-put (λ s. s) (λ s. traceWord traceListStart (listOwner t l) l 0))
-    (framed-each _ (firstItem t l) (itemCount t l) (item-framed t (runList d t) (list-framed t d) (listOwner t l)))
+    framed-then (emit (traceWord traceListStart (listOwner t l) l 0))
+    (until (firstItem t l) (itemCount t l) (stops t) (runItem (runList d t) t (listOwner t l)))
+    (framed-put (λ s. s) (λ s. traceWord traceListStart (listOwner t l) l 0) (λ os. os))
+    (framed-until t _ (firstItem t l) (itemCount t l) (item-framed t (runList d t) (list-framed t d) (listOwner t l)))
 
 pub if-framed : (t : List ℕ) (c : ℕ → Bool) (l : ℕ) → Framed (runIf t c l)
 if-framed t c l =

@@ -14,20 +14,20 @@ use Rattle.rulebook.specs.State.{aPort, aNetwork, aSource, ownerOf}
 use Rattle.rulebook.specs.Lists.{Run, start}
 use Rattle.rulebook.specs.Events.{eventKind, eventOwner, eventIndex, eventValue, eventTick, eventMode, eventRequest, eventWakeup, eventValid, eventBusOff}
 use Rattle.rulebook.specs.Events.{eventClear, eventHeard, highestKind, request, wake, validate, clear, busOff, hear, tick, changed, happen}
-use Rattle.rulebook.specs.Step.{wellFormed, named, present, suited, known, sentByOwner, refusedEvent}
+use Rattle.rulebook.specs.Step.{wellFormed, named, present, suited, known, sentByOwner, outcomesKnown, refusedEvent}
 use Rattle.laws.proofs.Tests.{split, part-of, and-left, and-right, implies-elim, or-none, or-some, or-elim}
 
 no-request : (k : ℕ) → (k ≡ eventTick → ⊥) → (k ≡ eventMode → ⊥) → (k ≡ eventRequest → ⊥) → eventWakeup ≤ k
 no-request k a b c = omega arith
 
-pub happen-cases : (P : Run → Type 0) (t : List ℕ) (e : ℕ) (s : List ℕ)
-    → (eventKind e ≡ eventTick → P (tick t s))
-    → (eventKind e ≡ eventMode → P (request t (eventIndex e) (eventValue e) s))
-    → (eventKind e ≡ eventRequest → P (request t (eventIndex e) 1 s))
-    → (eventWakeup ≤ eventKind e → P (start (changed t (eventKind e) (eventIndex e) s)))
-    → P (happen t e s)
+pub happen-cases : (P : Run → Type 0) (t : List ℕ) (e : ℕ) (os s : List ℕ)
+    → (eventKind e ≡ eventTick → P (tick t os s))
+    → (eventKind e ≡ eventMode → P (request t (eventIndex e) (eventValue e) os s))
+    → (eventKind e ≡ eventRequest → P (request t (eventIndex e) 1 os s))
+    → (eventWakeup ≤ eventKind e → P (start os (changed t (eventKind e) (eventIndex e) s)))
+    → P (happen t e os s)
 unfolding happen
-happen-cases P t e s f₀ f₁ f₂ f₃ =
+happen-cases P t e os s f₀ f₁ f₂ f₃ =
     split (eqb (eventKind e) eventTick) (λ a. rw a (f₀ (eqb-true _ _ a)))
     (λ a. split (eqb (eventKind e) eventMode) (λ b. rw (a, b) (f₁ (eqb-true _ _ b)))
     (λ b. split (eqb (eventKind e) eventRequest) (λ c. rw (a, b, c) (f₂ (eqb-true _ _ c)))
@@ -40,14 +40,16 @@ pub record Taken (t : List ℕ) (e : ℕ) : Type 0 where
   pub known : known t e ≡ true
   pub owner : sentByOwner t e ≡ true
 
-pub taken-event : (t : List ℕ) (e : ℕ) → refusedEvent t e ≡ 0 → Taken t e
+pub taken-event : (t os : List ℕ) (e : ℕ) → refusedEvent t os e ≡ 0 → Taken t e
 unfolding refusedEvent
-taken-event t e h =
+taken-event t os e h =
     split (wellFormed e)
-    (λ a. split (known t e)
+    (λ a. split (outcomesKnown os)
+    (λ d. split (known t e)
     (λ b. split (sentByOwner t e) (λ c. record { wellFormed = a; known = b; owner = c })
-    (λ c. let z : 6 ≡ 0 = rw (a, b, c) at h in absurd (omega arith)))
-    (λ b. let z : 5 ≡ 0 = rw (a, b) at h in absurd (omega arith)))
+    (λ c. let z : 6 ≡ 0 = rw (a, d, b, c) at h in absurd (omega arith)))
+    (λ b. let z : 5 ≡ 0 = rw (a, d, b) at h in absurd (omega arith)))
+    (λ d. let z : 8 ≡ 0 = rw (a, d) at h in absurd (omega arith)))
     (λ a. let z : 4 ≡ 0 = rw a at h in absurd (omega arith))
 
 abbrev pub ofNetworks : ℕ → Bool
@@ -133,13 +135,13 @@ pub data OnNetwork (t : List ℕ) (e : ℕ) : (List ℕ → List ℕ) → Type 0
   aBusOff : eventKind e ≡ eventBusOff → OnNetwork t e (λ s. busOff t (eventIndex e) s)
   aHeard : eventKind e ≡ eventHeard → OnNetwork t e (λ s. hear t (eventIndex e) s)
 
-pub data Event (t : List ℕ) (e : ℕ) : (List ℕ → Run) → Type 0 where
-  aTick : eventKind e ≡ eventTick → eventOwner e ≡ platform → Event t e (λ s. tick t s)
+pub data Event (t : List ℕ) (e : ℕ) : (List ℕ → List ℕ → Run) → Type 0 where
+  aTick : eventKind e ≡ eventTick → eventOwner e ≡ platform → Event t e (λ os s. tick t os s)
   aMode : eventKind e ≡ eventMode → OfPort t e → portKind t (eventIndex e) ≡ portMode → held t (eventIndex e) (networks t) (sources t) ≡ false
-      → Event t e (λ s. request t (eventIndex e) (eventValue e) s)
-  aRequest : eventKind e ≡ eventRequest → OfPort t e → portKind t (eventIndex e) ≡ portEvent → Event t e (λ s. request t (eventIndex e) 1 s)
-  ofSource : eventWakeup ≤ eventKind e → ofNetworks e ≡ false → OfSource t e → (g : List ℕ → List ℕ) → OnSource t e g → Event t e (λ s. start (g s))
-  ofNetwork : eventWakeup ≤ eventKind e → OfNetwork t e → (g : List ℕ → List ℕ) → OnNetwork t e g → Event t e (λ s. start (g s))
+      → Event t e (λ os s. request t (eventIndex e) (eventValue e) os s)
+  aRequest : eventKind e ≡ eventRequest → OfPort t e → portKind t (eventIndex e) ≡ portEvent → Event t e (λ os s. request t (eventIndex e) 1 os s)
+  ofSource : eventWakeup ≤ eventKind e → ofNetworks e ≡ false → OfSource t e → (g : List ℕ → List ℕ) → OnSource t e g → Event t e (λ os s. start os (g s))
+  ofNetwork : eventWakeup ≤ eventKind e → OfNetwork t e → (g : List ℕ → List ℕ) → OnNetwork t e g → Event t e (λ os s. start os (g s))
 
 module _ (t : List ℕ) (e : ℕ) (w : Taken t e) where
   pub tick-owner : eventKind e ≡ eventTick → eventOwner e ≡ platform
@@ -180,7 +182,7 @@ module _ (t : List ℕ) (e : ℕ) (w : Taken t e) where
       (λ d. let k : eventKind e ≡ eventClear = eqb-true _ _ d in of-source (omega arith) (rw k))
       (or-some (eqb (eventKind e) eventValid) (eqb (eventKind e) eventClear) h)
 
-  a-change : eventWakeup ≤ eventKind e → Event t e (λ s. start (changed t (eventKind e) (eventIndex e) s))
+  a-change : eventWakeup ≤ eventKind e → Event t e (λ os s. start os (changed t (eventKind e) (eventIndex e) s))
   unfolding changed
   a-change low =
       split (ofNetworks e)
@@ -196,7 +198,7 @@ module _ (t : List ℕ) (e : ℕ) (w : Taken t e) where
       only-clear : (k : ℕ) → 3 ≤ k → (k ≡ 3 → ⊥) → (k ≡ 4 → ⊥) → (k ≡ 5 → ⊥) → (k ≡ 7 → ⊥) → k ≤ 7 → k ≡ 6
       only-clear k low a b c d small = omega arith
 
-  pub event : Event t e (λ s. happen t e s)
+  pub event : Event t e (λ os s. happen t e os s)
   unfolding happen
   event =
       split (eqb (eventKind e) eventTick) (λ a. let k = eqb-true (eventKind e) eventTick a in rw a (aTick k (tick-owner k)))

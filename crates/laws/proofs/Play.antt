@@ -10,18 +10,19 @@ use native.Mathlib.Omega.{arith}
 use lib.ListN.{length, getD, take, drop, length-append}
 use lib.Dec.{ltb, eqb}
 use borrow.Author.Tests.{ltb-true, ltb-false, eqb-true, eqb-false, eq-eqb, ne-eqb, lt-ltb, le-ltb}
+use Rattle.rulebook.specs.Table.{edition}
 use Rattle.rulebook.specs.Reasons.{bound, accepted}
 use Rattle.rulebook.specs.State.{fits}
 use Rattle.rulebook.specs.Events.{happen}
-use Rattle.rulebook.specs.Step.{refusedState, refusedCall, wellFormed, known, sentByOwner, refusedEvent, firstFault}
-use Rattle.rulebook.specs.Step.{Result, refusal, conclude, finish, handle, step}
+use Rattle.rulebook.specs.Step.{refusedState, refusedCall, refusedEvent, firstFault}
+use Rattle.rulebook.specs.Step.{refusal, conclude, finish, heeded, handle, step}
 use Rattle.rulebook.specs.Play.{Play, ending, onto, goesOn, playOn, play}
 use Rattle.laws.specs.Sequence.{Each}
 use Rattle.laws.proofs.Tests.{split}
 use Rattle.laws.proofs.Facts.{facts}
 use Rattle.laws.proofs.Happen.{taken-event}
 use Rattle.laws.proofs.FitEvents.{happen-fits}
-use Rattle.laws.proofs.Steps.{step-in-parts, event-small, happen-shallow, happen-paid}
+use Rattle.laws.proofs.Steps.{step-in-parts, event-refused, event-small, happen-shallow, happen-paid, done}
 
 -- What answers 1 and 2 let through, and what they end.
 
@@ -50,9 +51,9 @@ module _ (t s : List ℕ) (h : refusedState t s ≡ 0) where
   play-stands room es = rw h
 
 module _ (t s : List ℕ) (n : refusedState t s ≡ 0 → ⊥) where
-  pub step-unadmitted : (room e : ℕ) → step t s room e ≡ refusal (refusedState t s) s
+  pub step-unadmitted : (room : ℕ) (os : List ℕ) (e : ℕ) → step t s room os e ≡ refusal (refusedState t s) s
   unfolding step conclude firstFault refusedState
-  step-unadmitted room e =
+  step-unadmitted room os e =
       split (accepted t)
       (λ a. split (fits t s) (λ b. absurd (n (rw (a, b)))) (λ b. rw (a, b)))
       (λ a. rw a)
@@ -60,16 +61,6 @@ module _ (t s : List ℕ) (n : refusedState t s ≡ 0 → ⊥) where
   pub play-unadmitted : (room : ℕ) (es : List ℕ) → play t s room es ≡ ending (refusedState t s) s
   unfolding play
   play-unadmitted room es = rw (ne-eqb _ 0 n)
-
--- an event that is refused is refused by 4, 5 or 6
-pub event-refused : (t : List ℕ) (e : ℕ) → (refusedEvent t e ≡ 0 → ⊥) → 4 ≤ refusedEvent t e
-unfolding refusedEvent
-event-refused t e n =
-    split (wellFormed e)
-    (λ a. split (known t e)
-    (λ b. split (sentByOwner t e) (λ c. absurd (n (rw (a, b, c)))) (λ c. rw (a, b, c) (omega arith)))
-    (λ b. rw (a, b) (omega arith)))
-    (λ a. rw a (omega arith))
 
 -- Nothing in front of a play, and two parts in front of it.
 
@@ -79,36 +70,37 @@ onto-none p = rw zero-add
 pub onto-onto : (a b : ℕ) (xs ys : List ℕ) (p : Play) → onto a xs (onto b ys p) ≡ onto (a + b) (xs ++ ys) p
 onto-onto a b xs ys p = rw (append-assoc, add-assoc)
 
--- what a done event gives
-abbrev done : List ℕ → ℕ → List ℕ → Result
-done t e s = record { answer = 0; state = happen t e s .state; words = happen t e s .words }
-
 -- A single call, with table and state in order: full, refused or done.
 
-module _ (t s : List ℕ) (room e : ℕ) (ok : accepted t ≡ true) (fit : fits t s ≡ true) where
-  pub step-full : room < bound t → step t s room e ≡ refusal 3 s
+module _ (t s : List ℕ) (room : ℕ) (os : List ℕ) (e : ℕ) (ok : accepted t ≡ true) (fit : fits t s ≡ true) where
+  pub step-full : room < bound t → step t s room os e ≡ refusal 3 s
   unfolding refusedCall refusedState
   step-full h = rw (step-in-parts, ok, fit, lt-ltb room (bound t) h)
 
-  in-room : bound t ≤ room → step t s room e ≡ handle t s e
+  in-room : bound t ≤ room → step t s room os e ≡ handle t s os e
   unfolding refusedCall refusedState
   in-room h = rw (step-in-parts, ok, fit, le-ltb room (bound t) h)
 
-  pub step-refused : bound t ≤ room → (refusedEvent t e ≡ 0 → ⊥) → step t s room e ≡ refusal (refusedEvent t e) s
+  pub step-refused : bound t ≤ room → (refusedEvent t os e ≡ 0 → ⊥) → step t s room os e ≡ refusal (refusedEvent t os e) s
   unfolding handle conclude
   step-refused h n = in-room h ∙ rw (ne-eqb _ _ n)
 
-  pub step-done : bound t ≤ room → refusedEvent t e ≡ 0 → step t s room e ≡ done t e s
+  pub step-done : bound t ≤ room → refusedEvent t os e ≡ 0 → step t s room os e ≡ done t os e s
   unfolding handle conclude finish
-  step-done h z = in-room h ∙ rw (eq-eqb _ _ z, happen-shallow t (facts t ok) e s)
+  step-done h z = in-room h ∙ rw (eq-eqb _ _ z, happen-shallow t (facts t ok) e (heeded t os) s)
+
+-- no outcomes are lent, none are heeded
+pub none-heeded : (t : List ℕ) → heeded t [] ≡ []
+unfolding heeded
+none-heeded t = split (eqb (edition t) 2) (λ a. rw a) (λ a. rw a)
 
 -- a state after done events, and the words of one
 module _ (t s : List ℕ) (e : ℕ) (ok : accepted t ≡ true) where
-  pub done-fits : refusedEvent t e ≡ 0 → fits t s ≡ true → fits t (happen t e s .state) ≡ true
-  done-fits z fit = happen-fits t (facts t ok) e s (taken-event t e z) fit
+  pub done-fits : refusedEvent t [] e ≡ 0 → fits t s ≡ true → fits t (happen t e [] s .state) ≡ true
+  done-fits z fit = happen-fits t (facts t ok) e [] s (taken-event t [] e z) fit
 
-  pub done-paid : length (happen t e s .words) ≤ bound t
-  done-paid = happen-paid t (facts t ok) e s
+  pub done-paid : length (happen t e [] s .words) ≤ bound t
+  done-paid = happen-paid t (facts t ok) e [] s
 
 -- The four ways a play can go. One that takes an event goes on from the state and in the room that it leaves.
 
@@ -116,16 +108,16 @@ module _ (t : List ℕ) (ok : accepted t ≡ true) where
   pub record Taken (e : ℕ) (s : List ℕ) (room : ℕ) : Type 0 where
     pub state : fits t s ≡ true
     pub enough : bound t ≤ room
-    pub event : refusedEvent t e ≡ 0
-    pub next : fits t (happen t e s .state) ≡ true
-    pub few : length (happen t e s .words) ≤ bound t
+    pub event : refusedEvent t [] e ≡ 0
+    pub next : fits t (happen t e [] s .state) ≡ true
+    pub few : length (happen t e [] s .words) ≤ bound t
 
-  pub takes : (e : ℕ) (s : List ℕ) (room : ℕ) → fits t s ≡ true → bound t ≤ room → refusedEvent t e ≡ 0 → Taken e s room
+  pub takes : (e : ℕ) (s : List ℕ) (room : ℕ) → fits t s ≡ true → bound t ≤ room → refusedEvent t [] e ≡ 0 → Taken e s room
   takes e s room fit h z = record { state = fit; enough = h; event = z; next = done-fits t s e ok z fit; few = done-paid t s e ok }
 
   -- the play behind event e
   abbrev pub later : ℕ → List ℕ → List ℕ → ℕ → Play
-  later e es s room = playOn t es (happen t e s .state) (room - length (happen t e s .words))
+  later e es s room = playOn t es (happen t e [] s .state) (room - length (happen t e [] s .words))
 
   pub plays-none : (s : List ℕ) (room : ℕ) → playOn t [] s room ≡ ending 0 s
   unfolding playOn
@@ -133,36 +125,37 @@ module _ (t : List ℕ) (ok : accepted t ≡ true) where
 
   pub plays-full : (e : ℕ) (es s : List ℕ) (room : ℕ) → fits t s ≡ true → room < bound t → playOn t (e ∷ es) s room ≡ ending 3 s
   unfolding playOn goesOn
-  plays-full e es s room fit h = rw (step-full t s room e ok fit h)
+  plays-full e es s room fit h = rw (step-full t s room [] e ok fit h)
 
-  pub plays-refused : (e : ℕ) (es s : List ℕ) (room : ℕ) → fits t s ≡ true → bound t ≤ room → (refusedEvent t e ≡ 0 → ⊥)
-      → playOn t (e ∷ es) s room ≡ ending (refusedEvent t e) s
+  pub plays-refused : (e : ℕ) (es s : List ℕ) (room : ℕ) → fits t s ≡ true → bound t ≤ room → (refusedEvent t [] e ≡ 0 → ⊥)
+      → playOn t (e ∷ es) s room ≡ ending (refusedEvent t [] e) s
   unfolding playOn goesOn
-  plays-refused e es s room fit h n = rw (step-refused t s room e ok fit h n, ne-eqb _ 0 n)
+  plays-refused e es s room fit h n = rw (step-refused t s room [] e ok fit h n, ne-eqb _ 0 n)
 
-  pub plays-taken : (e : ℕ) (es s : List ℕ) (room : ℕ) → Taken e s room → playOn t (e ∷ es) s room ≡ onto 1 (happen t e s .words) (later e es s room)
+  pub plays-taken : (e : ℕ) (es s : List ℕ) (room : ℕ) → Taken e s room → playOn t (e ∷ es) s room ≡ onto 1 (happen t e [] s .words) (later e es s room)
   unfolding playOn goesOn
-  plays-taken e es s room k = rw (step-done t s room e ok (k .state) (k .enough) (k .event))
+  plays-taken e es s room k = rw (step-done t s room [] e ok (k .state) (k .enough) (k .event), none-heeded t)
 
   pub play-cases {ℓ} : (P : List ℕ → List ℕ → ℕ → Play → Type ℓ)
       → ((s : List ℕ) (room : ℕ) → fits t s ≡ true → P [] s room (ending 0 s))
       → ((e : ℕ) (es s : List ℕ) (room : ℕ) → fits t s ≡ true → room < bound t → P (e ∷ es) s room (ending 3 s))
-      → ((e : ℕ) (es s : List ℕ) (room : ℕ) → fits t s ≡ true → bound t ≤ room → (refusedEvent t e ≡ 0 → ⊥) → 4 ≤ refusedEvent t e → refusedEvent t e ≤ 6
-      → P (e ∷ es) s room (ending (refusedEvent t e) s))
+      → ((e : ℕ) (es s : List ℕ) (room : ℕ) → fits t s ≡ true → bound t ≤ room → (refusedEvent t [] e ≡ 0 → ⊥)
+      → 4 ≤ refusedEvent t [] e → refusedEvent t [] e ≤ 6
+      → P (e ∷ es) s room (ending (refusedEvent t [] e) s))
       → ((e : ℕ) (es s : List ℕ) (room : ℕ) → Taken e s room
-      → P es (happen t e s .state) (room - length (happen t e s .words)) (later e es s room)
-      → P (e ∷ es) s room (onto 1 (happen t e s .words) (later e es s room)))
+      → P es (happen t e [] s .state) (room - length (happen t e [] s .words)) (later e es s room)
+      → P (e ∷ es) s room (onto 1 (happen t e [] s .words) (later e es s room)))
       → (es s : List ℕ) (room : ℕ) → fits t s ≡ true → P es s room (playOn t es s room)
   play-cases P none full refused taken [] s room fit = rw plays-none (none s room fit)
   play-cases P none full refused taken (e ∷ es) s room fit =
       split (ltb room (bound t))
       (λ a. let h = ltb-true _ _ a in rw (plays-full e es s room fit h) (full e es s room fit h))
       (λ a. let h = ltb-false _ _ a in
-      split (eqb (refusedEvent t e) 0)
+      split (eqb (refusedEvent t [] e) 0)
       (λ b. let k = takes e s room fit h (eqb-true _ _ b) in
-      rw (plays-taken e es s room k) (taken e es s room k (play-cases P none full refused taken es (happen t e s .state) _ (k .next))))
+      rw (plays-taken e es s room k) (taken e es s room k (play-cases P none full refused taken es (happen t e [] s .state) _ (k .next))))
       (λ b. let n = eqb-false _ _ b in
-      rw (plays-refused e es s room fit h n) (refused e es s room fit h n (event-refused t e n) (event-small t e))))
+      rw (plays-refused e es s room fit h n) (refused e es s room fit h n (event-refused t [] e n) (event-small t e))))
 
   -- What a play takes and writes; its state fits, and its answer is 0, 3, 4, 5 or 6.
 
@@ -195,7 +188,7 @@ module _ (t : List ℕ) (ok : accepted t ≡ true) where
     pub fullOnly : p .taken < length es → room < length (p .words) + bound t → p .answer ≡ 3
     pub done : p .answer ≡ 0 → p .taken ≡ length es
     pub doneOnly : p .taken ≡ length es → p .answer ≡ 0
-    pub refused : (p .answer ≡ 0 → ⊥) → (p .answer ≡ 3 → ⊥) → refusedEvent t (getD es (p .taken) 0) ≡ p .answer
+    pub refused : (p .answer ≡ 0 → ⊥) → (p .answer ≡ 3 → ⊥) → refusedEvent t [] (getD es (p .taken) 0) ≡ p .answer
 
   pub ended : (es s : List ℕ) (room : ℕ) → fits t s ≡ true → Ended es room (playOn t es s room)
   ended =
@@ -238,14 +231,15 @@ module _ (t : List ℕ) (ok : accepted t ≡ true) where
 
   -- the play behind an event, with more room
   later-more : (e : ℕ) (es s : List ℕ) (room more : ℕ) → Taken e s room
-      → later e es s (room + more) ≡ playOn t es (happen t e s .state) (room - length (happen t e s .words) + more)
-  later-more e es s room more k = ap (playOn t es (happen t e s .state)) (let a = k .few in let b = k .enough in omega arith)
+      → later e es s (room + more) ≡ playOn t es (happen t e [] s .state) (room - length (happen t e [] s .words) + more)
+  later-more e es s room more k = ap (playOn t es (happen t e [] s .state)) (let a = k .few in let b = k .enough in omega arith)
 
   plays-more : (e : ℕ) (es s : List ℕ) (room more : ℕ) → Taken e s room
-      → playOn t (e ∷ es) s (room + more) ≡ onto 1 (happen t e s .words) (playOn t es (happen t e s .state) (room - length (happen t e s .words) + more))
+      → playOn t (e ∷ es) s (room + more)
+      ≡ onto 1 (happen t e [] s .words) (playOn t es (happen t e [] s .state) (room - length (happen t e [] s .words) + more))
   plays-more e es s room more k =
       plays-taken e es s (room + more) (takes e s (room + more) (k .state) (let h = k .enough in omega arith) (k .event))
-      ∙ ap (onto 1 (happen t e s .words)) (later-more e es s room more k)
+      ∙ ap (onto 1 (happen t e [] s .words)) (later-more e es s room more k)
 
   pub roomier : (more : ℕ) (es s : List ℕ) (room : ℕ) → fits t s ≡ true → (playOn t es s room .answer ≡ 3 → ⊥)
       → playOn t es s (room + more) ≡ playOn t es s room
@@ -254,7 +248,7 @@ module _ (t : List ℕ) (ok : accepted t ≡ true) where
       (λ s room f n. plays-none s (room + more))
       (λ e es s room f h n. absurd (n refl))
       (λ e es s room f h n a b m. plays-refused e es s (room + more) f (omega arith) n)
-      (λ e es s room k i n. plays-more e es s room more k ∙ ap (onto 1 (happen t e s .words)) (i n))
+      (λ e es s room k i n. plays-more e es s room more k ∙ ap (onto 1 (happen t e [] s .words)) (i n))
 
   -- what is left of es behind play p, from its state on, in so much room
   abbrev pub rest : List ℕ → Play → ℕ → Play
@@ -268,7 +262,7 @@ module _ (t : List ℕ) (ok : accepted t ≡ true) where
       (λ e es s room f h z. rw sub-zero (sym (onto-none _)))
       (λ e es s room f h n a b z. absurd (omega arith))
       (λ e es s room k i z.
-      let ws = happen t e s .words in let p = later e es s room in
+      let ws = happen t e [] s .words in let p = later e es s room in
       plays-more e es s room more k
       ∙ ap (onto 1 ws) (i z)
       ∙ onto-onto 1 (p .taken) ws (p .words) _
@@ -295,10 +289,10 @@ module _ (t : List ℕ) (ok : accepted t ≡ true) where
       (λ e es s room k i. rw one-add (plays-taken e (take (later e es s room .taken) es) s room k ∙ rw (i, one-add)))
 
   -- events of which none is refused are played to their end, unless the trace is full
-  pub none-refused : (es s : List ℕ) (room : ℕ) → fits t s ≡ true → Each (λ e. refusedEvent t e ≡ 0) es → (playOn t es s room .answer ≡ 3 → ⊥)
+  pub none-refused : (es s : List ℕ) (room : ℕ) → fits t s ≡ true → Each (λ e. refusedEvent t [] e ≡ 0) es → (playOn t es s room .answer ≡ 3 → ⊥)
       → playOn t es s room .answer ≡ 0
   none-refused =
-      play-cases (λ es s room p. Each (λ e. refusedEvent t e ≡ 0) es → (p .answer ≡ 3 → ⊥) → p .answer ≡ 0)
+      play-cases (λ es s room p. Each (λ e. refusedEvent t [] e ≡ 0) es → (p .answer ≡ 3 → ⊥) → p .answer ≡ 0)
       (λ s room f each n. refl)
       (λ e es s room f h each n. absurd (n refl))
       (λ e es s room f h n a b each m. absurd (n (each .0)))
@@ -331,7 +325,7 @@ module _ (t : List ℕ) (ok : accepted t ≡ true) where
       (λ e xs s room f h z. absurd (omega arith))
       (λ e xs s room f h n a b z. absurd (omega arith))
       (λ e xs s room k i z.
-      let ws = happen t e s .words in let p = later e xs s room in
+      let ws = happen t e [] s .words in let p = later e xs s room in
       plays-taken e (xs ++ ys) s room k
       ∙ ap (onto 1 ws) (i z)
       ∙ onto-onto 1 (p .taken) ws (p .words) _
@@ -343,4 +337,4 @@ module _ (t : List ℕ) (ok : accepted t ≡ true) where
       (λ s room f n. absurd (n refl))
       (λ e xs s room f h n. plays-full e (xs ++ ys) s room f h)
       (λ e xs s room f h n a b m. plays-refused e (xs ++ ys) s room f h n)
-      (λ e xs s room k i n. plays-taken e (xs ++ ys) s room k ∙ ap (onto 1 (happen t e s .words)) (i n))
+      (λ e xs s room k i n. plays-taken e (xs ++ ys) s room k ∙ ap (onto 1 (happen t e [] s .words)) (i n))

@@ -11,13 +11,14 @@ use Rattle.rulebook.specs.Words.{word}
 use Rattle.rulebook.specs.Table.{ports, networks, rules, lists, items, portKind, portEvent, portTimer, reload, noList, listOwner, firstItem, itemCount}
 use Rattle.rulebook.specs.Table.{itemKind, itemA, itemB, itemList, itemRule}
 use Rattle.rulebook.specs.State.{timerStopped, timerStarted, undefinedResult}
-use Rattle.rulebook.specs.Lists.{Run, start, emit, tooDeep, traceWord, traceListStart, setPort, networkIn, asking, setNetwork, effect, act, unready, choiceIn}
+use Rattle.rulebook.specs.Lists.{Run, start, emit, tooDeep, traceWord, traceListStart, setPort, networkIn, asking, setNetwork, effect, act, stops}
+use Rattle.rulebook.specs.Lists.{unready, choiceIn}
 use Rattle.rulebook.specs.Lists.{choice, setResult, judge, runChoice, runRule, runItem, runItems, runList}
 use Rattle.rulebook.specs.Arbitration.{unmarked, unmarkPort, unmarkPorts, evaluated, storeResult, storeResults, chosen, order, runIf, runChosen, decide}
 use Rattle.rulebook.specs.Arbitration.{arbitrate}
 use Rattle.laws.specs.Facts.{Facts}
 use Rattle.laws.proofs.Tests.{split}
-use Rattle.laws.proofs.Walks.{each-keeps}
+use Rattle.laws.proofs.Walks.{each-keeps, until-keeps}
 use Rattle.laws.proofs.Items.{clear-there, start-there, stop-there, ask-there, list-there, rule-there, mode-small, port-there, kind-is, result-small}
 use Rattle.laws.proofs.Items.{choice-there}
 use Rattle.laws.proofs.Cases.{item-list, item-rule, item-act, item-cases, rule-unready, rule-ready, choice-none, choice-some, if-chosen, if-not}
@@ -48,16 +49,16 @@ pub record KeptByActs (t : List ℕ) (Q : Run → Type 0) : Type 0 where
 
 module _ (t : List ℕ) (f : Facts t) (Q : Run → Type 0) (k : KeptByActs t Q) where
   -- what a list that is named keeps
-  abbrev Keeps : (ℕ → Run → Run) → Type 0
+  abbrev pub Keeps : (ℕ → Run → Run) → Type 0
   Keeps below = (l : ℕ) (x : Run) → l < lists t → Q x → Q (below l x)
 
-  choice-keeps : (below : ℕ → Run → Run) → Keeps below → (r previous result : ℕ) (x : Run) → r < rules t → Q x
+  pub choice-keeps : (below : ℕ → Run → Run) → Keeps below → (r previous result : ℕ) (x : Run) → r < rules t → Q x
       → Q (runChoice below (choice t r previous result) x)
   choice-keeps below b r previous result x h q =
       split (eqb (choice t r previous result) noList) (λ e. rw (choice-none below _ x e) q)
       (λ e. rw (choice-some below _ x e) (b _ x (choice-there t r previous result (f .rule r h) e) q))
 
-  rule-keeps : (below : ℕ → Run → Run) → Keeps below → (l i : ℕ) (x : Run) → Within t l i → itemKind t i ≡ itemRule → Q x
+  pub rule-keeps : (below : ℕ → Run → Run) → Keeps below → (l i : ℕ) (x : Run) → Within t l i → itemKind t i ≡ itemRule → Q x
       → Q (runRule below t (listOwner t l) (itemA t i) x)
   unfolding choiceIn
   rule-keeps below b l i x w e q =
@@ -66,7 +67,7 @@ module _ (t : List ℕ) (f : Facts t) (Q : Run → Type 0) (k : KeptByActs t Q) 
       (λ u. rw (rule-ready below t (listOwner t l) (itemA t i) x u)
       (choice-keeps below b (itemA t i) _ _ _ (rule-there t i (f .item i (item-there t f l i w) .1) e) (k .judge l i x w e u q)))
 
-  item-keeps : (below : ℕ → Run → Run) → Keeps below → (l i : ℕ) (x : Run) → Within t l i → Q x → Q (runItem below t (listOwner t l) i x)
+  pub item-keeps : (below : ℕ → Run → Run) → Keeps below → (l i : ℕ) (x : Run) → Within t l i → Q x → Q (runItem below t (listOwner t l) i x)
   item-keeps below b l i x w q =
       item-cases below t (listOwner t l) i
       (λ e g. rw (item-list below t (listOwner t l) i x g) (b (itemA t i) x (list-there t i (f .item i (item-there t f l i w) .1) e) q))
@@ -77,19 +78,19 @@ module _ (t : List ℕ) (f : Facts t) (Q : Run → Type 0) (k : KeptByActs t Q) 
   unfolding runList runItems
   list-keeps zero l x h q = k .deep x q
   list-keeps (suc d) l x h q =
-      each-keeps Q (runItem (runList d t) t (listOwner t l)) (firstItem t l) (itemCount t l) _
+      until-keeps Q (stops t) (runItem (runList d t) t (listOwner t l)) (firstItem t l) (itemCount t l) _
       (λ i y a b c. item-keeps (runList d t) (list-keeps d) l i y (record { list = h; from = a; below = b }) c) (k .listStart l x h q)
 
-  chosen-keep : (c : ℕ → Bool) (ls : List ℕ) (x : Run) → Each (λ l. l < lists t) ls → Q x → Q (runChosen t c ls x)
+  pub chosen-keep : (c : ℕ → Bool) (ls : List ℕ) (x : Run) → Each (λ l. l < lists t) ls → Q x → Q (runChosen t c ls x)
   unfolding runChosen
   chosen-keep c [] x e q = q
   chosen-keep c (l ∷ ls) x e q =
       chosen-keep c ls (runIf t c l x) (e .1)
       (split (c l) (λ h. rw (if-chosen t c l x h) (list-keeps _ l x (e .0) q)) (λ h. rw (if-not t c l x h) q))
 
-  pub decide-keeps : (q : ℕ → Bool) (s : List ℕ) → Q (start (storeResults t q s)) → Q (decide t q s)
+  pub decide-keeps : (q : ℕ → Bool) (os s : List ℕ) → Q (start os (storeResults t q s)) → Q (decide t q os s)
   unfolding decide
-  decide-keeps q s h = chosen-keep (chosen t q s) (order t) _ (order-there t) h
+  decide-keeps q os s h = chosen-keep (chosen t q s) (order t) _ (order-there t) h
 
 -- Statements of the state: what each kind of write keeps, an arbitration keeps.
 
@@ -137,6 +138,7 @@ module _ (t : List ℕ) (f : Facts t) (P : List ℕ → Type 0) (k : KeptByWrite
       each-keeps P (storeResult t q s) 0 (rules t) s
       (λ r x a b c. split (evaluated t q s r) (λ e. rw e (k .store r _ x (omega arith) (result-small t s r) c)) (λ e. rw e c)) h
 
-  pub arbitrate-keeps : (q : ℕ → Bool) (s : List ℕ) → P s → P (arbitrate t q s .state)
+  pub arbitrate-keeps : (q : ℕ → Bool) (os s : List ℕ) → P s → P (arbitrate t q os s .state)
   unfolding arbitrate
-  arbitrate-keeps q s h = decide-keeps t f (λ x. P (x .state)) acts-keep q (unmarkPorts t q s) (store-keeps q (unmarkPorts t q s) (unmark-keeps q s h))
+  arbitrate-keeps q os s h =
+      decide-keeps t f (λ x. P (x .state)) acts-keep q os (unmarkPorts t q s) (store-keeps q (unmarkPorts t q s) (unmark-keeps q s h))

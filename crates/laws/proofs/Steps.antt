@@ -8,14 +8,15 @@ use native.Mathlib.Nat.{zero-add}
 use lib.ListN.{length}
 use lib.Dec.{ltb, eqb}
 use borrow.Author.Tests.{ltb-true, ltb-false, eqb-true, eqb-false, eq-eqb, lt-ltb}
-use Rattle.rulebook.specs.Words.{digit}
+use Rattle.rulebook.specs.Words.{digit, all}
 use Rattle.rulebook.specs.Table.{ports, networks, sources, rules, portKind, portMode, portTimer, deferred, hasInitial, initial, firstResult}
 use Rattle.rulebook.specs.Reasons.{portFields, bound, accepted}
 use Rattle.rulebook.specs.State.{stateLength, Thing, aPort, aRule, aNetwork, aSource, thing, portFits, networkFits, sourceFits, thingFits, fits, freshPort}
 use Rattle.rulebook.specs.State.{freshThing, freshAt, fresh}
 use Rattle.rulebook.specs.Events.{request, tick, arbitrateMarked, happen}
-use Rattle.rulebook.specs.Step.{refusedState, refusedCall, wellFormed, known, sentByOwner, present, firstFault, refusedEvent, Result, refusal, finish}
-use Rattle.rulebook.specs.Step.{conclude, handle, step}
+use Rattle.rulebook.specs.Step.{refusedState, refusedCall, wellFormed, known, sentByOwner, outcomesKnown, present, firstFault, refusedEvent, Result}
+use Rattle.rulebook.specs.Step.{refusal, finish}
+use Rattle.rulebook.specs.Step.{conclude, heeded, handle, step}
 use Rattle.laws.specs.Facts.{Facts}
 use Rattle.laws.specs.Callable.{Callable}
 use Rattle.laws.proofs.Tests.{split, part-of, cond-yes}
@@ -50,8 +51,33 @@ call-small t s room =
     (λ b. rw (a, b) (omega arith)))
     (λ a. rw a (omega arith))
 
-pub event-small : (t : List ℕ) (e : ℕ) → refusedEvent t e ≤ 6
+-- answers 4, 8, 5 and 6; 8 not where none is lent
+
+pub event-refused : (t os : List ℕ) (e : ℕ) → (refusedEvent t os e ≡ 0 → ⊥) → 4 ≤ refusedEvent t os e
 unfolding refusedEvent
+event-refused t os e n =
+    split (wellFormed e)
+    (λ a. split (outcomesKnown os)
+    (λ d. split (known t e)
+    (λ b. split (sentByOwner t e) (λ c. absurd (n (rw (a, d, b, c)))) (λ c. rw (a, d, b, c) (omega arith)))
+    (λ b. rw (a, d, b) (omega arith)))
+    (λ d. rw (a, d) (omega arith)))
+    (λ a. rw a (omega arith))
+
+pub event-not-seven : (t os : List ℕ) (e : ℕ) → refusedEvent t os e ≡ 7 → ⊥
+unfolding refusedEvent
+event-not-seven t os e =
+    split (wellFormed e)
+    (λ a. split (outcomesKnown os)
+    (λ d. split (known t e)
+    (λ b. split (sentByOwner t e) (λ c. rw (a, d, b, c) (λ z. omega arith)) (λ c. rw (a, d, b, c) (λ z. omega arith)))
+    (λ b. rw (a, d, b) (λ z. omega arith)))
+    (λ d. rw (a, d) (λ z. omega arith)))
+    (λ a. rw a (λ z. omega arith))
+
+-- none lent
+pub event-small : (t : List ℕ) (e : ℕ) → refusedEvent t [] e ≤ 6
+unfolding refusedEvent outcomesKnown all
 event-small t e =
     split (wellFormed e)
     (λ a. split (known t e)
@@ -59,11 +85,17 @@ event-small t e =
     (λ b. rw (a, b) (omega arith)))
     (λ a. rw a (omega arith))
 
+-- an event that is taken with outcomes lent is taken with none
+pub none-lent : (t os : List ℕ) (e : ℕ) → refusedEvent t os e ≡ 0 → refusedEvent t [] e ≡ 0
+unfolding refusedEvent outcomesKnown all
+none-lent t os e z = let w = taken-event t os e z in rw (w .wellFormed, w .known, w .owner)
+
 -- The order in two parts, as a caller that has checked table, state and room goes by it.
 
-pub step-in-parts : (t s : List ℕ) (room e : ℕ) → step t s room e ≡ cond (eqb (refusedCall t s room) 0) (handle t s e) (refusal (refusedCall t s room) s)
+pub step-in-parts : (t s : List ℕ) (room : ℕ) (os : List ℕ) (e : ℕ)
+    → step t s room os e ≡ cond (eqb (refusedCall t s room) 0) (handle t s os e) (refusal (refusedCall t s room) s)
 unfolding step handle conclude firstFault refusedCall refusedEvent
-step-in-parts t s room e =
+step-in-parts t s room os e =
     split (accepted t)
     (λ a. split (fits t s)
     (λ b. split (ltb room (bound t)) (λ c. rw (a, b, c)) (λ c. rw (a, b, c)))
@@ -73,56 +105,67 @@ step-in-parts t s room e =
 -- A run of one event: never deep, at most B words.
 
 module _ (t : List ℕ) (f : Facts t) where
-  request-shallow : (p v : ℕ) (s : List ℕ) → request t p v s .deep ≡ false
+  request-shallow : (p v : ℕ) (os s : List ℕ) → request t p v os s .deep ≡ false
   unfolding request
-  request-shallow p v s = split (eqb (deferred t p) 1) (λ e. rw e) (λ e. rw e (arbitrate-shallow t f _ _))
+  request-shallow p v os s = split (eqb (deferred t p) 1) (λ e. rw e) (λ e. rw e (arbitrate-shallow t f _ os _))
 
-  pub happen-shallow : (e : ℕ) (s : List ℕ) → happen t e s .deep ≡ false
+  pub happen-shallow : (e : ℕ) (os s : List ℕ) → happen t e os s .deep ≡ false
   unfolding tick arbitrateMarked
-  happen-shallow e s =
-      happen-cases (λ x. x .deep ≡ false) t e s (λ k. arbitrate-shallow t f _ _) (λ k. request-shallow _ _ s) (λ k. request-shallow _ _ s) (λ k. refl)
+  happen-shallow e os s =
+      happen-cases (λ x. x .deep ≡ false) t e os s (λ k. arbitrate-shallow t f _ os _) (λ k. request-shallow _ _ os s) (λ k. request-shallow _ _ os s)
+      (λ k. refl)
 
-  request-paid : (p v : ℕ) (s : List ℕ) → written (request t p v s) ≤ bound t
+  request-paid : (p v : ℕ) (os s : List ℕ) → written (request t p v os s) ≤ bound t
   unfolding request
-  request-paid p v s = split (eqb (deferred t p) 1) (λ e. rw e (omega arith)) (λ e. rw e (arbitrate-paid t f _ _))
+  request-paid p v os s = split (eqb (deferred t p) 1) (λ e. rw e (omega arith)) (λ e. rw e (arbitrate-paid t f _ os _))
 
-  pub happen-paid : (e : ℕ) (s : List ℕ) → written (happen t e s) ≤ bound t
+  pub happen-paid : (e : ℕ) (os s : List ℕ) → written (happen t e os s) ≤ bound t
   unfolding tick arbitrateMarked
-  happen-paid e s =
-      happen-cases (λ x. written x ≤ bound t) t e s (λ k. arbitrate-paid t f _ _) (λ k. request-paid _ _ s) (λ k. request-paid _ _ s) (λ k. omega arith)
+  happen-paid e os s =
+      happen-cases (λ x. written x ≤ bound t) t e os s (λ k. arbitrate-paid t f _ os _) (λ k. request-paid _ _ os s) (λ k. request-paid _ _ os s)
+      (λ k. omega arith)
 
 -- The two ways a step can go: refused, or done.
 
-pub step-cases {ℓ} : (P : Result → Type ℓ) (t s : List ℕ) (room e : ℕ)
-    → ((k : ℕ) → 1 ≤ k → k ≤ 6 → P (refusal k s))
-    → (Callable t s room → Taken t e → P (record { answer = 0; state = happen t e s .state; words = happen t e s .words }))
-    → P (step t s room e)
+-- what a done event gives
+abbrev pub done : List ℕ → List ℕ → ℕ → List ℕ → Result
+done t os e s = record { answer = 0; state = happen t e (heeded t os) s .state; words = happen t e (heeded t os) s .words }
+
+pub step-cases {ℓ} : (P : Result → Type ℓ) (t s : List ℕ) (room : ℕ) (os : List ℕ) (e : ℕ)
+    → ((k : ℕ) → 1 ≤ k → (k ≡ 7 → ⊥) → P (refusal k s))
+    → (Callable t s room → Taken t e → P (done t os e s))
+    → P (step t s room os e)
 unfolding handle conclude finish
-step-cases P t s room e refused done =
+step-cases P t s room os e refused takes =
     split (eqb (refusedCall t s room) 0)
     (λ a. let c = callable t s room (eqb-true _ _ a) in
-    split (eqb (refusedEvent t e) 0)
-    (λ b. rw (step-in-parts, a, b, happen-shallow t (facts t (c .table)) e s) (done c (taken-event t e (eqb-true _ _ b))))
-    (λ b. let n = eqb-false _ _ b in rw (step-in-parts, a, b) (refused (refusedEvent t e) (at-least-one _ n) (event-small t e))))
-    (λ a. let n = eqb-false _ _ a in let m = call-small t s room in rw (step-in-parts, a) (refused (refusedCall t s room) (at-least-one _ n) (omega arith)))
+    split (eqb (refusedEvent t os e) 0)
+    (λ b. rw (step-in-parts, a, b, happen-shallow t (facts t (c .table)) e (heeded t os) s) (takes c (taken-event t os e (eqb-true _ _ b))))
+    (λ b. let n = eqb-false _ _ b in rw (step-in-parts, a, b) (refused (refusedEvent t os e) (at-least-one _ n) (event-not-seven t os e))))
+    (λ a. let n = eqb-false _ _ a in let m = call-small t s room in
+    rw (step-in-parts, a) (refused (refusedCall t s room) (at-least-one _ n) (λ z. omega arith)))
   where
     at-least-one : (k : ℕ) → (k ≡ 0 → ⊥) → 1 ≤ k
     at-least-one k n = omega arith
 
 -- Answer 7 never comes; a refusal changes nothing and writes nothing; the words are at most B; states stay fit.
 
-pub never-seven : (t s : List ℕ) (room e : ℕ) → step t s room e .answer ≡ 7 → ⊥
-never-seven t s room e = step-cases (λ r. r .answer ≡ 7 → ⊥) t s room e (λ k a b z. omega arith) (λ c w z. omega arith)
+pub never-seven : (t s : List ℕ) (room : ℕ) (os : List ℕ) (e : ℕ) → step t s room os e .answer ≡ 7 → ⊥
+never-seven t s room os e = step-cases (λ r. r .answer ≡ 7 → ⊥) t s room os e (λ k a b. b) (λ c w z. omega arith)
 
-pub refusal-changes-nothing : (t s : List ℕ) (room e : ℕ) → (step t s room e .answer ≡ 0 → ⊥) → (step t s room e .state ≡ s) × (step t s room e .words ≡ [])
-refusal-changes-nothing t s room e =
-    step-cases (λ r. (r .answer ≡ 0 → ⊥) → (r .state ≡ s) × (r .words ≡ [])) t s room e (λ k a b n. (refl, refl)) (λ c w n. absurd (n refl))
+pub refusal-changes-nothing : (t s : List ℕ) (room : ℕ) (os : List ℕ) (e : ℕ) → (step t s room os e .answer ≡ 0 → ⊥)
+    → (step t s room os e .state ≡ s) × (step t s room os e .words ≡ [])
+refusal-changes-nothing t s room os e =
+    step-cases (λ r. (r .answer ≡ 0 → ⊥) → (r .state ≡ s) × (r .words ≡ [])) t s room os e (λ k a b n. (refl, refl)) (λ c w n. absurd (n refl))
 
-pub words-within : (t s : List ℕ) (room e : ℕ) → accepted t ≡ true → length (step t s room e .words) ≤ bound t
-words-within t s room e h = step-cases (λ r. length (r .words) ≤ bound t) t s room e (λ k a b. omega arith) (λ c w. happen-paid t (facts t h) e s)
+-- Q-9: "State once, over both editions, that the trace fits in B words"
+pub words-within : (t s : List ℕ) (room : ℕ) (os : List ℕ) (e : ℕ) → accepted t ≡ true → length (step t s room os e .words) ≤ bound t
+words-within t s room os e h =
+    step-cases (λ r. length (r .words) ≤ bound t) t s room os e (λ k a b. omega arith) (λ c w. happen-paid t (facts t h) e (heeded t os) s)
 
-pub step-fits : (t s : List ℕ) (room e : ℕ) → accepted t ≡ true → Fits t s → Fits t (step t s room e .state)
-step-fits t s room e h f = step-cases (λ r. Fits t (r .state)) t s room e (λ k a b. f) (λ c w. happen-fits t (facts t h) e s w f)
+pub step-fits : (t s : List ℕ) (room : ℕ) (os : List ℕ) (e : ℕ) → accepted t ≡ true → Fits t s → Fits t (step t s room os e .state)
+step-fits t s room os e h f =
+    step-cases (λ r. Fits t (r .state)) t s room os e (λ k a b. f) (λ c w. happen-fits t (facts t h) e (heeded t os) s w f)
 
 -- every word of the state belongs to a thing that is there
 pub thing-present : (t : List ℕ) (i : ℕ) → i < stateLength t → present t (thing t i) ≡ true

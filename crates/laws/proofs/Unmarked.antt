@@ -74,18 +74,18 @@ module _ (t : List ℕ) (f : Facts t) (p : ℕ) (b : p < ports t) (is : portKind
 
   -- An arbitration that has p, or finds it unmarked.
 
-  arbitrate-quiet : (q : ℕ → Bool) (s : List ℕ) → p < length s → (q p ≡ true) ⊎ Unmarked p s → Quiet (arbitrate t q s)
+  arbitrate-quiet : (q : ℕ → Bool) (os s : List ℕ) → p < length s → (q p ≡ true) ⊎ Unmarked p s → Quiet (arbitrate t q os s)
   unfolding arbitrate
-  arbitrate-quiet q s h why =
+  arbitrate-quiet q os s h why =
       let it : q p ≡ true → Unmarked p (unmarkPorts t q s) = λ e. unmark-it t p b q s e h in
       let unmarked = ⊎-elim it (λ u. split (q p) it (λ e. unmark-others t p b q s e u)) why in
       let u = store-elsewhere t p b q (unmarkPorts t q s) unmarked in
-      decide-keeps t f Quiet quiet-kept q (unmarkPorts t q s) (record { there = u .there; mark = λ n. u })
+      decide-keeps t f Quiet quiet-kept q os (unmarkPorts t q s) (record { there = u .there; mark = λ n. u })
 
   -- Events: networks and sources write mode ports.
 
-  unmarked-quiet : (s : List ℕ) → Unmarked p s → Quiet (start s)
-  unmarked-quiet s u = record { there = u .there; mark = λ n. u }
+  unmarked-quiet : (os s : List ℕ) → Unmarked p s → Quiet (start os s)
+  unmarked-quiet os s u = record { there = u .there; mark = λ n. u }
 
   network-quiet : (n : ℕ) (c : Network) (s : List ℕ) → n < networks t → Unmarked p s → Unmarked p (moveNetwork t n c s)
   unfolding moveNetwork
@@ -101,13 +101,13 @@ module _ (t : List ℕ) (f : Facts t) (p : ℕ) (b : p < ports t) (is : portKind
       split (eqb status (statusIn t k s)) (λ e. rw e put)
       (λ e. rw e (port-elsewhere p _ (sourcePort t k) 1 _ 0 (of-kind _ portMode (may-show t _ (f .source k h .may) .mode) (λ z. omega arith)) put))
 
-  request-quiet : (q v : ℕ) (s : List ℕ) → p < length s → (p ≡ q → deferred t q ≡ 0) → (p ≡ q) ⊎ Unmarked p s → Quiet (request t q v s)
+  request-quiet : (q v : ℕ) (os s : List ℕ) → p < length s → (p ≡ q → deferred t q ≡ 0) → (p ≡ q) ⊎ Unmarked p s → Quiet (request t q v os s)
   unfolding request only setPort
-  request-quiet q v s h now why =
+  request-quiet q v os s h now why =
       split (eqb (deferred t q) 1)
       (λ e. let late = eqb-true (deferred t q) 1 e in let other : (p ≡ q → ⊥) = λ z. let n = now z in absurd (omega arith) in
-      rw e (unmarked-quiet _ (⊎-elim (λ z. absurd (other z)) (port-elsewhere p s q 1 v 0 other) why)))
-      (λ e. rw e (arbitrate-quiet (only q) _ (rw (length-set s q _) h)
+      rw e (unmarked-quiet os _ (⊎-elim (λ z. absurd (other z)) (port-elsewhere p s q 1 v 0 other) why)))
+      (λ e. rw e (arbitrate-quiet (only q) os _ (rw (length-set s q _) h)
       (split (eqb p q) (λ z. inl z) (λ z. inr (⊎-elim (λ y. absurd (eqb-false p q z y)) (port-elsewhere p s q 0 v 0 (eqb-false p q z)) why)))))
 
   -- what e arbitrates, if it is no tick: its own port, an immediate one
@@ -126,10 +126,10 @@ module _ (t : List ℕ) (f : Facts t) (p : ℕ) (b : p < ports t) (is : portKind
       let now : deferred t p ≡ 0 = omega arith in
       ap (λ (x : ℕ). deferred t x) (sym z) ∙ now
 
-  pub happen-quiet : (e : ℕ) (s : List ℕ) → Taken t e → Fits t s → (arbitrates t e p ≡ true) ⊎ Unmarked p s → requestsLater t e p ≡ false
-      → (ClearTold p (happen t e s .words) → ⊥) → Unmarked p (happen t e s .state)
+  pub happen-quiet : (e : ℕ) (os s : List ℕ) → Taken t e → Fits t s → (arbitrates t e p ≡ true) ⊎ Unmarked p s → requestsLater t e p ≡ false
+      → (ClearTold p (happen t e os s .words) → ⊥) → Unmarked p (happen t e os s .state)
   unfolding tick arbitrateMarked
-  happen-quiet e s w h why late = go (happen t e) (event t e w) .mark
+  happen-quiet e os s w h why late = go (happen t e) (event t e w) .mark
     where
       -- of an event that sets no port
       still : (eventKind e ≡ eventTick → ⊥) → setsPort e ≡ false → Unmarked p s
@@ -138,15 +138,15 @@ module _ (t : List ℕ) (f : Facts t) (p : ℕ) (b : p < ports t) (is : portKind
       no-port : eventWakeup ≤ eventKind e → setsPort e ≡ false
       no-port k = rw (ne-eqb (eventKind e) eventMode (λ z. omega arith), ne-eqb (eventKind e) eventRequest (λ z. omega arith))
 
-      asked : (v : ℕ) → (eventKind e ≡ eventTick → ⊥) → setsPort e ≡ true → Quiet (request t (eventIndex e) v s)
-      asked v n sets = request-quiet (eventIndex e) v s (port-long t s h p b) (at-once e sets late) (⊎-elim (λ a. inl (own-port e n a .1)) (λ u. inr u) why)
+      asked : (v : ℕ) → (eventKind e ≡ eventTick → ⊥) → setsPort e ≡ true → Quiet (request t (eventIndex e) v os s)
+      asked v n sets = request-quiet (eventIndex e) v os s (port-long t s h p b) (at-once e sets late) (⊎-elim (λ a. inl (own-port e n a .1)) (λ u. inr u) why)
 
-      go : (g : List ℕ → Run) → Event t e g → Quiet (g s)
+      go : (g : List ℕ → List ℕ → Run) → Event t e g → Quiet (g os s)
       go g (aTick k u) = let long = port-long t (tickThings t s) (things-fit t f s h) p b in
-          arbitrate-quiet _ (tickThings t s) long (⊎-elim (λ m. inl (shows t p b m)) (λ m. inr m) (marked-or-not t p b (tickThings t s) long))
+          arbitrate-quiet _ os (tickThings t s) long (⊎-elim (λ m. inl (shows t p b m)) (λ m. inr m) (marked-or-not t p b (tickThings t s) long))
       go g (aMode k u m n) = asked (eventValue e) (λ z. omega arith) (rw k)
       go g (aRequest k u m) = asked 1 (λ z. omega arith) (rw k)
       go g (ofSource k n of u c) = let v = still (λ z. omega arith) (no-port k) in
-          unmarked-quiet _ (source-to t f (Unmarked p) e s u c (λ status r ok. source-quiet _ status r s (of .there) v) v)
+          unmarked-quiet os _ (source-to t f (Unmarked p) e s u c (λ status r ok. source-quiet _ status r s (of .there) v) v)
       go g (ofNetwork k of u c) = let v = still (λ z. omega arith) (no-port k) in
-          unmarked-quiet _ (network-to t f (Unmarked p) e s u c (of .there) h (λ x ok same. network-quiet _ x s (of .there) v) v)
+          unmarked-quiet os _ (network-to t f (Unmarked p) e s u c (of .there) h (λ x ok same. network-quiet _ x s (of .there) v) v)

@@ -8,7 +8,7 @@ use native.Mathlib.Nat.{zero-add, add-zero, suc-add, add-suc}
 use lib.ListN.{length, getD}
 use lib.Dec.{eqb}
 use borrow.Author.Tests.{eqb-true, eqb-false}
-use Rattle.rulebook.specs.Words.{first, all, any, sum, listed, each}
+use Rattle.rulebook.specs.Words.{first, all, any, sum, listed, each, until}
 use Rattle.laws.proofs.Tests.{split, clash, and-left, and-right, and-both, or-none, or-some}
 
 -- the first number of a walk, or one of the rest
@@ -85,7 +85,7 @@ first-before p i (suc n) j a b =
     let m : first (suc i) n p ≤ suc i + n = first-most p (suc i) n in
     here-or-later i n j a (omega arith) (λ x. rw x e) (λ c d. first-before p (suc i) n j c k))
 
--- what every turn keeps, the whole walk keeps; of one value, and of two side by side
+-- what every turn keeps, the whole walk keeps, to its end or until it stops; of one value, and of two side by side
 
 pub each-keeps {ℓ} : {A : Type 0} (P : A → Type ℓ) (f : ℕ → A → A) (i n : ℕ) (a : A) → ((j : ℕ) (x : A) → i ≤ j → j < i + n → P x → P (f j x)) → P a
     → P (each i n f a)
@@ -93,6 +93,24 @@ unfolding each
 each-keeps P f i zero a k h = h
 each-keeps P f i (suc n) a k h =
     each-keeps P f (suc i) n (f i a) (λ j x b c. k j x (omega arith) (omega arith)) (k i a (omega arith) (omega arith) h)
+
+module _ {A : Type 0} (last : ℕ → A → Bool) (f : ℕ → A → A) (i n : ℕ) (a : A) where
+  pub until-last : last i a ≡ true → until i (suc n) last f a ≡ f i a
+  unfolding until
+  until-last e = rw (e, until)
+
+  pub until-next : last i a ≡ false → until i (suc n) last f a ≡ until (suc i) n last f (f i a)
+  unfolding until
+  until-next e = rw (e, until)
+
+pub until-keeps {ℓ} : {A : Type 0} (P : A → Type ℓ) (last : ℕ → A → Bool) (f : ℕ → A → A) (i n : ℕ) (a : A)
+    → ((j : ℕ) (x : A) → i ≤ j → j < i + n → P x → P (f j x)) → P a → P (until i n last f a)
+unfolding until
+until-keeps P last f i zero a k h = h
+until-keeps P last f i (suc n) a k h =
+    let one = k i a (omega arith) (omega arith) h in
+    split (last i a) (λ e. rw (until-last last f i n a e) one)
+    (λ e. rw (until-next last f i n a e) (until-keeps P last f (suc i) n (f i a) (λ j x b c. k j x (omega arith) (omega arith)) one))
 
 pub each-alike {ℓ} : {A B : Type 0} (R : A → B → Type ℓ) (f : ℕ → A → A) (g : ℕ → B → B) (i n : ℕ) (a : A) (b : B)
     → ((j : ℕ) (x : A) (y : B) → i ≤ j → j < i + n → R x y → R (f j x) (g j y)) → R a b → R (each i n f a) (each i n g b)

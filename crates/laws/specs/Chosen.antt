@@ -39,18 +39,18 @@ pub data WrittenBy (t : List ℕ) : List ℕ → List ℕ → Type 0 where
   byFirst : {l : ℕ} {ls rest : List ℕ} (ws : List ℕ) → WrittenBy t ls rest → WrittenBy t (l ∷ ls) (startWord t l ∷ (ws ++ rest))
 
 -- before any list runs: "The arbitrated ports' marks, and no others, are cleared first", the rules are evaluated, "last results are stored"
-abbrev pub beforeLists : List ℕ → (ℕ → Bool) → List ℕ → Run
-beforeLists t q s = start (storeResults t q (unmarkPorts t q s))
+abbrev pub beforeLists : List ℕ → (ℕ → Bool) → List ℕ → List ℕ → Run
+beforeLists t q os s = start os (storeResults t q (unmarkPorts t q s))
 
--- State s′ and words ws are what the arbitration of the ports that q holds of makes of state s. "Chosen lists run once each, larger
+-- State s′ and words ws are what the arbitration of the ports that q holds of makes of state s, with the outcome words os. "Chosen lists run once each, larger
 -- priority first, then lower number."
-pub record ListsRan (t : List ℕ) (q : ℕ → Bool) (s s′ ws : List ℕ) : Type 0 where
+pub record ListsRan (t : List ℕ) (q : ℕ → Bool) (os s s′ ws : List ℕ) : Type 0 where
   pub ran : List ℕ
   pub ordered : InOrder t ran
   pub once : (l : ℕ) → Chosen t q (unmarkPorts t q s) l → times l ran ≡ 1
   pub noOther : Each (Chosen t q (unmarkPorts t q s)) ran
-  pub state : s′ ≡ runAll t ran (beforeLists t q s) .state
-  pub words : ws ≡ runAll t ran (beforeLists t q s) .words
+  pub state : s′ ≡ runAll t ran (beforeLists t q os s) .state
+  pub words : ws ≡ runAll t ran (beforeLists t q os s) .words
   pub trace : WrittenBy t ran ws
   pub started : (l : ℕ) → Chosen t q (unmarkPorts t q s) l → List·Memᴰ (startWord t l) ws
 
@@ -62,12 +62,12 @@ setsPort e = eqb (eventKind e) eventMode || eqb (eventKind e) eventRequest
 abbrev pub valueSet : ℕ → ℕ
 valueSet e = cond (eqb (eventKind e) eventMode) (eventValue e) 1
 
--- What event e arbitrates in state s, with the state and the words that come of it. No list ran exactly where there is no word, since
+-- What event e arbitrates in state s with the outcome words os, and the state and the words that come of it. No list ran exactly where there is no word, since
 -- each list that runs writes its start word.
-pub data Arbitrated (t : List ℕ) (e : ℕ) (s s′ ws : List ℕ) : Type 0 where
+pub data Arbitrated (t : List ℕ) (e : ℕ) (os s s′ ws : List ℕ) : Type 0 where
   -- "Tick, in order: networks, sources, timers by number, then all marked ports are arbitrated."
-  allMarked : eventKind e ≡ eventTick → ListsRan t (markedIn t (tickThings t s)) (tickThings t s) s′ ws → Arbitrated t e s s′ ws
+  allMarked : eventKind e ≡ eventTick → ListsRan t (markedIn t (tickThings t s)) os (tickThings t s) s′ ws → Arbitrated t e os s s′ ws
   -- "an immediate one is arbitrated now, the same value included": that port alone
   onePort : setsPort e ≡ true → deferred t (eventIndex e) ≡ 0
-      → ListsRan t (only (eventIndex e)) (setPort (eventIndex e) 0 (valueSet e) 0 s) s′ ws → Arbitrated t e s s′ ws
-  noPort : (eventKind e ≡ eventTick → ⊥) → (setsPort e ≡ true → deferred t (eventIndex e) ≡ 1) → ws ≡ [] → Arbitrated t e s s′ ws
+      → ListsRan t (only (eventIndex e)) os (setPort (eventIndex e) 0 (valueSet e) 0 s) s′ ws → Arbitrated t e os s s′ ws
+  noPort : (eventKind e ≡ eventTick → ⊥) → (setsPort e ≡ true → deferred t (eventIndex e) ≡ 1) → ws ≡ [] → Arbitrated t e os s s′ ws

@@ -4,4 +4,5 @@ pub mod Reached
 pub mod Marked
 pub mod OneStep
 pub mod Play
+pub mod Outcomes
 pub mod Width

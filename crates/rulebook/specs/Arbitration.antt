@@ -1,4 +1,4 @@
--- "Arbitration" of the ports that q holds of, from a state.
+-- "Arbitration" of the ports that q holds of, from a state, with the outcome words os for the outside calls of its lists.
 use Prim.Native.Nat.{ℕ, zero, suc}
 use mathlib.Core.Bool.{Bool, true, false, cond, _&&_, not}
 use mathlib.Core.List.{List, [], _∷_, _++_}
@@ -61,8 +61,8 @@ unfoldable pub runChosen : List ℕ → (ℕ → Bool) → List ℕ → Run → 
 runChosen t c [] x = x
 runChosen t c (l ∷ ls) x = runChosen t c ls (runIf t c l x)
 
-unfoldable pub decide : List ℕ → (ℕ → Bool) → List ℕ → Run
-decide t q s = runChosen t (chosen t q s) (order t) (start (storeResults t q s))
+unfoldable pub decide : List ℕ → (ℕ → Bool) → List ℕ → List ℕ → Run
+decide t q os s = runChosen t (chosen t q s) (order t) (start os (storeResults t q s))
 
-unfoldable pub arbitrate : List ℕ → (ℕ → Bool) → List ℕ → Run
-arbitrate t q s = decide t q (unmarkPorts t q s)
+unfoldable pub arbitrate : List ℕ → (ℕ → Bool) → List ℕ → List ℕ → Run
+arbitrate t q os s = decide t q os (unmarkPorts t q s)

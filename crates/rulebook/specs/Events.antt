@@ -1,4 +1,5 @@
--- "Events": the event word, and what an event that is not refused does to the state and the trace.
+-- "Events": the event word, and what an event that is not refused does to the state and the trace, with the outcome words os for its
+-- outside calls.
 use Prim.Native.Nat.{ℕ, _+_, _-_, min}
 use mathlib.Core.Bool.{Bool, cond, _&&_, _||_, not}
 use mathlib.Core.List.{List}
@@ -62,9 +63,9 @@ highestKind = 7
 unfoldable pub only : ℕ → ℕ → Bool
 only p x = eqb x p
 
-unfoldable pub request : List ℕ → ℕ → ℕ → List ℕ → Run
-request t p value s =
-    cond (eqb (deferred t p) 1) (start (setPort p 1 value 0 s)) (arbitrate t (only p) (setPort p 0 value 0 s))
+unfoldable pub request : List ℕ → ℕ → ℕ → List ℕ → List ℕ → Run
+request t p value os s =
+    cond (eqb (deferred t p) 1) (start os (setPort p 1 value 0 s)) (arbitrate t (only p) os (setPort p 0 value 0 s))
 
 -- Sources. "Each change of status .. writes the thing's port, defined, and marks it."
 
@@ -184,11 +185,11 @@ tickThings t s = each 0 (ports t) (tickTimer t) (each 0 (sources t) (tickSource 
 unfoldable pub markedIn : List ℕ → List ℕ → ℕ → Bool
 markedIn t s p = ltb p (ports t) && eqb (markedOf (word s p)) 1
 
-unfoldable pub arbitrateMarked : List ℕ → List ℕ → Run
-arbitrateMarked t s = arbitrate t (markedIn t s) s
+unfoldable pub arbitrateMarked : List ℕ → List ℕ → List ℕ → Run
+arbitrateMarked t os s = arbitrate t (markedIn t s) os s
 
-unfoldable pub tick : List ℕ → List ℕ → Run
-tick t s = arbitrateMarked t (tickThings t s)
+unfoldable pub tick : List ℕ → List ℕ → List ℕ → Run
+tick t os s = arbitrateMarked t os (tickThings t s)
 
 -- Kinds 3 to 7: what an event of source or network i does to the state.
 unfoldable pub changed : List ℕ → ℕ → ℕ → List ℕ → List ℕ
@@ -200,9 +201,9 @@ changed t kind i s =
     (hear t i s))))
 
 -- The dispatch on kinds, in one place.
-unfoldable pub happen : List ℕ → ℕ → List ℕ → Run
-happen t e s =
-    cond (eqb (eventKind e) eventTick) (tick t s)
-    (cond (eqb (eventKind e) eventMode) (request t (eventIndex e) (eventValue e) s)
-    (cond (eqb (eventKind e) eventRequest) (request t (eventIndex e) 1 s)
-    (start (changed t (eventKind e) (eventIndex e) s))))
+unfoldable pub happen : List ℕ → ℕ → List ℕ → List ℕ → Run
+happen t e os s =
+    cond (eqb (eventKind e) eventTick) (tick t os s)
+    (cond (eqb (eventKind e) eventMode) (request t (eventIndex e) (eventValue e) os s)
+    (cond (eqb (eventKind e) eventRequest) (request t (eventIndex e) 1 os s)
+    (start os (changed t (eventKind e) (eventIndex e) s))))

@@ -1,34 +1,39 @@
 -- Lists: what each item does, the trace words, and a list run with the lists and rules that it names.
 use Prim.Native.Nat.{ℕ, zero, suc, _+_}
-use mathlib.Core.Bool.{Bool, true, false, cond, _||_, not}
+use mathlib.Core.Bool.{Bool, true, false, cond, _&&_, _||_, not}
 use mathlib.Core.List.{List, [], _∷_, _++_}
-use lib.ListN.{set}
+use lib.ListN.{set, drop}
 use lib.Dec.{eqb}
-use Rattle.rulebook.specs.Words.{word, inField, each}
+use Rattle.rulebook.specs.Words.{word, inField, until}
 use Rattle.rulebook.specs.Table.{reload, ruleExpression, trueList, falseList, noList}
-use Rattle.rulebook.specs.Table.{listOwner, triggered, firstItem, itemCount, itemKind, itemA, itemB}
-use Rattle.rulebook.specs.Table.{itemClear, itemStart, itemStop, itemAsk, itemRule, byItem}
+use Rattle.rulebook.specs.Table.{listOwner, triggered, firstItem, itemCount, itemKind, abort, itemA, itemB}
+use Rattle.rulebook.specs.Table.{itemCall, itemClear, itemStart, itemStop, itemAsk, itemRule, byItem}
 use Rattle.rulebook.specs.Expressions.{deepest, mentions, holds}
 use Rattle.rulebook.specs.State.{ruleIndex, networkIndex, definedOf, valueOf, timerStopped, timerStarted}
 use Rattle.rulebook.specs.State.{resultOf, undefinedResult, Network, networkOf, packPort, packRule, packNetwork}
 
--- A run so far, x below: the state, the trace words written, and whether a list would have started at an eighth level.
+-- A run so far, x below: the state, the trace words written, whether a list would have started at an eighth level, and the outcome words
+-- that no call has read yet.
 pub record Run : Type 0 where
   pub state : List ℕ
   pub words : List ℕ
   pub deep : Bool
+  pub outcomes : List ℕ
 
-abbrev pub start : List ℕ → Run
-start s = record { state = s; words = []; deep = false }
+abbrev pub start : List ℕ → List ℕ → Run
+start os s = record { state = s; words = []; deep = false; outcomes = os }
 
 abbrev pub become : List ℕ → Run → Run
-become s x = record { state = s; words = x .words; deep = x .deep }
+become s x = record { state = s; words = x .words; deep = x .deep; outcomes = x .outcomes }
 
 abbrev pub emit : ℕ → Run → Run
-emit w x = record { state = x .state; words = x .words ++ (w ∷ []); deep = x .deep }
+emit w x = record { state = x .state; words = x .words ++ (w ∷ []); deep = x .deep; outcomes = x .outcomes }
 
 abbrev pub tooDeep : Run → Run
-tooDeep x = record { state = x .state; words = x .words; deep = true }
+tooDeep x = record { state = x .state; words = x .words; deep = true; outcomes = x .outcomes }
+
+abbrev pub leave : List ℕ → Run → Run
+leave os x = record { state = x .state; words = x .words; deep = x .deep; outcomes = os }
 
 -- "Trace word: kind(4), owner(4) of the list that holds it, a(8), b(16): 15 list start, .. 0 to 4 as the item; 6 .. the rule"
 
@@ -62,8 +67,19 @@ effect t i s =
     (cond (eqb (itemKind t i) itemAsk) (setNetwork t (itemA t i) (asking (itemB t i) (networkIn t (itemA t i) s)) s)
     s)))
 
+-- Q-9: "outcome words, each 0 for good or 1 for failed, read in the order in which outside calls run": a call reads the next one, abort
+-- or not, and no other item reads any
+unfoldable pub unread : List ℕ → ℕ → List ℕ → List ℕ
+unread t i os = cond (eqb (itemKind t i) itemCall) (drop 1 os) os
+
 unfoldable pub act : List ℕ → ℕ → ℕ → Run → Run
-act t o i x = become (effect t i (x .state)) (emit (traceWord (itemKind t i) o (itemA t i) (itemB t i)) x)
+act t o i x =
+    leave (unread t i (x .outcomes)) (become (effect t i (x .state)) (emit (traceWord (itemKind t i) o (itemA t i) (itemB t i)) x))
+
+-- "A failed call with abort stops the list that holds it": whether item i does, by the outcome that it is about to read. "Past their end
+-- every call is good": there the next word reads as 0.
+unfoldable pub stops : List ℕ → ℕ → Run → Bool
+stops t i x = eqb (itemKind t i) itemCall && eqb (abort t i) 1 && eqb (word (x .outcomes) 0) 1
 
 -- A rule r in a state: whether it mentions an undefined port, its result, and the list that it then starts, 255 for none: "its
 -- list for that result .. if conditional (triggered 0), or if the result differs from the previous one".
@@ -118,10 +134,10 @@ runRule below t o r x =
 unfoldable pub runItem : (ℕ → Run → Run) → List ℕ → ℕ → ℕ → Run → Run
 runItem below t o i x = byItem t i below (runRule below t o) (act t o i) x
 
--- "Items take effect in order", after the word for the list's start
+-- "Items take effect in order", after the word for the list's start; Q-9: a list is stopped "after its trace word; an outer list goes on"
 unfoldable pub runItems : (ℕ → Run → Run) → List ℕ → ℕ → Run → Run
 runItems below t l x =
-    each (firstItem t l) (itemCount t l) (runItem below t (listOwner t l)) (emit (traceWord traceListStart (listOwner t l) l 0) x)
+    until (firstItem t l) (itemCount t l) (stops t) (runItem below t (listOwner t l)) (emit (traceWord traceListStart (listOwner t l) l 0) x)
 
 -- list l with d levels left
 unfoldable pub runList : ℕ → List ℕ → ℕ → Run → Run

@@ -11,9 +11,9 @@ unfoldable pub table : List ℕ
 table =
     0x01020100 ∷ 0x00010001 ∷ 0x00010002 ∷ 0x01000000 ∷ 0x21000000 ∷ 0x10102000 ∷ 0x030A0005 ∷ 0x00005000 ∷ 0x100000FF ∷ 0x18380002 ∷ 0x40000002 ∷ 0x00001234 ∷ []
 
--- the step with three trace words of room, which is B here
+-- the step with three trace words of room, which is B here, and no outcomes lent
 unfoldable pub marked : List ℕ → ℕ → Result
-marked s e = step table s 3 e
+marked s e = step table s 3 [] e
 
 -- the state after each of these events
 unfoldable pub after : List ℕ → List ℕ → List ℕ
@@ -62,4 +62,4 @@ markedRun =
     && refuses atFresh 0x21000500 4
     && refuses atFresh 0x21000000 5
     && refuses atFresh 0x12000500 6
-    && gives (step table atFresh 2 0x11000500) 3 atFresh []
+    && gives (step table atFresh 2 [] 0x11000500) 3 atFresh []

@@ -28,9 +28,10 @@ goesOn r room later = cond (eqb (r .answer) 0) (onto 1 (r .words) (later (r .sta
 
 -- The events one after the other, from state s, with so many trace words free. "It stops before an event when fewer than B trace words
 -- are free, says 'trace full' exactly then .. That stop takes the place of answer 3": it is the single call's answer 3 in the room left.
+-- Q-9: "In play all calls are good": no outcomes are lent.
 unfoldable pub playOn : List ℕ → List ℕ → List ℕ → ℕ → Play
 playOn t [] s room = ending 0 s
-playOn t (e ∷ es) s room = goesOn (step t s room e) room (playOn t es)
+playOn t (e ∷ es) s room = goesOn (step t s room [] e) room (playOn t es)
 
 -- "table and state checked once, even with no events"
 unfoldable pub play : List ℕ → List ℕ → ℕ → List ℕ → Play

@@ -16,7 +16,7 @@ use Rattle.rulebook.specs.Table.{sourceOwner, sourcePort, sourceZero}
 use Rattle.rulebook.specs.Table.{expressionKind, conditionPort, conditionValue, conditionZero, left, right}
 use Rattle.rulebook.specs.Table.{conditionNotEqual, conditionSet, conditionCleared, conditionAtOrAbove}
 use Rattle.rulebook.specs.Table.{ruleOwner, firstResult, nestedOnly, ruleExpression, trueList, falseList, noList}
-use Rattle.rulebook.specs.Table.{listOwner, firstItem, itemCount, itemKind, itemA, itemB}
+use Rattle.rulebook.specs.Table.{listOwner, firstItem, itemCount, itemKind, abort, itemA, itemB}
 use Rattle.rulebook.specs.Table.{itemCall, itemClear, itemStart, itemStop, itemAsk, itemList, itemRule, byItem, platform, stranger}
 use Rattle.rulebook.specs.Expressions.{deepest, operator, isNot, expressionWithin, mentions}
 
@@ -24,9 +24,9 @@ use Rattle.rulebook.specs.Expressions.{deepest, operator, isNot, express
 unfoldable pub hasHeader : List ℕ → Bool
 hasHeader t = leb 3 (length t)
 
--- Rule 2: the edition is 1.
+-- Rule 2. Q-9: "Reason 2 now means an edition other than 1 or 2"
 unfoldable pub knownEdition : List ℕ → Bool
-knownEdition t = eqb (edition t) 1
+knownEdition t = eqb (edition t) 1 || eqb (edition t) 2
 
 -- Rule 3: each count is inside its limits.
 unfoldable pub countsInside : List ℕ → Bool
@@ -62,9 +62,11 @@ expressionFields t e =
     && implies (between conditionSet conditionCleared (expressionKind t e)) (eqb (conditionValue t e) 0)
     && implies (isNot t e) (eqb (right t e) 0)
 
+-- Q-9: "abort only in outside calls"
 unfoldable pub itemFields : List ℕ → ℕ → Bool
 itemFields t i =
     leb (itemKind t i) itemRule
+    && implies (not (eqb (itemKind t i) itemCall)) (eqb (abort t i) 0)
     && implies (eqb (itemKind t i) itemCall) (eqb (itemA t i) 0)
     && implies (between itemClear itemStop (itemKind t i)) (eqb (itemB t i) 0)
     && implies (eqb (itemKind t i) itemAsk) (leb (itemB t i) 2)

@@ -1,17 +1,18 @@
--- The step: table, state, trace room and event word to answer, next state and trace words; the answers in their order.
+-- The step: table, state, trace room, outcome words and event word to answer, next state and trace words; the answers in their order.
 use Prim.Native.Nat.{ℕ}
 use mathlib.Core.Bool.{Bool, cond, _&&_, _||_, not}
 use mathlib.Core.List.{List, []}
+use lib.ListN.{length}
 use lib.Dec.{leb, ltb, eqb}
-use Rattle.rulebook.specs.Words.{implies}
-use Rattle.rulebook.specs.Table.{ports, networks, sources, rules, portKind, portMode, portEvent}
+use Rattle.rulebook.specs.Words.{word, implies, all}
+use Rattle.rulebook.specs.Table.{edition, ports, networks, sources, rules, portKind, portMode, portEvent}
 use Rattle.rulebook.specs.Reasons.{accepted, bound, held}
 use Rattle.rulebook.specs.State.{Thing, aPort, aRule, aNetwork, aSource, ownerOf, fits}
 use Rattle.rulebook.specs.Lists.{Run}
 use Rattle.rulebook.specs.Events.{eventKind, eventOwner, eventIndex, eventValue, eventZero}
 use Rattle.rulebook.specs.Events.{eventTick, eventMode, eventRequest, eventBusOff, eventHeard, highestKind, happen}
 
--- The checks that answers 4 to 6 make of the event and the table.
+-- The checks that answers 4 to 6 and 8 make of the event, the outcome words and the table.
 
 -- "0 tick, all else 0"; "Value is 0 except in kind 1"; Q-8: "the malformed limit becomes 'above 7'"
 unfoldable pub wellFormed : ℕ → Bool
@@ -47,6 +48,14 @@ known t e = eqb (eventKind e) eventTick || present t (named e) && suited t e
 unfoldable pub sentByOwner : List ℕ → ℕ → Bool
 sentByOwner t e = eqb (eventKind e) eventTick || eqb (eventOwner e) (ownerOf t (named e))
 
+-- "outcome words, each 0 for good or 1 for failed"
+
+unfoldable pub goodOrFailed : List ℕ → ℕ → Bool
+goodOrFailed os k = leb (word os k) 1
+
+unfoldable pub outcomesKnown : List ℕ → Bool
+outcomesKnown os = all 0 (length os) (goodOrFailed os)
+
 -- The answers in their order: "given exactly if, in this order". Each part gives its first fault, or what comes next.
 
 -- 1 the table check gives a reason; 2 the state doesn't fit
@@ -57,22 +66,27 @@ stateFault t s next = cond (not (accepted t)) 1 (cond (not (fits t s)) 2 next)
 abbrev pub roomFault : List ℕ → ℕ → ℕ → ℕ
 roomFault t room next = cond (ltb room (bound t)) 3 next
 
--- 4 event word malformed or kind above 7; 5 no such thing; 6 owner differs from the thing's
-abbrev pub eventFault : List ℕ → ℕ → ℕ → ℕ
-eventFault t e next = cond (not (wellFormed e)) 4 (cond (not (known t e)) 5 (cond (not (sentByOwner t e)) 6 next))
+-- 4 event word malformed or kind above 7; Q-9: "An outcome word above 1 is answer 8, checked after answer 4 over all lent words"; 5 no
+-- such thing; 6 owner differs from the thing's
+abbrev pub eventFault : List ℕ → List ℕ → ℕ → ℕ → ℕ
+eventFault t os e next =
+    cond (not (wellFormed e)) 4
+    (cond (not (outcomesKnown os)) 8
+    (cond (not (known t e)) 5
+    (cond (not (sentByOwner t e)) 6 next)))
 
-unfoldable pub firstFault : List ℕ → List ℕ → ℕ → ℕ → ℕ
-firstFault t s room e = stateFault t s (roomFault t room (eventFault t e 0))
+unfoldable pub firstFault : List ℕ → List ℕ → ℕ → List ℕ → ℕ → ℕ
+firstFault t s room os e = stateFault t s (roomFault t room (eventFault t os e 0))
 
--- for an entry that makes only some of the checks: of the state; of all but the event; of the event
+-- for an entry that makes only some of the checks: of the state; of all but event and outcomes; of these
 unfoldable pub refusedState : List ℕ → List ℕ → ℕ
 refusedState t s = stateFault t s 0
 
 unfoldable pub refusedCall : List ℕ → List ℕ → ℕ → ℕ
 refusedCall t s room = stateFault t s (roomFault t room 0)
 
-unfoldable pub refusedEvent : List ℕ → ℕ → ℕ
-refusedEvent t e = eventFault t e 0
+unfoldable pub refusedEvent : List ℕ → List ℕ → ℕ → ℕ
+refusedEvent t os e = eventFault t os e 0
 
 -- The count that is reported is the number of words. "A refused check ends the call at that point, count 0, state and trace
 -- unchanged."
@@ -93,9 +107,13 @@ finish s r = cond (r .deep) (refusal 7 s) (record { answer = 0; state = r .state
 unfoldable pub conclude : ℕ → List ℕ → Run → Result
 conclude fault s r = cond (eqb fault 0) (finish s r) (refusal fault s)
 
-unfoldable pub step : List ℕ → List ℕ → ℕ → ℕ → Result
-step t s room e = conclude (firstFault t s room e) s (happen t e s)
+-- Q-9: "edition 1 tables act as if all calls were good, though answer 8 stands there too": their calls read none
+unfoldable pub heeded : List ℕ → List ℕ → List ℕ
+heeded t os = cond (eqb (edition t) 2) os []
+
+unfoldable pub step : List ℕ → List ℕ → ℕ → List ℕ → ℕ → Result
+step t s room os e = conclude (firstFault t s room os e) s (happen t e (heeded t os) s)
 
 -- a step whose table, state and room have been checked
-unfoldable pub handle : List ℕ → List ℕ → ℕ → Result
-handle t s e = conclude (refusedEvent t e) s (happen t e s)
+unfoldable pub handle : List ℕ → List ℕ → List ℕ → ℕ → Result
+handle t s os e = conclude (refusedEvent t os e) s (happen t e (heeded t os) s)

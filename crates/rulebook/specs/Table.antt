@@ -1,9 +1,9 @@
 -- "The table": the header, the sections and the named words with their fields.
-use Prim.Native.Nat.{ℕ, _+_, _-_, _*_, _/_, _%_}
+use Prim.Native.Nat.{ℕ, _+_, _-_, _*_, _/_, _%_, _^_}
 use mathlib.Core.Bool.{Bool, true, false, cond, _&&_, not}
 use mathlib.Core.List.{List}
 use lib.Dec.{ltb, eqb}
-use Rattle.rulebook.specs.Words.{word, field}
+use Rattle.rulebook.specs.Words.{word, digit, field}
 
 -- The header, three words.
 
@@ -256,7 +256,8 @@ firstItem t l = field 13 11 (listWord t l)
 abbrev pub itemCount : List ℕ → ℕ → ℕ
 itemCount t l = field 24 8 (listWord t l)
 
--- Item i, always read by table and number.
+-- Item i, always read by table and number. Q-9: "Make edition 2 of the table: an item's a field becomes abort(1), a(11), each listed as a
+-- field". Edition 1 has a(12) and no abort: as if each were 0.
 
 abbrev pub itemWord : List ℕ → ℕ → ℕ
 itemWord t i = word t (itemsFrom t + i)
@@ -264,8 +265,16 @@ itemWord t i = word t (itemsFrom t + i)
 abbrev pub itemKind : List ℕ → ℕ → ℕ
 itemKind t i = field 0 4 (itemWord t i)
 
+unfoldable pub abort : List ℕ → ℕ → ℕ
+abort t i = cond (eqb (edition t) 2) (field 4 1 (itemWord t i)) 0
+
+-- how many values a has
+unfoldable pub aSize : List ℕ → ℕ
+aSize t = cond (eqb (edition t) 2) (2 ^ 11) (2 ^ 12)
+
+-- a ends before b, the lower half of the word
 abbrev pub itemA : List ℕ → ℕ → ℕ
-itemA t i = field 4 12 (itemWord t i)
+itemA t i = digit (2 ^ 16) (aSize t) (itemWord t i)
 
 abbrev pub itemB : List ℕ → ℕ → ℕ
 itemB t i = field 16 16 (itemWord t i)

@@ -54,3 +54,8 @@ listed i (suc n) f = f i ∷ listed (suc i) n f
 unfoldable pub each : {A : Type 0} → ℕ → ℕ → (ℕ → A → A) → A → A
 each i zero f a = a
 each i (suc n) f a = each (suc i) n f (f i a)
+
+-- f done at each of them in turn, up to and with the first of which `last` holds before f is done
+unfoldable pub until : {A : Type 0} → ℕ → ℕ → (ℕ → A → Bool) → (ℕ → A → A) → A → A
+until i zero last f a = a
+until i (suc n) last f a = elim (last i a) [ true ↦ f i a | false ↦ until (suc i) n last f (f i a) ]

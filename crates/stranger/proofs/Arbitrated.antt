@@ -30,8 +30,9 @@ pub record KeptFitting (t : List ℕ) (P : List ℕ → Type 0) : Type 0 where
   pub store : (r result : ℕ) (s : List ℕ) → r < rules t → Fits t s → P s → P (setResult t r result s)
   pub unmark : (p : ℕ) (s : List ℕ) → p < ports t → Fits t s → P s → P (set s p (unmarked (word s p)))
 
-pub fitting-kept : (t : List ℕ) → Facts t → (P : List ℕ → Type 0) → KeptFitting t P → (q : ℕ → Bool) (s : List ℕ) → Fits t s → P s → P (arbitrate t q s .state)
-fitting-kept t f P k q s h p =
+pub fitting-kept : (t : List ℕ) → Facts t → (P : List ℕ → Type 0) → KeptFitting t P → (q : ℕ → Bool) (os s : List ℕ) → Fits t s → P s
+    → P (arbitrate t q os s .state)
+fitting-kept t f P k q os s h p =
     arbitrate-keeps t f (λ x. Fits t x × P x)
     (record {
       clear = λ p s b e w. (fit-kept t f .clear p s b e (w .0), k .port p _ _ _ s b (λ z. omega arith) (w .0) (w .1));
@@ -40,7 +41,7 @@ fitting-kept t f P k q s h p =
       ask = λ n mode s b m w. (fit-kept t f .ask n mode s b m (w .0), k .ask n mode s b m (w .0) (w .1));
       store = λ r b s c d w. (fit-kept t f .store r b s c d (w .0), k .store r b s c (w .0) (w .1));
       unmark = λ p s b w. (fit-kept t f .unmark p s b (w .0), k .unmark p s b (w .0) (w .1));
-    }) q s (h, p) .1
+    }) q os s (h, p) .1
 
 -- A port that shows keeps its value, and whether it is defined.
 
@@ -59,8 +60,8 @@ unmarked-value w = port-value (definedOf w) 0 (valueOf w) (remainingOf w) ∙ mo
 unmarked-defined : (w : ℕ) → definedOf (unmarked w) ≡ definedOf w
 unmarked-defined w = port-defined (definedOf w) 0 (valueOf w) (remainingOf w) ∙ mod-eq-of-lt (digit-small _ 2 w (omega arith))
 
-pub port-still : (t : List ℕ) → Facts t → (p v d : ℕ) → MayShow t p → (q : ℕ → Bool) (s : List ℕ) → Fits t s → ShowsAs p v d s
-    → ShowsAs p v d (arbitrate t q s .state)
+pub port-still : (t : List ℕ) → Facts t → (p v d : ℕ) → MayShow t p → (q : ℕ → Bool) (os s : List ℕ) → Fits t s → ShowsAs p v d s
+    → ShowsAs p v d (arbitrate t q os s .state)
 unfolding setPort setNetwork setResult
 port-still t f p v d m =
     fitting-kept t f (ShowsAs p v d)
@@ -80,8 +81,8 @@ port-still t f p v d m =
 
 -- A source's word.
 
-pub source-still : (t : List ℕ) → Facts t → (k w : ℕ) → k < sources t → (q : ℕ → Bool) (s : List ℕ) → Fits t s → word s (sourceIndex t k) ≡ w
-    → word (arbitrate t q s .state) (sourceIndex t k) ≡ w
+pub source-still : (t : List ℕ) → Facts t → (k w : ℕ) → k < sources t → (q : ℕ → Bool) (os s : List ℕ) → Fits t s → word s (sourceIndex t k) ≡ w
+    → word (arbitrate t q os s .state) (sourceIndex t k) ≡ w
 unfolding setPort setNetwork setResult
 source-still t f k w b =
     fitting-kept t f (λ s. word s (sourceIndex t k) ≡ w)
@@ -120,8 +121,8 @@ asked-word t s n mode b m h =
 core-other : (t s : List ℕ) (n j w : ℕ) (c : Network) → (networkIndex t n ≡ j → ⊥) → Core (networkIn t n s) c → Core (networkIn t n (set s j w)) c
 core-other t s n j w c d k = rw (getD-set-other s j (networkIndex t n) w 0 d) k
 
-pub network-still : (t : List ℕ) → Facts t → (n : ℕ) (c : Network) → n < networks t → (q : ℕ → Bool) (s : List ℕ) → Fits t s → Core (networkIn t n s) c
-    → Core (networkIn t n (arbitrate t q s .state)) c
+pub network-still : (t : List ℕ) → Facts t → (n : ℕ) (c : Network) → n < networks t → (q : ℕ → Bool) (os s : List ℕ) → Fits t s → Core (networkIn t n s) c
+    → Core (networkIn t n (arbitrate t q os s .state)) c
 unfolding setPort setResult
 network-still t f n c b =
     fitting-kept t f (λ s. Core (networkIn t n s) c)

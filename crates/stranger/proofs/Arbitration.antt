@@ -1,5 +1,5 @@
--- Arbitrations from states that o cannot tell apart, of ports that agree except on strangers', are alike to o; so an arbitration of
--- a stranger's port, held against an arbitration of no port, is unseen. Assumes nothing.
+-- Arbitrations from states that o cannot tell apart, of ports that agree except on strangers', are alike to o if what the calls met agrees; so
+-- an arbitration of a stranger's port, held against an arbitration of no port, is unseen. Assumes nothing.
 use mathlib.Core.Path.{_≡_, refl, sym, _∙_, ap}
 use mathlib.Core.Bool.{Bool, true, false, and-false}
 use mathlib.Core.List.{List, [], _∷_}
@@ -20,17 +20,20 @@ use Rattle.laws.proofs.Walks.{any-some, each-keeps, each-alike}
 use Rattle.laws.proofs.Cases.{if-chosen, if-not}
 use Rattle.laws.specs.Sequence.{Each}
 use Rattle.laws.proofs.Order.{order-there}
+use Rattle.laws.proofs.Runs.{list-keeps}
 use Rattle.stranger.specs.View.{SameView}
+use Rattle.stranger.specs.Outcomes.{met}
 use Rattle.stranger.proofs.More.{pick, pick-both, any-same}
 use Rattle.stranger.proofs.View.{same-view-refl, view-around, write-hidden, write-alike, port-word, rule-word}
-use Rattle.stranger.proofs.Alike.{Alike, alike-refl, alike-around, start-alike}
+use Rattle.stranger.proofs.Outcomes.{leftBy, Told, told-kept}
+use Rattle.stranger.proofs.Alike.{Alike, alike-refl, start-alike, AlikeIf, if-around}
 use Rattle.stranger.proofs.Evaluation.{result-alike, choice-alike, evaluated-alike}
 use Rattle.stranger.proofs.Owners.{choice-owned}
 use Rattle.stranger.proofs.Lists.{list-unseen, list-follows}
 
 -- two choices of ports that agree on the ports of o and of the platform
-abbrev pub Agree : List ℕ → ℕ → (ℕ → Bool) → (ℕ → Bool) → Type 0
-Agree t o q₁ q₂ = (p : ℕ) → p < ports t → stranger o (portOwner t p) ≡ false → q₁ p ≡ q₂ p
+abbrev pub PortsAgree : List ℕ → ℕ → (ℕ → Bool) → (ℕ → Bool) → Type 0
+PortsAgree t o q₁ q₂ = (p : ℕ) → p < ports t → stranger o (portOwner t p) ≡ false → q₁ p ≡ q₂ p
 
 module _ (t : List ℕ) (f : Facts t) (o : ℕ) where
   -- What a stranger's port, rule or list adds, on one side.
@@ -57,29 +60,35 @@ module _ (t : List ℕ) (f : Facts t) (o : ℕ) where
       let some : eqb (choiceIn t s r) noList ≡ false = rw here (ne-eqb l noList (λ z. omega arith)) in
       clash (rw (← choice-owned t s r (f .rule r c .owned) some, here) at k) h)
 
-  if-unseen : (c : ℕ → Bool) (l : ℕ) (x : Run) → l < lists t → stranger o (listOwner t l) ≡ true → Alike t o x (runIf t c l x)
-  if-unseen c l x b h =
-      split (c l) (λ e. rw (if-chosen t c l x e) (list-unseen t f o deepest l x b h)) (λ e. rw (if-not t c l x e) (alike-refl t o x))
+  if-unseen : (os : List ℕ) (c : ℕ → Bool) (l : ℕ) (x : Run) → l < lists t → stranger o (listOwner t l) ≡ true → Alike t o os os x (runIf t c l x)
+  if-unseen os c l x b h =
+      split (c l) (λ e. rw (if-chosen t c l x e) (list-unseen t f o os deepest l x b h)) (λ e. rw (if-not t c l x e) (alike-refl t o os x))
+
+  if-told : (os : List ℕ) (c : ℕ → Bool) (l : ℕ) (x : Run) → l < lists t → Told os x → Told os (runIf t c l x)
+  if-told os c l x b p =
+      split (c l) (λ e. rw (if-chosen t c l x e) (list-keeps t f (Told os) (told-kept t os) deepest l x b p)) (λ e. rw (if-not t c l x e) p)
 
   -- The lists that are chosen, in the order that the table alone gives: both sides go through it in step.
 
-  if-alike : (c₁ c₂ : ℕ → Bool) (l : ℕ) (x y : Run) → l < lists t → (stranger o (listOwner t l) ≡ false → c₁ l ≡ c₂ l) → Alike t o x y
-      → Alike t o (runIf t c₁ l x) (runIf t c₂ l y)
-  if-alike c₁ c₂ l x y b same a =
+  if-alike : (os₁ os₂ : List ℕ) (c₁ c₂ : ℕ → Bool) (l : ℕ) (x y : Run) → l < lists t → (stranger o (listOwner t l) ≡ false → c₁ l ≡ c₂ l)
+      → Told os₁ x → Told os₂ y → AlikeIf t o os₁ os₂ x y → AlikeIf t o os₁ os₂ (runIf t c₁ l x) (runIf t c₂ l y)
+  if-alike os₁ os₂ c₁ c₂ l x y b same p q a =
       split (stranger o (listOwner t l))
-      (λ h. alike-around t o a (if-unseen c₁ l x b h) (if-unseen c₂ l y b h))
+      (λ h. if-around t o os₁ os₂ x y a (if-unseen os₁ c₁ l x b h) (if-unseen os₂ c₂ l y b h))
       (λ h. split (c₁ l)
-      (λ e. rw (if-chosen t c₁ l x e, if-chosen t c₂ l y (sym (same h) ∙ e)) (list-follows t f o deepest l x y b h a))
+      (λ e. rw (if-chosen t c₁ l x e, if-chosen t c₂ l y (sym (same h) ∙ e)) (list-follows t f o os₁ os₂ deepest l x y b h p q a))
       (λ e. rw (if-not t c₁ l x e, if-not t c₂ l y (sym (same h) ∙ e)) a))
 
-  run-alike : (c₁ c₂ : ℕ → Bool) (ls : List ℕ) (x y : Run) → Each (λ l. l < lists t) ls
+  run-alike : (os₁ os₂ : List ℕ) (c₁ c₂ : ℕ → Bool) (ls : List ℕ) (x y : Run) → Each (λ l. l < lists t) ls
       → ((l : ℕ) → l < lists t → stranger o (listOwner t l) ≡ false → c₁ l ≡ c₂ l)
-      → Alike t o x y → Alike t o (runChosen t c₁ ls x) (runChosen t c₂ ls y)
+      → Told os₁ x → Told os₂ y → AlikeIf t o os₁ os₂ x y → AlikeIf t o os₁ os₂ (runChosen t c₁ ls x) (runChosen t c₂ ls y)
   unfolding runChosen
-  run-alike c₁ c₂ [] x y e same a = a
-  run-alike c₁ c₂ (l ∷ ls) x y e same a = run-alike c₁ c₂ ls _ _ (e .1) same (if-alike c₁ c₂ l x y (e .0) (same l (e .0)) a)
+  run-alike os₁ os₂ c₁ c₂ [] x y e same p q a = a
+  run-alike os₁ os₂ c₁ c₂ (l ∷ ls) x y e same p q a =
+      run-alike os₁ os₂ c₁ c₂ ls _ _ (e .1) same (if-told os₁ c₁ l x (e .0) p) (if-told os₂ c₂ l y (e .0) q)
+      (if-alike os₁ os₂ c₁ c₂ l x y (e .0) (same l (e .0)) p q a)
 
-  module _ (q₁ q₂ : ℕ → Bool) (agree : Agree t o q₁ q₂) {s₁ s₂ : List ℕ} (v : SameView t o s₁ s₂) where
+  module _ (q₁ q₂ : ℕ → Bool) (agree : PortsAgree t o q₁ q₂) {s₁ s₂ : List ℕ} (v : SameView t o s₁ s₂) where
     unmark-alike : SameView t o (unmarkPorts t q₁ s₁) (unmarkPorts t q₂ s₂)
     unfolding unmarkPorts unmarkPort
     unmark-alike =
@@ -107,13 +116,16 @@ module _ (t : List ℕ) (f : Facts t) (o : ℕ) where
         (λ k. chooses-none q₁ s₁ l r b there h k ∙ sym (chooses-none q₂ s₂ l r b there h k))
         (λ k. rw (evaluated-alike t f o r there k v q₁ q₂ agree, choice-alike t f o r there k v)))
 
-    decide-alike : Alike t o (decide t q₁ s₁) (decide t q₂ s₂)
-    unfolding decide
-    decide-alike = run-alike _ _ (order t) _ _ (order-there t) chosen-alike (start-alike t o store-alike)
+    decide-alike : (os₁ os₂ : List ℕ) → AlikeIf t o os₁ os₂ (decide t q₁ os₁ s₁) (decide t q₂ os₂ s₂)
+    unfolding decide leftBy
+    decide-alike os₁ os₂ =
+        run-alike os₁ os₂ _ _ (order t) _ _ (order-there t) chosen-alike (record { outcomes = refl }) (record { outcomes = refl })
+        (λ g. start-alike t o store-alike)
 
-  pub arbitrate-alike : (q₁ q₂ : ℕ → Bool) → Agree t o q₁ q₂ → {s₁ s₂ : List ℕ} → SameView t o s₁ s₂ → Alike t o (arbitrate t q₁ s₁) (arbitrate t q₂ s₂)
+  pub arbitrate-alike : (q₁ q₂ : ℕ → Bool) → PortsAgree t o q₁ q₂ → (os₁ os₂ : List ℕ) {s₁ s₂ : List ℕ} → SameView t o s₁ s₂
+      → AlikeIf t o os₁ os₂ (arbitrate t q₁ os₁ s₁) (arbitrate t q₂ os₂ s₂)
   unfolding arbitrate
-  arbitrate-alike q₁ q₂ agree v = decide-alike q₁ q₂ agree (unmark-alike q₁ q₂ agree v)
+  arbitrate-alike q₁ q₂ agree os₁ os₂ v = decide-alike q₁ q₂ agree (unmark-alike q₁ q₂ agree v) os₁ os₂
 
 -- An arbitration of no port does nothing.
 
@@ -144,18 +156,18 @@ module _ (t : List ℕ) where
   run-nothing s [] x = refl
   run-nothing s (l ∷ ls) x = rw (if-not t (chosen t nothing s) l x (chosen-nothing s l)) (run-nothing s ls x)
 
-  arbitrate-nothing : (s : List ℕ) → arbitrate t nothing s ≡ start s
+  arbitrate-nothing : (os s : List ℕ) → arbitrate t nothing os s ≡ start os s
   unfolding arbitrate decide unmarkPorts unmarkPort storeResults storeResult nothing
-  arbitrate-nothing s =
+  arbitrate-nothing os s =
       run-nothing _ (order t) _
-      ∙ ap start (each-keeps (λ x. x ≡ unmarkPorts t nothing s) (storeResult t nothing (unmarkPorts t nothing s)) 0 (rules t) _
+      ∙ ap (start os) (each-keeps (λ x. x ≡ unmarkPorts t nothing s) (storeResult t nothing (unmarkPorts t nothing s)) 0 (rules t) _
       (λ r x a b e. rw (evaluated-nothing (unmarkPorts t nothing s) r) e) refl
       ∙ each-keeps (λ x. x ≡ s) (unmarkPort nothing) 0 (ports t) s (λ p x a b e. e) refl)
 
--- an arbitration of strangers' ports alone
+-- an arbitration of strangers' ports alone: held against one of no port, which meets nothing, it agrees as far as that goes
 pub arbitrate-hidden : (t : List ℕ) (f : Facts t) (o : ℕ) (q : ℕ → Bool) → ((p : ℕ) → p < ports t → stranger o (portOwner t p) ≡ false → q p ≡ false)
-    → (s : List ℕ)
-    → Alike t o (start s) (arbitrate t q s)
-unfolding nothing
-arbitrate-hidden t f o q h s =
-    rw (← arbitrate-nothing t s) (arbitrate-alike t f o nothing q (λ p b k. sym (h p b k)) (same-view-refl t o s))
+    → (os s : List ℕ)
+    → Alike t o os os (start os s) (arbitrate t q os s)
+unfolding nothing met
+arbitrate-hidden t f o q h os s =
+    (rw (arbitrate-nothing t os s) at (arbitrate-alike t f o nothing q (λ p b k. sym (h p b k)) os os (same-view-refl t o s))) tt

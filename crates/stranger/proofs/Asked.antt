@@ -117,11 +117,11 @@ module _ (t : List ℕ) (f : Facts t) (n : ℕ) (b : n < networks t) (m : ℕ) w
       (each-keeps (λ x. networkIn t n x ≡ networkIn t n s) (unmarkPort q) 0 (ports t) s
       (λ p x a c h. split (q p) (λ e. rw e (other-word x p _ (λ z. omega arith) ∙ h)) (λ e. rw e h)) refl)
 
-  pub asked-last : (q : ℕ → Bool) (s : List ℕ) → Fits t s → networkIn t n s .asked ≡ m
-      → networkIn t n (arbitrate t q s .state) .asked ≡ lastAsked n m (arbitrate t q s .words)
+  pub asked-last : (q : ℕ → Bool) (os s : List ℕ) → Fits t s → networkIn t n s .asked ≡ m
+      → networkIn t n (arbitrate t q os s .state) .asked ≡ lastAsked n m (arbitrate t q os s .words)
   unfolding arbitrate lastAsked
-  asked-last q s fit is =
-      decide-keeps t f AskedLast asked-acts q (unmarkPorts t q s) (
+  asked-last q os s fit is =
+      decide-keeps t f AskedLast asked-acts q os (unmarkPorts t q s) (
         store-keeps t f (Fits t) (fit-kept t f) q _ (unmark-keeps t f (Fits t) (fit-kept t f) q s fit),
         ap (λ (c : Network). c .asked)
             (before-lists q s) ∙ is,

@@ -100,26 +100,28 @@ module _ (t : List ℕ) (f : Facts t) (n : ℕ) (b : n < networks t) where
   AskedBy s x = networkIn t n (x .state) .asked ≡ lastAsked n (networkIn t n s .asked) (x .words)
 
   -- one event
-  pub asked-after : (e : ℕ) (s : List ℕ) → Taken t e → Fits t s
-      → networkIn t n (happen t e s .state) .asked ≡ lastAsked n (networkIn t n s .asked) (happen t e s .words)
-  asked-after e s w fit = go (happen t e) (event t e w)
+  pub asked-after : (e : ℕ) (os s : List ℕ) → Taken t e → Fits t s
+      → networkIn t n (happen t e os s .state) .asked ≡ lastAsked n (networkIn t n s .asked) (happen t e os s .words)
+  asked-after e os s w fit = go (happen t e) (event t e w)
     where
-      by-request : (q v : ℕ) → q < ports t → (portKind t q ≡ portTimer → ⊥) → v < 256 → (portKind t q ≡ portEvent → v ≤ 1) → AskedBy s (request t q v s)
+      by-request : (q v : ℕ) → q < ports t → (portKind t q ≡ portTimer → ⊥) → v < 256 → (portKind t q ≡ portEvent → v ≤ 1)
+          → AskedBy s (request t q v os s)
       by-request q v c nt v₈ ev =
           unfold lastAsked in
-          request-cases t f (AskedBy s) q v s c nt v₈ ev fit
-          (λ fit₁. asks-port _ q _ _ _ s c refl) (λ fit₁. asked-last t f n b _ (only q) _ fit₁ (asks-port _ q _ _ _ s c refl))
+          request-cases t f (AskedBy s) q v os s c nt v₈ ev fit
+          (λ fit₁. asks-port _ q _ _ _ s c refl) (λ fit₁. asked-last t f n b _ (only q) os _ fit₁ (asks-port _ q _ _ _ s c refl))
 
-      go : (g : List ℕ → Run) → Event t e g → AskedBy s (g s)
-      go g (aTick k o) = unfold tick arbitrateMarked in asked-last t f n b _ _ _ (things-fit t f s fit) (asks-things _ s fit refl)
+      go : (g : List ℕ → List ℕ → Run) → Event t e g → AskedBy s (g os s)
+      go g (aTick k o) = unfold tick arbitrateMarked in asked-last t f n b _ _ os _ (things-fit t f s fit) (asks-things _ s fit refl)
       go g (aMode k of m free) =
           by-request (eventIndex e) (eventValue e) (of .there) (λ z. omega arith) (digit-small _ 256 _ (omega arith)) (λ z. absurd (omega arith))
       go g (aRequest k of m) = by-request (eventIndex e) 1 (of .there) (λ z. omega arith) (omega arith) (λ z. omega arith)
       go g (ofSource k free of u c) =
-          unfold lastAsked in source-to t f (λ x. AskedBy s (start x)) e s u c (λ status r ok. asks-source _ (eventIndex e) status r s (of .there) refl) refl
+          unfold lastAsked in source-to t f (λ x. AskedBy s (start os x)) e s u c (λ status r ok. asks-source _ (eventIndex e) status r s (of .there) refl) refl
       go g (ofNetwork k of u c) =
           unfold lastAsked in
-          network-to t f (λ x. AskedBy s (start x)) e s u c (of .there) fit (λ x ok same. asks-network _ (eventIndex e) x s (of .there) fit ok same refl) refl
+          network-to t f (λ x. AskedBy s (start os x)) e s u c (of .there) fit
+          (λ x ok same. asks-network _ (eventIndex e) x s (of .there) fit ok same refl) refl
 
 -- a log
 pub asked-in : (t : List ℕ) → accepted t ≡ true → (n : ℕ) → n < networks t → (s : List ℕ) (xs : List Entry) → Log t s xs → Fits t s
@@ -130,7 +132,7 @@ asked-in t h n b s (x ∷ xs) l fit =
     let f = l .0 in
     let one : networkIn t n (x .state) .asked ≡ lastAsked n (networkIn t n s .asked) (x .words) =
     ap (λ (y : List ℕ). networkIn t n y .asked) (f .state)
-    ∙ asked-after t (facts t h) n b (x .event) s (taken f) fit
+    ∙ asked-after t (facts t h) n b (x .event) _ s (taken f) fit
     ∙ ap (λ (ws : List ℕ). lastAsked n (networkIn t n s .asked) ws) (sym (f .words)) in
     asked-in t h n b (x .state) xs (l .1) (entry-fits t h s x f fit) ∙ ap (λ (a : ℕ). lastAskedIn n a xs) one
 

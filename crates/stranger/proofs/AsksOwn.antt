@@ -61,18 +61,18 @@ module _ (t : List ℕ) (f : Facts t) where
         deep = λ x a. a;
       }
 
-  arbitrate-asks-own : (q : ℕ → Bool) (s : List ℕ) → AllAskOwn (arbitrate t q s)
+  arbitrate-asks-own : (q : ℕ → Bool) (os s : List ℕ) → AllAskOwn (arbitrate t q os s)
   unfolding arbitrate
-  arbitrate-asks-own q s = decide-keeps t f AllAskOwn acts-ask-own q _ tt
+  arbitrate-asks-own q os s = decide-keeps t f AllAskOwn acts-ask-own q os _ tt
 
-  request-asks-own : (p v : ℕ) (s : List ℕ) → AllAskOwn (request t p v s)
+  request-asks-own : (p v : ℕ) (os s : List ℕ) → AllAskOwn (request t p v os s)
   unfolding request
-  request-asks-own p v s = pick AllAskOwn (eqb (deferred t p) 1) (λ e. tt) (λ e. arbitrate-asks-own _ _)
+  request-asks-own p v os s = pick AllAskOwn (eqb (deferred t p) 1) (λ e. tt) (λ e. arbitrate-asks-own _ os _)
 
-  pub happen-asks-own : (e : ℕ) (s : List ℕ) → AllAskOwn (happen t e s)
+  pub happen-asks-own : (e : ℕ) (os s : List ℕ) → AllAskOwn (happen t e os s)
   unfolding tick arbitrateMarked
-  happen-asks-own e s =
-      happen-cases AllAskOwn t e s (λ k. arbitrate-asks-own _ _) (λ k. request-asks-own _ _ s) (λ k. request-asks-own _ _ s) (λ k. tt)
+  happen-asks-own e os s =
+      happen-cases AllAskOwn t e os s (λ k. arbitrate-asks-own _ os _) (λ k. request-asks-own _ _ os s) (λ k. request-asks-own _ _ os s) (λ k. tt)
 
 -- So the words of its owner and of the platform tell whether a network is asked for another mode.
 

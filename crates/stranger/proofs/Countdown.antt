@@ -19,7 +19,7 @@ use Rattle.laws.proofs.Facts.{facts}
 use Rattle.laws.proofs.FitKept.{Fits}
 use Rattle.laws.proofs.Happen.{Taken, of-bus-off}
 use Rattle.laws.proofs.Steps.{fresh-fits}
-use Rattle.stranger.specs.Logs.{Entry, Follows, Log, stateAfter}
+use Rattle.stranger.specs.Logs.{Entry, Follows, Log, stateAfter, ran}
 use Rattle.stranger.specs.Demand.{ticks, tickCount, shows, busOffTaken, loaded, asksOther, anyWord, asksAnother, lastAskedIn, leftAlone, Phase}
 use Rattle.stranger.specs.Demand.{hears, heardFrom, settlesAt, nothingHeard, modeToShow}
 use Rattle.stranger.proofs.Logs.{taken, after-append, log-parts, entry-fits, log-fits}
@@ -160,18 +160,18 @@ module _ (t : List ℕ) (h : accepted t ≡ true) (n : ℕ) (b : n < networks t)
   At D k s = PhaseOf L (eTicks t n) D k (networkIn t n s)
 
   -- what an event makes of n
-  next-is : (e : ℕ) (s : List ℕ) (D k : ℕ) → Taken t e → Fits t s → PhaseOf L (eTicks t n) D k (nextNetwork t (facts t h) n b e s)
-      → At D k (happen t e s .state)
-  next-is e s D k w fit p = phase-here L _ D k _ _ (network-moves t (facts t h) n b e s w fit .own) p
+  next-is : (e : ℕ) (os s : List ℕ) (D k : ℕ) → Taken t e → Fits t s → PhaseOf L (eTicks t n) D k (nextNetwork t (facts t h) n b e s)
+      → At D k (happen t e os s .state)
+  next-is e os s D k w fit p = phase-here L _ D k _ _ (network-moves t (facts t h) n b e os s w fit .own) p
 
   next-tick : (e : ℕ) (s : List ℕ) → eventKind e ≡ eventTick → nextNetwork t (facts t h) n b e s ≡ tickedNetwork t n (networkIn t n s)
   unfolding nextNetwork
   next-tick e s k = rw k
 
-  tick-done : (D k : ℕ) (s : List ℕ) (e : ℕ) → eventKind e ≡ eventTick → Taken t e → Fits t s → networkIn t n s .asked ≡ askedFull → At D k s
-      → At D (suc k) (happen t e s .state)
-  tick-done D k s e is w fit a p =
-      next-is e s D (suc k) w fit (rw (next-tick e s is) (phase-tick t n L D k (networkIn t n s) (facts t h .waits n b .eticks) a p))
+  tick-done : (D k : ℕ) (os s : List ℕ) (e : ℕ) → eventKind e ≡ eventTick → Taken t e → Fits t s → networkIn t n s .asked ≡ askedFull → At D k s
+      → At D (suc k) (happen t e os s .state)
+  tick-done D k os s e is w fit a p =
+      next-is e os s D (suc k) w fit (rw (next-tick e s is) (phase-tick t n L D k (networkIn t n s) (facts t h .waits n b .eticks) a p))
 
   -- no tick and no bus-off that is taken: heard, or nothing
   other-done : (D k : ℕ) (s : List ℕ) (x : Entry) → eqb (eventKind (x .event)) eventTick ≡ false → busOffTaken t n s x ≡ false → At D k s
@@ -190,19 +190,19 @@ module _ (t : List ℕ) (h : accepted t ≡ true) (n : ℕ) (b : n < networks t)
       → At (sooner n L D k x) (cond (ticks x) 1 0 + k) (x .state)
   unfolding ticks
   entry-phase D k s x f fit a quiet p =
-      phase-here L _ _ _ (networkIn t n (x .state)) (networkIn t n (happen t (x .event) s .state)) (ap (λ (u : List ℕ). asking 0 (networkIn t n u)) (f .state))
+      phase-here L _ _ _ (networkIn t n (x .state)) (networkIn t n (ran t s x .state)) (ap (λ (u : List ℕ). asking 0 (networkIn t n u)) (f .state))
       (split (eqb (eventKind (x .event)) eventTick)
       (λ d. let one : 1 + k ≡ suc k = omega arith in let is = eqb-true _ _ d in
-      rw (d, one, tick-silent D k x is) (tick-done D k s (x .event) is (taken f) fit a p))
-      (λ d. rw (d, zero-add k) (next-is (x .event) s _ k (taken f) fit (other-done D k s x d quiet p))))
+      rw (d, one, tick-silent D k x is) (tick-done D k _ s (x .event) is (taken f) fit a p))
+      (λ d. rw (d, zero-add k) (next-is (x .event) _ s _ k (taken f) fit (other-done D k s x d quiet p))))
 
   entry-asked : (s : List ℕ) (x : Entry) → Follows t s x → Fits t s → networkIn t n s .asked ≡ askedFull → asksAnother n x ≡ false
       → networkIn t n (x .state) .asked ≡ askedFull
   unfolding asksAnother
   entry-asked s x f fit a quiet =
       ap (λ (y : List ℕ). networkIn t n y .asked) (f .state)
-      ∙ asked-after t (facts t h) n b (x .event) s (taken f) fit
-      ∙ rw a (full-last n (happen t (x .event) s .words) (rw (f .words) at quiet))
+      ∙ asked-after t (facts t h) n b (x .event) _ s (taken f) fit
+      ∙ rw a (full-last n (ran t s x .words) (rw (f .words) at quiet))
 
   -- a log that leaves n alone
   log-phase : (xs : List Entry) (D k : ℕ) (s : List ℕ) → Log t s xs → Fits t s → networkIn t n s .asked ≡ askedFull → leftAlone t n s xs ≡ true → At D k s
@@ -236,9 +236,9 @@ starts t n s x h =
       took = and-right (eqb (eventKind (x .event)) eventBusOff && eqb (eventIndex (x .event)) n) _ h;
     }
 
-no-words : (t s : List ℕ) (e : ℕ) → eventKind e ≡ eventBusOff → happen t e s .words ≡ []
+no-words : (t os s : List ℕ) (e : ℕ) → eventKind e ≡ eventBusOff → happen t e os s .words ≡ []
 unfolding happen
-no-words t s e k = rw k
+no-words t os s e k = rw k
 
 module _ (t : List ℕ) (h : accepted t ≡ true) (n : ℕ) (s : List ℕ) (fit : Fits t s) (x : Entry) (f : Follows t s x) (off : busOffTaken t n s x ≡ true) where
   there : n < networks t
@@ -255,12 +255,12 @@ module _ (t : List ℕ) (h : accepted t ≡ true) (n : ℕ) (s : List ℕ) (fit 
   start-phase : PhaseOf (loaded t n s) (eTicks t n) (loaded t n s + eTicks t n) 0 (networkIn t n (x .state))
   unfolding offBus
   start-phase =
-      rw (f .state) (next-is t h n there (loaded t n s) (x .event) s _ 0 (taken f) fit (rw next-off (recovering wait-some refl refl (omega arith))))
+      rw (f .state) (next-is t h n there (loaded t n s) (x .event) _ s _ 0 (taken f) fit (rw next-off (recovering wait-some refl refl (omega arith))))
 
   start-asked : networkIn t n s .asked ≡ askedFull → networkIn t n (x .state) .asked ≡ askedFull
   unfolding asksAnother anyWord
   start-asked a =
-      entry-asked t h n there (loaded t n s) s x f fit a (ap (anyWord (asksOther n)) (f .words ∙ no-words t s (x .event) (starts t n s x off .kind)))
+      entry-asked t h n there (loaded t n s) s x f fit a (ap (anyWord (asksOther n)) (f .words ∙ no-words t _ s (x .event) (starts t n s x off .kind)))
 
 -- The theorem.
 
@@ -334,7 +334,7 @@ module _ (t : List ℕ) (h : accepted t ≡ true) (n : ℕ) (before : List Entry
       let last : Follows t (stateAfter (x .state) xs) d = parts .1 .0 in
       let fit₂ = log-fits t h (x .state) xs (parts .0) (entry-fits t h s₀ x (here (xs ++ d ∷ []) log) (fit₀ (xs ++ d ∷ []) log)) in
       phase-shown t n _ _ _ (d .state) (some-ticks (xs ++ d ∷ []) log) (rw (after-append (x .state) xs (d ∷ [])) at (shown-last (xs ++ d ∷ []) log))
-      (rw (last .state) (tick-done t h n (n-there (xs ++ d ∷ []) log) (loaded t n s₀) _ (tickCount xs) (stateAfter (x .state) xs) (d .event) (eqb-true _ _ is)
+      (rw (last .state) (tick-done t h n (n-there (xs ++ d ∷ []) log) (loaded t n s₀) _ (tickCount xs) _ (stateAfter (x .state) xs) (d .event) (eqb-true _ _ is)
       (taken last) fit₂ (r .1) (r .0)))
 
   -- the two sentences of Q-8

@@ -1,5 +1,5 @@
 -- What an event does stays with its owner: a stranger's event is unseen by o, and any other, from states that o cannot tell apart,
--- ends alike to o. Assumes nothing.
+-- ends alike to o if what the calls met agrees. Assumes nothing.
 use mathlib.Core.Path.{_≡_, refl, _∙_}
 use mathlib.Core.Bool.{Bool, true, false, cond, _&&_, _||_}
 use mathlib.Core.List.{List}
@@ -26,7 +26,7 @@ use Rattle.laws.proofs.Happen.{Event, aTick, aMode, aRequest, ofSource, ofNetwo
 use Rattle.stranger.specs.View.{strangersWord, SameView}
 use Rattle.stranger.proofs.More.{pick, pick-both}
 use Rattle.stranger.proofs.View.{same-view-refl, same-view-trans, view-around, write-hidden, write-alike, port-word, network-word, source-word}
-use Rattle.stranger.proofs.Alike.{Alike, alike-trans, start-alike}
+use Rattle.stranger.proofs.Alike.{Alike, alike-trans, start-alike, AlikeIf}
 use Rattle.stranger.proofs.Owners.{platform-known}
 use Rattle.stranger.proofs.Arbitration.{arbitrate-alike, arbitrate-hidden}
 
@@ -35,10 +35,10 @@ pub record Confined (t : List ℕ) (o w : ℕ) (g : List ℕ → List ℕ) : Typ
   pub hidden : stranger o w ≡ true → (s : List ℕ) → SameView t o s (g s)
   pub alike : stranger o w ≡ false → (s₁ s₂ : List ℕ) → SameView t o s₁ s₂ → SameView t o (g s₁) (g s₂)
 
--- the same of what may write trace words too
-pub record ConfinedRun (t : List ℕ) (o w : ℕ) (g : List ℕ → Run) : Type 0 where
-  pub hidden : stranger o w ≡ true → (s : List ℕ) → Alike t o (start s) (g s)
-  pub alike : stranger o w ≡ false → (s₁ s₂ : List ℕ) → SameView t o s₁ s₂ → Alike t o (g s₁) (g s₂)
+-- the same of what may write trace words and read outcomes too
+pub record ConfinedRun (t : List ℕ) (o w : ℕ) (g : List ℕ → List ℕ → Run) : Type 0 where
+  pub hidden : stranger o w ≡ true → (os s : List ℕ) → Alike t o os os (start os s) (g os s)
+  pub alike : stranger o w ≡ false → (os₁ os₂ s₁ s₂ : List ℕ) → SameView t o s₁ s₂ → AlikeIf t o os₁ os₂ (g os₁ s₁) (g os₂ s₂)
 
 -- How such changes are made up: nothing, a write of w's word, one after the other, a choice, and a choice by w's word.
 module _ {t : List ℕ} {o w : ℕ} where
@@ -73,8 +73,8 @@ module _ {t : List ℕ} {o w : ℕ} where
         alike = λ h s₁ s₂ v. rw (v .same i (e ∙ h)) (c (word s₂ i) .alike h s₁ s₂ v);
       }
 
-  quiet : {g : List ℕ → List ℕ} → Confined t o w g → ConfinedRun t o w (λ s. start (g s))
-  quiet c = record { hidden = λ h s. start-alike t o (c .hidden h s); alike = λ h s₁ s₂ v. start-alike t o (c .alike h s₁ s₂ v) }
+  quiet : {g : List ℕ → List ℕ} → Confined t o w g → ConfinedRun t o w (λ os s. start os (g s))
+  quiet c = record { hidden = λ h os s. start-alike t o (c .hidden h s); alike = λ h os₁ os₂ s₁ s₂ v g. start-alike t o (c .alike h s₁ s₂ v) }
 
   either-way : {g : List ℕ → List ℕ} → Confined t o w g → (s₁ s₂ : List ℕ) → SameView t o s₁ s₂ → SameView t o (g s₁) (g s₂)
   either-way c s₁ s₂ v =
@@ -170,16 +170,16 @@ module _ (t : List ℕ) (f : Facts t) (o : ℕ) where
     unfolding only
     only-hidden h x c k = ne-eqb x p (λ e. clash h (rw e at k))
 
-    request-confined : (value : ℕ) → ConfinedRun t o (portOwner t p) (λ s. request t p value s)
+    request-confined : (value : ℕ) → ConfinedRun t o (portOwner t p) (λ os s. request t p value os s)
     unfolding request
     request-confined value =
         let marked : Confined t o (portOwner t p) (λ s. setPort p 1 value 0 s) = put-port p 1 value 0 (port-word t o p b) in
         let now : Confined t o (portOwner t p) (λ s. setPort p 0 value 0 s) = put-port p 0 value 0 (port-word t o p b) in
         record {
-          hidden = λ h s. pick (Alike t o (start s)) (eqb (deferred t p) 1) (λ e. start-alike t o (marked .hidden h s))
-              (λ e. alike-trans t o (start-alike t o (now .hidden h s)) (arbitrate-hidden t f o (only p) (only-hidden h) _));
-          alike = λ h s₁ s₂ v. pick-both (Alike t o) (eqb (deferred t p) 1) (λ e. start-alike t o (marked .alike h s₁ s₂ v))
-              (λ e. arbitrate-alike t f o (only p) (only p) (λ x c k. refl) (now .alike h s₁ s₂ v));
+          hidden = λ h os s. pick (Alike t o os os (start os s)) (eqb (deferred t p) 1) (λ e. start-alike t o (marked .hidden h s))
+              (λ e. alike-trans t o (start-alike t o (now .hidden h s)) (arbitrate-hidden t f o (only p) (only-hidden h) os _));
+          alike = λ h os₁ os₂ s₁ s₂ v. pick-both (AlikeIf t o os₁ os₂) (eqb (deferred t p) 1) (λ e g. start-alike t o (marked .alike h s₁ s₂ v))
+              (λ e. arbitrate-alike t f o (only p) (only p) (λ x c k. refl) os₁ os₂ (now .alike h s₁ s₂ v));
         }
 
   -- A tick is the platform's. Networks, sources and timers move, each for itself; then the marked ports are arbitrated.
@@ -191,20 +191,25 @@ module _ (t : List ℕ) (f : Facts t) (o : ℕ) where
       (each-alike (SameView t o) (tickSource t) (tickSource t) 0 (sources t) _ _ (λ k x y a b. either-way (tick-source k (omega arith)) x y)
       (each-alike (SameView t o) (tickNetwork t) (tickNetwork t) 0 (networks t) _ _ (λ n x y a b. either-way (tick-network n (omega arith)) x y) v))
 
-  marked-alike : (s₁ s₂ : List ℕ) → SameView t o s₁ s₂ → Alike t o (arbitrateMarked t s₁) (arbitrateMarked t s₂)
+  marked-alike : (os₁ os₂ s₁ s₂ : List ℕ) → SameView t o s₁ s₂ → AlikeIf t o os₁ os₂ (arbitrateMarked t os₁ s₁) (arbitrateMarked t os₂ s₂)
   unfolding arbitrateMarked markedIn
-  marked-alike s₁ s₂ v = arbitrate-alike t f o (markedIn t s₁) (markedIn t s₂) (λ p b h. rw (v .same p (port-word t o p b ∙ h))) v
+  marked-alike os₁ os₂ s₁ s₂ v =
+      arbitrate-alike t f o (markedIn t s₁) (markedIn t s₂) (λ p b h. rw (v .same p (port-word t o p b ∙ h))) os₁ os₂ v
 
-  tick-confined : ConfinedRun t o platform (λ s. tick t s)
+  tick-confined : ConfinedRun t o platform (λ os s. tick t os s)
   unfolding tick
-  tick-confined = record { hidden = λ h s. clash h (platform-known o); alike = λ h s₁ s₂ v. marked-alike _ _ (things-alike s₁ s₂ v) }
+  tick-confined =
+      record {
+        hidden = λ h os s. clash h (platform-known o);
+        alike = λ h os₁ os₂ s₁ s₂ v. marked-alike os₁ os₂ _ _ (things-alike s₁ s₂ v);
+      }
 
 -- An event that is not refused is its thing's owner's; a tick is the platform's.
 
-pub happen-confined : (t : List ℕ) (f : Facts t) (o e : ℕ) → Taken t e → ConfinedRun t o (eventOwner e) (λ s. happen t e s)
-happen-confined t f o e w = go (λ s. happen t e s) (event t e w)
+pub happen-confined : (t : List ℕ) (f : Facts t) (o e : ℕ) → Taken t e → ConfinedRun t o (eventOwner e) (λ os s. happen t e os s)
+happen-confined t f o e w = go (λ os s. happen t e os s) (event t e w)
   where
-    go : (g : List ℕ → Run) → Event t e g → ConfinedRun t o (eventOwner e) g
+    go : (g : List ℕ → List ℕ → Run) → Event t e g → ConfinedRun t o (eventOwner e) g
     go g (aTick k own) = rw own (tick-confined t f o)
     go g (aMode k of m free) = rw (of .owner) (request-confined t f o (eventIndex e) (of .there) (eventValue e))
     go g (aRequest k of m) = rw (of .owner) (request-confined t f o (eventIndex e) (of .there) 1)

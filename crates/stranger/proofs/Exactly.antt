@@ -52,7 +52,8 @@ unfolding busOffTaken nextNetwork offBus
 bus-off-exactly t h n b s x f fit =
     let c = networkIn t n s in
     let own : networkIn t n (x .state) .state ≡ nextNetwork t (facts t h) n b (x .event) s .state =
-    ap (λ (y : List ℕ). networkIn t n y .state) (f .state) ∙ ap (λ (y : Network). y .state) (network-moves t (facts t h) n b (x .event) s (taken f) fit .own) in
+    ap (λ (y : List ℕ). networkIn t n y .state) (f .state)
+    ∙ ap (λ (y : Network). y .state) (network-moves t (facts t h) n b (x .event) _ s (taken f) fit .own) in
     rw own
     (split (eqb (eventKind (x .event)) eventTick)
     (λ d. rw (eqb-true (eventKind (x .event)) eventTick d)
@@ -74,7 +75,7 @@ ticked-unheard t n c d = ticked-cases t n c (λ x. x .heard ≡ 1 → ⊥) (λ s
 next-heard : (t : List ℕ) (h : accepted t ≡ true) (n : ℕ) (b : n < networks t) (s : List ℕ) (x : Entry) → Follows t s x → Fits t s
     → networkIn t n (x .state) .heard ≡ nextNetwork t (facts t h) n b (x .event) s .heard
 next-heard t h n b s x f fit =
-    ap (λ (y : List ℕ). networkIn t n y .heard) (f .state) ∙ ap (λ (y : Network). y .heard) (network-moves t (facts t h) n b (x .event) s (taken f) fit .own)
+    ap (λ (y : List ℕ). networkIn t n y .heard) (f .state) ∙ ap (λ (y : Network). y .heard) (network-moves t (facts t h) n b (x .event) _ s (taken f) fit .own)
 
 pub heard-kept : (t : List ℕ) (h : accepted t ≡ true) (n : ℕ) (b : n < networks t) (s : List ℕ) (x : Entry) → Follows t s x → Fits t s
     → heardTaken t n s x ≡ true → networkIn t n (x .state) .heard ≡ 1

@@ -31,16 +31,16 @@ heard-full : (t : List ℕ) (n : ℕ) (c : Network) → c .state ≡ stateCheck 
 unfolding tickedNetwork countedNetwork
 heard-full t n c e a h = rw (a, e, h)
 
-module _ (t : List ℕ) (f : Facts t) (e : ℕ) (s : List ℕ) (w : Taken t e) (fit : Fits t s) where
+module _ (t : List ℕ) (f : Facts t) (e : ℕ) (os s : List ℕ) (w : Taken t e) (fit : Fits t s) where
   abbrev after : List ℕ
-  after = happen t e s .state
+  after = happen t e os s .state
 
   -- a heard does what `hear` does, and writes no word
-  state-is : eventKind e ≡ eventHeard → happen t e s .state ≡ hear t (eventIndex e) s
+  state-is : eventKind e ≡ eventHeard → happen t e os s .state ≡ hear t (eventIndex e) s
   unfolding happen changed
   state-is k = rw k
 
-  words-are : eventKind e ≡ eventHeard → happen t e s .words ≡ []
+  words-are : eventKind e ≡ eventHeard → happen t e os s .words ≡ []
   unfolding happen
   words-are k = rw k
 
@@ -49,7 +49,7 @@ module _ (t : List ℕ) (f : Facts t) (e : ℕ) (s : List ℕ) (w : Taken t e) (
       → AtRest state (networkIn t n after)
   unfolding nextNetwork
   ticked n b k state is =
-      let own = network-moves t f n b e s w fit .own in
+      let own = network-moves t f n b e os s w fit .own in
       let next : nextNetwork t f n b e s ≡ moved state 0 0 (networkIn t n s) = rw k is in
       at-rest state _ (moved state 0 0 (networkIn t n s)) (ap (λ (x : Network). x .state) own ∙ ap (λ (x : Network). x .state) next)
       (ap (λ (x : Network). x .counter) own ∙ ap (λ (x : Network). x .counter) next) (ap (λ (x : Network). x .heard) own ∙ ap (λ (x : Network). x .heard) next)
@@ -60,7 +60,7 @@ module _ (t : List ℕ) (f : Facts t) (e : ℕ) (s : List ℕ) (w : Taken t e) (
   gone n b k =
       let o = network-in t s fit n b in let small = o .heard₁ in
       let next : nextNetwork t f n b e s ≡ tickedNetwork t n (networkIn t n s) = rw k in
-      ap (λ (x : Network). x .heard) (network-moves t f n b e s w fit .own) ∙ ap (λ (x : Network). x .heard) next
+      ap (λ (x : Network). x .heard) (network-moves t f n b e os s w fit .own) ∙ ap (λ (x : Network). x .heard) next
       ∙ ticked-cases t n (networkIn t n s) (λ x. x .heard ≡ 0) (λ st j r from. refl)
       (λ other. let not-one : (networkIn t n s .heard ≡ 1 → ⊥) = λ z. other (o .listens z) in omega arith)
 
@@ -72,9 +72,9 @@ module _ (t : List ℕ) (f : Facts t) (e : ℕ) (s : List ℕ) (w : Taken t e) (
       λ kind d. and-one-false _ _ (λ x y. d (eqb-true _ _ x) (eqb-true _ _ y)) in
       let same : nextNetwork t f n b e s ≡ networkIn t n s =
       rw (ne-eqb (eventKind e) eventTick no-tick, other eventBusOff no-bus-off, other eventHeard no-heard) in
-      ap (λ (x : Network). x .heard) (network-moves t f n b e s w fit .own) ∙ ap (λ (x : Network). x .heard) same
+      ap (λ (x : Network). x .heard) (network-moves t f n b e os s w fit .own) ∙ ap (λ (x : Network). x .heard) same
 
-  pub heard-counts : HeardCounts t e s after (happen t e s .words)
+  pub heard-counts : HeardCounts t e s after (happen t e os s .words)
   heard-counts =
       record {
         own = λ k. (of-heard t e w k .there, of-heard t e w k .owner);
@@ -84,6 +84,6 @@ module _ (t : List ℕ) (f : Facts t) (e : ℕ) (s : List ℕ) (w : Taken t e) (
         none = λ n b k a. ticked n b k stateNone (none-before-heard t n _ a);
         silent = λ n b k c a. ticked n b k stateSilent (silent-before-heard t n _ a c);
         gone = gone;
-        only = λ n b h. network-in t after (happen-fits t f e s w fit) n b .listens h;
+        only = λ n b h. network-in t after (happen-fits t f e os s w fit) n b .listens h;
         keeps = keeps;
       }

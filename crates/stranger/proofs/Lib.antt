@@ -1,6 +1,7 @@
 -- The theorems of demand 3.
 pub mod More
 pub mod View
+pub mod Outcomes
 pub mod Alike
 pub mod Owners
 pub mod Evaluation
@@ -24,4 +25,6 @@ pub mod Wakeup
 pub mod Exactly
 pub mod Heard
 pub mod NotEmpty
+pub mod Failing
 pub mod Demand3
+pub mod Partner

@@ -11,7 +11,7 @@ use Rattle.laws.proofs.Happen.{Taken, taken-event}
 use Rattle.stranger.specs.Logs.{Entry, Follows, Log, stateAfter}
 
 pub taken : {t s : List ℕ} {x : Entry} → Follows t s x → Taken t (x .event)
-taken f = taken-event _ _ (f .taken)
+taken f = taken-event _ _ _ (f .taken)
 
 pub after-append : (s : List ℕ) (xs ys : List Entry) → stateAfter s (xs ++ ys) ≡ stateAfter (stateAfter s xs) ys
 unfolding stateAfter
@@ -25,7 +25,7 @@ log-parts t s (x ∷ xs) ys h = let p = log-parts t (x .state) xs ys (h .1) in (
 
 module _ (t : List ℕ) (h : accepted t ≡ true) where
   pub entry-fits : (s : List ℕ) (x : Entry) → Follows t s x → Fits t s → Fits t (x .state)
-  entry-fits s x f fit = rw (f .state) (happen-fits t (facts t h) (x .event) s (taken f) fit)
+  entry-fits s x f fit = rw (f .state) (happen-fits t (facts t h) (x .event) _ s (taken f) fit)
 
   pub log-fits : (s : List ℕ) (xs : List Entry) → Log t s xs → Fits t s → Fits t (stateAfter s xs)
   unfolding stateAfter

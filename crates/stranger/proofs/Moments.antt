@@ -22,6 +22,7 @@ use Rattle.stranger.specs.Logs.{Entry, Follows, Log, strangersEntry, str
 use Rattle.stranger.specs.Demand.{ticks, busOffTaken, hears, heardTaken, heardFrom, settlesAt, asksOther, anyWord, asksAnother, becomesPending, ended}
 use Rattle.stranger.specs.Demand.{networkMoment, sourceMoment, moments}
 use Rattle.stranger.specs.View.{SameView, AsksOwn}
+use Rattle.stranger.specs.Outcomes.{ButStrangers}
 use Rattle.stranger.proofs.Logs.{taken}
 use Rattle.stranger.proofs.View.{port-word, network-word, source-word}
 use Rattle.stranger.proofs.Owners.{self-known}
@@ -30,7 +31,7 @@ use Rattle.stranger.proofs.AsksOwn.{happen-asks-own, asks-in-own-words}
 
 module _ (t : List ℕ) (h : accepted t ≡ true) where
   pub entry-asks-own : (s : List ℕ) (x : Entry) → Follows t s x → Each (AsksOwn t) (x .words)
-  entry-asks-own s x f = rw (f .words) (happen-asks-own t (facts t h) (x .event) s)
+  entry-asks-own s x f = rw (f .words) (happen-asks-own t (facts t h) (x .event) _ s)
 
   -- a heard that is taken is the owner's
   pub heard-by-owner : (n : ℕ) (s : List ℕ) (x : Entry) → Follows t s x → hears n x ≡ true → eventOwner (x .event) ≡ networkOwner t n
@@ -105,7 +106,7 @@ module _ (t : List ℕ) (h : accepted t ≡ true) where
           same-shown (same .state),
         )
 
-    pub network-moments : (s₁ s₂ : List ℕ) (xs ys : List Entry) → Log t s₁ xs → Log t s₂ ys → SameView t o s₁ s₂ → struckOut o xs ≡ struckOut o ys → (j : ℕ)
+    pub network-moments : (s₁ s₂ : List ℕ) (xs ys : List Entry) → Log t s₁ xs → Log t s₂ ys → SameView t o s₁ s₂ → ButStrangers t o xs ys → (j : ℕ)
         → moments (networkMoment t n) j s₁ xs ≡ moments (networkMoment t n) j s₂ ys
     network-moments = moments-beside t h o (networkMoment t n) network-quiet network-alike
 
@@ -113,7 +114,7 @@ module _ (t : List ℕ) (h : accepted t ≡ true) where
 
     bare : List ℕ → List Entry
     bare [] = []
-    bare (e ∷ es) = record { event = e; state = []; words = [] } ∷ bare es
+    bare (e ∷ es) = record { event = e; outcomes = []; state = []; words = [] } ∷ bare es
 
     settles-bare : (L latest k : ℕ) (s : List ℕ) (xs : List Entry) → Log t s xs → settlesAt n L latest k xs ≡ settlesAt n L latest k (bare (struckOut o xs))
     unfolding settlesAt heardFrom hears ticks struckOut bare
@@ -184,6 +185,6 @@ module _ (t : List ℕ) (h : accepted t ≡ true) where
     source-alike j s₁ s₂ x y f g v same =
         rw (wake-same s₁ s₂ x y v same, end-same x y (same .event), same-status v, same-status (same .state), same-status-shown (same .state))
 
-    pub source-moments : (s₁ s₂ : List ℕ) (xs ys : List Entry) → Log t s₁ xs → Log t s₂ ys → SameView t p s₁ s₂ → struckOut p xs ≡ struckOut p ys → (j : ℕ)
+    pub source-moments : (s₁ s₂ : List ℕ) (xs ys : List Entry) → Log t s₁ xs → Log t s₂ ys → SameView t p s₁ s₂ → ButStrangers t p xs ys → (j : ℕ)
         → moments (sourceMoment t k) j s₁ xs ≡ moments (sourceMoment t k) j s₂ ys
     source-moments = moments-beside t h p (sourceMoment t k) source-quiet source-alike

@@ -57,10 +57,10 @@ port-written t s s₁ p old new b small e =
     }))
 
 -- arbitration leaves it so
-pub port-then-still : (t : List ℕ) → Facts t → (p old new : ℕ) → MayShow t p → (q : ℕ → Bool) (s s₁ : List ℕ) → Fits t s₁ → PortMoves p old new s s₁
-    → PortMoves p old new s (arbitrate t q s₁ .state)
-port-then-still t f p old new m q s s₁ fit h =
-    let k = port-still t f p _ _ m q s₁ fit (record { value = refl; defined = refl }) in
+pub port-then-still : (t : List ℕ) → Facts t → (p old new : ℕ) → MayShow t p → (q : ℕ → Bool) (os s s₁ : List ℕ) → Fits t s₁ → PortMoves p old new s s₁
+    → PortMoves p old new s (arbitrate t q os s₁ .state)
+port-then-still t f p old new m q os s s₁ fit h =
+    let k = port-still t f p _ _ m q os s₁ fit (record { value = refl; defined = refl }) in
     record { value = λ v. k .value ∙ h .value v; defined = k .defined ∙ h .defined }
 
 -- A thing.
@@ -72,7 +72,7 @@ pub record Moves {X : Type 0} (i p : ℕ) (core : ℕ → X) (show : X → ℕ) 
 -- The thing at index i with port p: what it holds, and that arbitration leaves its core alone.
 pub record LeftAlone (t : List ℕ) {X : Type 0} (i p : ℕ) (core : ℕ → X) : Type 0 where
   pub holder : Holder t i p
-  pub still : (q : ℕ → Bool) (s : List ℕ) → Fits t s → core (word (arbitrate t q s .state) i) ≡ core (word s i)
+  pub still : (q : ℕ → Bool) (os s : List ℕ) → Fits t s → core (word (arbitrate t q os s .state) i) ≡ core (word s i)
 
 module _ (t : List ℕ) (f : Facts t) {X : Type 0} (i p : ℕ) (core : ℕ → X) (show : X → ℕ) (h : LeftAlone t i p core) where
   abbrev now : List ℕ → X
@@ -81,8 +81,10 @@ module _ (t : List ℕ) (f : Facts t) {X : Type 0} (i p : ℕ) (core : ℕ → X
   pub stays : (s s′ : List ℕ) → Cells i p s s′ → Moves i p core show (now s) s s′
   stays s s′ c = record { own = ap core (c .own); port = port-stays p _ s s′ (c .port) }
 
-  pub then-still : (x : X) (q : ℕ → Bool) (s s₁ : List ℕ) → Fits t s₁ → Moves i p core show x s s₁ → Moves i p core show x s (arbitrate t q s₁ .state)
-  then-still x q s s₁ fit m = record { own = h .still q s₁ fit ∙ m .own; port = port-then-still t f p _ _ (h .holder .may) q s s₁ fit (m .port) }
+  pub then-still : (x : X) (q : ℕ → Bool) (os s s₁ : List ℕ) → Fits t s₁ → Moves i p core show x s s₁
+      → Moves i p core show x s (arbitrate t q os s₁ .state)
+  then-still x q os s s₁ fit m =
+      record { own = h .still q os s₁ fit ∙ m .own; port = port-then-still t f p _ _ (h .holder .may) q os s s₁ fit (m .port) }
 
   pub carried : (x : X) (s s₁ s₂ : List ℕ) → Moves i p core show x s s₁ → Cells i p s₁ s₂ → Moves i p core show x s s₂
   carried x s s₁ s₂ m k =
@@ -102,26 +104,26 @@ module _ (t : List ℕ) (f : Facts t) {X : Type 0} (i p : ℕ) (core : ℕ → X
   pub by-source : (m status r : ℕ) (s : List ℕ) → m < sources t → (sourceIndex t m ≡ i → ⊥) → Moves i p core show (now s) s (moveSource t m status r s)
   by-source m status r s b d = stays s _ (other-source t f i p (h .holder) s m status r s b d (cells-refl i p s))
 
-  by-port : (q v : ℕ) (s : List ℕ) → q < ports t → (q ≡ p → ⊥) → (portKind t q ≡ portTimer → ⊥) → v < 256 → (portKind t q ≡ portEvent → v ≤ 1) → Fits t s
-      → Moves i p core show (now s) s (request t q v s .state)
+  by-port : (q v : ℕ) (os s : List ℕ) → q < ports t → (q ≡ p → ⊥) → (portKind t q ≡ portTimer → ⊥) → v < 256 → (portKind t q ≡ portEvent → v ≤ 1) → Fits t s
+      → Moves i p core show (now s) s (request t q v os s .state)
   unfolding setPort
-  by-port q v s c apart nt v₈ ev fit =
+  by-port q v os s c apart nt v₈ ev fit =
       let above : ports t ≤ i = h .holder .above in
       let cells : (w : ℕ) → Cells i p s (set s q w) = λ w. cells-write i p q w s s (λ z. omega arith) (λ z. apart (sym z)) (cells-refl i p s) in
-      request-cases t f (λ x. Moves i p core show (now s) s (x .state)) q v s c nt v₈ ev fit
-      (λ fit₁. stays s _ (cells _)) (λ fit₁. then-still _ (only q) s _ fit₁ (stays s _ (cells _)))
+      request-cases t f (λ x. Moves i p core show (now s) s (x .state)) q v os s c nt v₈ ev fit
+      (λ fit₁. stays s _ (cells _)) (λ fit₁. then-still _ (only q) os s _ fit₁ (stays s _ (cells _)))
 
-  pub by-mode-request : (e : ℕ) (s : List ℕ) → OfPort t e → portKind t (eventIndex e) ≡ portMode → held t (eventIndex e) (networks t) (sources t) ≡ false
-      → Fits t s → Moves i p core show (now s) s (request t (eventIndex e) (eventValue e) s .state)
-  by-mode-request e s of m free fit =
-      by-port (eventIndex e) (eventValue e) s (of .there) (h .holder .requests (eventIndex e) free) (λ z. omega arith) (digit-small _ 256 _ (omega arith))
+  pub by-mode-request : (e : ℕ) (os s : List ℕ) → OfPort t e → portKind t (eventIndex e) ≡ portMode → held t (eventIndex e) (networks t) (sources t) ≡ false
+      → Fits t s → Moves i p core show (now s) s (request t (eventIndex e) (eventValue e) os s .state)
+  by-mode-request e os s of m free fit =
+      by-port (eventIndex e) (eventValue e) os s (of .there) (h .holder .requests (eventIndex e) free) (λ z. omega arith) (digit-small _ 256 _ (omega arith))
       (λ z. absurd (omega arith)) fit
 
-  pub by-event-request : (e : ℕ) (s : List ℕ) → OfPort t e → portKind t (eventIndex e) ≡ portEvent → Fits t s
-      → Moves i p core show (now s) s (request t (eventIndex e) 1 s .state)
-  by-event-request e s of m fit =
+  pub by-event-request : (e : ℕ) (os s : List ℕ) → OfPort t e → portKind t (eventIndex e) ≡ portEvent → Fits t s
+      → Moves i p core show (now s) s (request t (eventIndex e) 1 os s .state)
+  by-event-request e os s of m fit =
       let mode : portKind t p ≡ portMode = h .holder .may .mode in
-      by-port (eventIndex e) 1 s (of .there) (λ z. let same : portKind t (eventIndex e) ≡ portKind t p = ap (λ (u : ℕ). portKind t u) z in omega arith)
+      by-port (eventIndex e) 1 os s (of .there) (λ z. let same : portKind t (eventIndex e) ≡ portKind t p = ap (λ (u : ℕ). portKind t u) z in omega arith)
       (λ z. omega arith) (omega arith) (λ z. omega arith) fit
 
   pub by-nothing : (s : List ℕ) → Moves i p core show (now s) s s
@@ -154,8 +156,8 @@ pub network-held : (t : List ℕ) → Facts t → (n : ℕ) → n < networks t �
 network-held t f n b =
     record {
       holder = network-holder t f n b;
-      still = λ q s fit. core-path _ _
-          (network-still t f n (networkIn t n s) b q s fit (record { state = refl; counter = refl; heard = refl; remaining = refl }));
+      still = λ q os s fit. core-path _ _
+          (network-still t f n (networkIn t n s) b q os s fit (record { state = refl; counter = refl; heard = refl; remaining = refl }));
     }
 
 -- the network's word, whether or not its port is written after it
@@ -250,15 +252,15 @@ module _ (t : List ℕ) (f : Facts t) (n : ℕ) (b : n < networks t) where
   network-by-network e s c fit g (aHeard k) =
       rw k (network-by-own listens (λ m x. hearing x) (eventIndex e) s c fit (λ d. hearing-ok t f n _ (network-in t s fit n b) d))
 
-  pub network-moves : (e : ℕ) (s : List ℕ) → Taken t e → Fits t s → NetworkMoves (nextNetwork e s) s (happen t e s .state)
-  network-moves e s w fit = go (happen t e) (event t e w)
+  pub network-moves : (e : ℕ) (os s : List ℕ) → Taken t e → Fits t s → NetworkMoves (nextNetwork e s) s (happen t e os s .state)
+  network-moves e os s w fit = go (happen t e) (event t e w)
     where
-      go : (g : List ℕ → Run) → Event t e g → NetworkMoves (nextNetwork e s) s (g s .state)
+      go : (g : List ℕ → List ℕ → Run) → Event t e g → NetworkMoves (nextNetwork e s) s (g os s .state)
       go g (aTick k o) =
           unfold nextNetwork tick arbitrateMarked in
-          rw k (then-still t f _ _ coreOf shownBy held-network _ _ s _ (things-fit t f s fit) (things-move s fit))
-      go g (aMode k of m free) = quiet e s _ (λ z. omega arith) (rw k) (by-mode-request t f _ _ coreOf shownBy held-network e s of m free fit)
-      go g (aRequest k of m) = quiet e s _ (λ z. omega arith) (rw k) (by-event-request t f _ _ coreOf shownBy held-network e s of m fit)
+          rw k (then-still t f _ _ coreOf shownBy held-network _ _ os s _ (things-fit t f s fit) (things-move s fit))
+      go g (aMode k of m free) = quiet e s _ (λ z. omega arith) (rw k) (by-mode-request t f _ _ coreOf shownBy held-network e os s of m free fit)
+      go g (aRequest k of m) = quiet e s _ (λ z. omega arith) (rw k) (by-event-request t f _ _ coreOf shownBy held-network e os s of m fit)
       go g (ofSource k free of u c) =
           quiet e s _ (λ z. omega arith) free (source-to t f (NetworkMoves (networkIn t n s) s) e s u c
           (λ status r ok. network-by-source (eventIndex e) status r s (of .there)) (network-by-nothing s))
@@ -270,7 +272,7 @@ abbrev pub wordOf : ℕ → ℕ
 wordOf w = w
 
 pub source-held : (t : List ℕ) → Facts t → (k : ℕ) → k < sources t → LeftAlone t (sourceIndex t k) (sourcePort t k) wordOf
-source-held t f k b = record { holder = source-holder t f k b; still = λ q s fit. source-still t f k (word s (sourceIndex t k)) b q s fit refl }
+source-held t f k b = record { holder = source-holder t f k b; still = λ q os s fit. source-still t f k (word s (sourceIndex t k)) b q os s fit refl }
 
 module _ (t : List ℕ) (f : Facts t) (k : ℕ) (b : k < sources t) where
   abbrev SourceMoves : ℕ → List ℕ → List ℕ → Type 0
@@ -378,15 +380,15 @@ module _ (t : List ℕ) (f : Facts t) (k : ℕ) (b : k < sources t) where
   next-still e s g (aBusOff z) = rw z
   next-still e s g (aHeard z) = rw z
 
-  pub source-moves : (e : ℕ) (s : List ℕ) → Taken t e → Fits t s → SourceMoves (nextSource e s) s (happen t e s .state)
-  source-moves e s w fit = go (happen t e) (event t e w)
+  pub source-moves : (e : ℕ) (os s : List ℕ) → Taken t e → Fits t s → SourceMoves (nextSource e s) s (happen t e os s .state)
+  source-moves e os s w fit = go (happen t e) (event t e w)
     where
-      go : (g : List ℕ → Run) → Event t e g → SourceMoves (nextSource e s) s (g s .state)
+      go : (g : List ℕ → List ℕ → Run) → Event t e g → SourceMoves (nextSource e s) s (g os s .state)
       go g (aTick z o) =
           unfold nextSource tick arbitrateMarked in
-          rw z (then-still t f _ _ wordOf _ held-source _ _ s _ (things-fit t f s fit) (source-things-move s fit))
-      go g (aMode z of m free) = unfold nextSource in rw z (by-mode-request t f _ _ wordOf _ held-source e s of m free fit)
-      go g (aRequest z of m) = unfold nextSource in rw z (by-event-request t f _ _ wordOf _ held-source e s of m fit)
+          rw z (then-still t f _ _ wordOf _ held-source _ _ os s _ (things-fit t f s fit) (source-things-move s fit))
+      go g (aMode z of m free) = unfold nextSource in rw z (by-mode-request t f _ _ wordOf _ held-source e os s of m free fit)
+      go g (aRequest z of m) = unfold nextSource in rw z (by-event-request t f _ _ wordOf _ held-source e os s of m fit)
       go g (ofSource z free of u c) = source-by-source e s (of .there) fit u c
       go g (ofNetwork z of u c) =
           rw (next-still e s u c) (network-to t f (SourceMoves (word s (sourceIndex t k)) s) e s u c (of .there) fit

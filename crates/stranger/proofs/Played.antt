@@ -13,7 +13,8 @@ use Rattle.rulebook.specs.Step.{refusedEvent}
 use Rattle.rulebook.specs.Play.{Play, playOn}
 use Rattle.laws.specs.Sequence.{Each}
 use Rattle.laws.proofs.Tests.{split}
-use Rattle.laws.proofs.Play.{play-cases}
+use Rattle.laws.proofs.Play.{none-heeded, play-cases}
+use Rattle.laws.proofs.Steps.{none-lent}
 use Rattle.stranger.specs.Logs.{Entry, Log, stateAfter, logFrom, joined, strangersEntry, struckOut}
 
 -- Two parts of a log.
@@ -21,8 +22,9 @@ use Rattle.stranger.specs.Logs.{Entry, Log, stateAfter, logFrom, joined,
 pub log-append : (t s es fs : List ℕ) → logFrom t s (es ++ fs) ≡ logFrom t s es ++ logFrom t (stateAfter s (logFrom t s es)) fs
 unfolding logFrom stateAfter
 log-append t s [] fs = refl
-log-append t s (e ∷ es) fs = ap (λ (xs : List Entry). record { event = e; state = happen t e s .state; words = happen t e s .words } ∷ xs)
-    (log-append t (happen t e s .state) es fs)
+log-append t s (e ∷ es) fs =
+    ap (λ (xs : List Entry). record { event = e; outcomes = []; state = happen t e [] s .state; words = happen t e [] s .words } ∷ xs)
+    (log-append t (happen t e [] s .state) es fs)
 
 pub log-together : (t s : List ℕ) (xs ys : List Entry) → Log t s xs → Log t (stateAfter s xs) ys → Log t s (xs ++ ys)
 unfolding stateAfter
@@ -44,15 +46,15 @@ none-taken : (t es s : List ℕ) (k : ℕ) → LogOf t es s (record { answer = k
 unfolding logFrom stateAfter joined
 none-taken t es s k = record { log = tt; state = refl; words = refl }
 
-one-more : (t : List ℕ) (e : ℕ) (es s : List ℕ) (p : Play) → refusedEvent t e ≡ 0 → LogOf t es (happen t e s .state) p
-    → LogOf t (e ∷ es) s (record { answer = p .answer; taken = 1 + p .taken; state = p .state; words = happen t e s .words ++ p .words })
+one-more : (t : List ℕ) (e : ℕ) (es s : List ℕ) (p : Play) → refusedEvent t [] e ≡ 0 → LogOf t es (happen t e [] s .state) p
+    → LogOf t (e ∷ es) s (record { answer = p .answer; taken = 1 + p .taken; state = p .state; words = happen t e [] s .words ++ p .words })
 unfolding logFrom stateAfter joined
 one-more t e es s p z i =
     rw one-add
     (record {
-      log = (record { taken = z; state = refl; words = refl }, i .log);
+      log = (record { taken = z; state = rw none-heeded; words = rw none-heeded }, i .log);
       state = i .state;
-      words = ap (λ (ws : List ℕ). happen t e s .words ++ ws) (i .words);
+      words = ap (λ (ws : List ℕ). happen t e [] s .words ++ ws) (i .words);
     })
 
 pub log-of-play : (t : List ℕ) → accepted t ≡ true → (es s : List ℕ) (room : ℕ) → fits t s ≡ true → LogOf t es s (playOn t es s room)
@@ -60,7 +62,7 @@ log-of-play t ok =
     play-cases t ok (λ es s room p. LogOf t es s p)
     (λ s room f. none-taken t [] s 0)
     (λ e es s room f h. none-taken t (e ∷ es) s 3)
-    (λ e es s room f h n a b. none-taken t (e ∷ es) s (refusedEvent t e))
+    (λ e es s room f h n a b. none-taken t (e ∷ es) s (refusedEvent t [] e))
     (λ e es s room k i. one-more t e es s _ (k .event) i)
 
 -- The events of a log with the strangers' struck out: each is taken, and striking out again takes nothing.
@@ -73,12 +75,13 @@ struck-own : (o : ℕ) (x : Entry) (xs : List Entry) → strangersEntry o x ≡ 
 unfolding struckOut
 struck-own o x xs a = rw (a, struckOut)
 
-pub struck-taken : (t s : List ℕ) (o : ℕ) (xs : List Entry) → Log t s xs → Each (λ e. refusedEvent t e ≡ 0) (struckOut o xs)
+pub struck-taken : (t s : List ℕ) (o : ℕ) (xs : List Entry) → Log t s xs → Each (λ e. refusedEvent t [] e ≡ 0) (struckOut o xs)
 unfolding struckOut
 struck-taken t s o [] l = tt
 struck-taken t s o (x ∷ xs) l =
     let later = struck-taken t (x .state) o xs (l .1) in
-    split (strangersEntry o x) (λ a. rw (struck-stranger o x xs a) later) (λ a. rw (struck-own o x xs a) (l .0 .taken, later))
+    split (strangersEntry o x) (λ a. rw (struck-stranger o x xs a) later)
+    (λ a. rw (struck-own o x xs a) (none-lent t (x .outcomes) (x .event) (l .0 .taken), later))
 
 -- an entry is a stranger's by its event alone
 same-sender : (o e : ℕ) (x : Entry) → x .event ≡ e → (b : Bool) → stranger o (eventOwner e) ≡ b → strangersEntry o x ≡ b
@@ -100,4 +103,4 @@ struck-again t s o (x ∷ xs) =
     ∙ ap (λ (es : List ℕ). x .event ∷ es) (struck-again t (again .state) o xs)))
   where
     again : Entry
-    again = record { event = x .event; state = happen t (x .event) s .state; words = happen t (x .event) s .words }
+    again = record { event = x .event; outcomes = []; state = happen t (x .event) [] s .state; words = happen t (x .event) [] s .words }

@@ -13,7 +13,8 @@ use Rattle.rulebook.specs.Reasons.{accepted}
 use Rattle.rulebook.specs.State.{networkIndex, sourceIndex, stateLength, definedOf, valueOf, networkOf, statusOf, packPort, freshPort, freshThing, freshAt}
 use Rattle.rulebook.specs.State.{fresh}
 use Rattle.rulebook.specs.Lists.{networkIn}
-use Rattle.rulebook.specs.Events.{shown, happen}
+use Rattle.rulebook.specs.Events.{shown}
+use Rattle.rulebook.specs.Step.{heeded}
 use Rattle.laws.proofs.Tests.{split}
 use Rattle.laws.proofs.Walks.{listed-at}
 use Rattle.laws.proofs.Parts.{thing-port, thing-network, thing-source}
@@ -21,7 +22,7 @@ use Rattle.laws.proofs.Facts.{facts}
 use Rattle.laws.proofs.FitKept.{Fits}
 use Rattle.laws.proofs.FitEvents.{MayShow, may-show}
 use Rattle.laws.proofs.Steps.{fresh-fits}
-use Rattle.stranger.specs.Logs.{Entry, Follows, Log, stateAfter}
+use Rattle.stranger.specs.Logs.{Entry, Follows, Log, stateAfter, ran}
 use Rattle.stranger.specs.Demand.{modeToShow, statusToShow, changes, PortShows}
 use Rattle.stranger.proofs.Logs.{taken, entry-fits}
 use Rattle.stranger.proofs.Moves.{PortMoves, nextNetwork, network-moves, source-moves}
@@ -32,14 +33,16 @@ module _ (t : List ℕ) (h : accepted t ≡ true) where
       → PortMoves (networkPort t n) (modeToShow t n s) (modeToShow t n (x .state)) s (x .state)
   unfolding modeToShow
   network-entry n b s x f fit =
-      let m = network-moves t (facts t h) n b (x .event) s (taken f) fit in
-      let e : nextNetwork t (facts t h) n b (x .event) s .state ≡ networkIn t n (happen t (x .event) s .state) .state = sym (ap (λ y. y .state) (m .own)) in
+      let m = network-moves t (facts t h) n b (x .event) _ s (taken f) fit in
+      let e : nextNetwork t (facts t h) n b (x .event) s .state ≡ networkIn t n (ran t s x .state) .state = sym (ap (λ y. y .state) (m .own)) in
       rw (f .state) (rw (← e) (m .port))
 
   source-entry : (k : ℕ) → k < sources t → (s : List ℕ) (x : Entry) → Follows t s x → Fits t s
       → PortMoves (sourcePort t k) (statusToShow t k s) (statusToShow t k (x .state)) s (x .state)
   unfolding statusToShow
-  source-entry k b s x f fit = let m = source-moves t (facts t h) k b (x .event) s (taken f) fit in rw (f .state) (rw (m .own) (m .port))
+  source-entry k b s x f fit =
+      let m = source-moves t (facts t h) k b (x .event) (heeded t (x .outcomes)) s (taken f) fit in
+      rw (f .state) (rw (m .own) (m .port))
 
 -- a log
 module _ (t : List ℕ) (h : accepted t ≡ true) (p : ℕ) (look : List ℕ → ℕ)

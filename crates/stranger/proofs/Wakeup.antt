@@ -86,7 +86,7 @@ module _ (t : List ℕ) (h : accepted t ≡ true) (k : ℕ) (b : k < sources t) 
   Own s = word s (sourceIndex t k)
 
   pub next-own : (s : List ℕ) (x : Entry) → Follows t s x → Fits t s → Own (x .state) ≡ nextSource t f k b (x .event) s
-  next-own s x l fit = ap (λ (y : List ℕ). word y (sourceIndex t k)) (l .state) ∙ source-moves t f k b (x .event) s (taken l) fit .own
+  next-own s x l fit = ap (λ (y : List ℕ). word y (sourceIndex t k)) (l .state) ∙ source-moves t f k b (x .event) _ s (taken l) fit .own
 
   entry-pending : (j : ℕ) (s : List ℕ) (x : Entry) → Follows t s x → Fits t s → ended k x ≡ false → cond (ticks x) 1 0 + j < T → PendingAt T j (Own s)
       → PendingAt T (cond (ticks x) 1 0 + j) (Own (x .state))

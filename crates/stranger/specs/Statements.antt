@@ -13,6 +13,7 @@ use Rattle.rulebook.specs.Events.{eventOwner, statusIn}
 use Rattle.laws.specs.Sequence.{Each}
 use Rattle.stranger.specs.Logs.{Entry, stateAfter, strangersEntry, struckOut}
 use Rattle.stranger.specs.View.{AsksOwn, Unseen, seen}
+use Rattle.stranger.specs.Outcomes.{ButStrangers}
 use Rattle.stranger.specs.Demand.{ticks, tickCount, busOffTaken, hears, heardTaken, loaded, lastAskedIn, leftAlone, settlesAt, nothingHeard, Phase}
 use Rattle.stranger.specs.Demand.{becomesPending, ended, notEnded, Waiting}
 use Rattle.stranger.specs.Demand.{endStatus, showsStatus, networkMoment, sourceMoment, moments, modeToShow, statusToShow, PortShows}
@@ -97,20 +98,20 @@ pub record SourceWaits (t s : List ℕ) (Went : List Entry → Type 0) : Type 0 
 
 -- "No event sent under another operator's number, the platform's excepted, can alter these ticks or bring about either exception:
 -- with all such events struck out, each of them falls at the same tick." Two logs whose events agree once the strangers' are struck
--- out have the same moments, of each network and source of the operator and of the platform: the bus-offs taken with the wait that
--- each loads, the heards taken, the requests of another mode, the turns to recover, check and full, the wakeups, their ends and expiries, each at the
--- same tick counted from fresh.
+-- out, and whose calls of the operator and of the platform then meet the same outcomes (Q-9), have the same moments, of each network and
+-- source of the operator and of the platform: the bus-offs taken with the wait that each loads, the heards taken, the requests of another
+-- mode, the turns to recover, check and full, the wakeups, their ends and expiries, each at the same tick counted from fresh.
 pub record NoStranger (t s : List ℕ) (Went : List Entry → Type 0) : Type 0 where
-  pub network : (n : ℕ) → n < networks t → (xs ys : List Entry) → Went xs → Went ys → struckOut (networkOwner t n) xs ≡ struckOut (networkOwner t n) ys
+  pub network : (n : ℕ) → n < networks t → (xs ys : List Entry) → Went xs → Went ys → ButStrangers t (networkOwner t n) xs ys
       → moments (networkMoment t n) 0 s xs ≡ moments (networkMoment t n) 0 s ys
-  -- so the tick at which a network is settled is the same, whatever went before
+  -- so the tick at which a network is settled is the same, whatever went before, and whatever calls met
   pub settles : (n : ℕ) → n < networks t → (before xs before′ ys : List Entry) → Went (before ++ xs) → Went (before′ ++ ys)
       → struckOut (networkOwner t n) xs ≡ struckOut (networkOwner t n) ys
       → (L latest k : ℕ) → settlesAt n L latest k xs ≡ settlesAt n L latest k ys
-  pub source : (k : ℕ) → k < sources t → (xs ys : List Entry) → Went xs → Went ys → struckOut (sourceOwner t k) xs ≡ struckOut (sourceOwner t k) ys
+  pub source : (k : ℕ) → k < sources t → (xs ys : List Entry) → Went xs → Went ys → ButStrangers t (sourceOwner t k) xs ys
       → moments (sourceMoment t k) 0 s xs ≡ moments (sourceMoment t k) 0 s ys
   -- the view behind it, for every operator o and for the platform: o sees the same after each entry that is no stranger's
-  pub same : (o : ℕ) (xs ys : List Entry) → Went xs → Went ys → struckOut o xs ≡ struckOut o ys → seen t o xs ≡ seen t o ys
+  pub same : (o : ℕ) (xs ys : List Entry) → Went xs → Went ys → ButStrangers t o xs ys → seen t o xs ≡ seen t o ys
   -- and nothing of a stranger's entry
   pub unseen : (o : ℕ) (xs : List Entry) (x : Entry) → Went (xs ++ x ∷ []) → strangersEntry o x ≡ true → Unseen t o (stateAfter s xs) x
   -- a trace word that asks a network for a mode carries the network's owner or the platform
