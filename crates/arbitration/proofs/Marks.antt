@@ -4,7 +4,7 @@ use mathlib.Core.Path.{_≡_, refl, sym, ap, fun-ext, _∙_}
 use mathlib.Core.Bool.{Bool, false, cond, and-false}
 use mathlib.Core.List.{List}
 use native.Mathlib.Omega.{arith}
-use lib.ListN.{length, set, length-set, replicate}
+use lib.ListN.{length, drop, set, length-set, replicate}
 use lib.Seq.{getD-set-other}
 use lib.Dec.{eqb, ltb}
 use borrow.Author.Tests.{eq-eqb, ne-eqb, eqb-true, eqb-false, ltb-true, ltb-false, le-ltb}
@@ -21,7 +21,7 @@ use Rattle.laws.proofs.Walks.{any-at}
 use Rattle.laws.proofs.Order.{each-weaker, order-there}
 use Rattle.lists.specs.Runs.{Ran, nothing}
 use Rattle.lists.proofs.Along.{ran-none}
-use Rattle.arbitration.specs.Outcomes.{Marked}
+use Rattle.arbitration.specs.Results.{Marked}
 use Rattle.arbitration.proofs.Picking.{none-chosen}
 
 -- one port
@@ -108,16 +108,17 @@ module _ (t : List ℕ) (q : ℕ → Bool) (none : (p : ℕ) → q p ≡ false) 
   unfolding chosen chooses
   chosen-none s l = any-none (chooses t q s l) 0 (rules t) (λ r. rw (evaluated-none s r))
 
-  arbitrate-none : (s : List ℕ) → arbitrate t q s ≡ start s
+  arbitrate-none : (os s : List ℕ) → arbitrate t q os s ≡ start os s
   unfolding arbitrate decide
-  arbitrate-none s =
+  arbitrate-none os s =
       rw (unmark-none s, store-none s)
-      (none-chosen t (chosen t q s) (order t) (start s) (each-weaker _ (λ l. chosen t q s l ≡ false) (order t) (λ l z. chosen-none s l) (order-there t)))
+      (none-chosen t (chosen t q s) (order t) (start os s) (each-weaker _ (λ l. chosen t q s l ≡ false) (order t) (λ l z. chosen-none s l) (order-there t)))
 
 none-marked : (t s : List ℕ) → any 0 (ports t) (markedIn t s) ≡ false → (p : ℕ) → markedIn t s p ≡ false
 unfolding markedIn
 none-marked t s h p =
     split (ltb p (ports t)) (λ e. any-at (markedIn t s) 0 (ports t) p h (omega arith) (let z : p < ports t = ltb-true _ _ e in omega arith)) (λ e. rw e)
 
-pub nothing-marked : (t s T : List ℕ) → any 0 (ports t) (markedIn t s) ≡ false → Ran (arbitrate t (markedIn t s) s) s T T nothing
-nothing-marked t s T h = rw (arbitrate-none t (markedIn t s) (none-marked t s h) s) (ran-none s T)
+pub nothing-marked : (t os : List ℕ) (read : ℕ) (s T : List ℕ) → any 0 (ports t) (markedIn t s) ≡ false
+    → Ran os (arbitrate t (markedIn t s) (drop read os) s) s T T (nothing read)
+nothing-marked t os read s T h = rw (arbitrate-none t (markedIn t s) (none-marked t s h) (drop read os) s) (ran-none os read s T)

@@ -19,7 +19,7 @@ use Rattle.walks.proofs.Walks.{any-step, any-end}
 use Rattle.laws.proofs.Tests.{split}
 use Rattle.laws.proofs.Fields.{digit-small}
 use Rattle.laws.proofs.Items.{result-small}
-use Rattle.arbitration.specs.Outcomes.{outcome, Outcomes, storeBy, choosesBy, pickBy, Chosen}
+use Rattle.arbitration.specs.Results.{ruleResult, Results, storeBy, choosesBy, pickBy, Chosen}
 
 list-small : (t : List ℕ) (r result : ℕ) → listFor t r result < 256
 list-small t r result = split (eqb result 1) (λ e. rw e (digit-small _ 256 _ (omega arith))) (λ e. rw e (digit-small _ 256 _ (omega arith)))
@@ -69,14 +69,14 @@ unfolding any
 any-same p q i zero h = refl
 any-same p q i (suc n) h = ap₂ _||_ (h i (omega arith) (omega arith)) (any-same p q (suc i) n (λ j b c. h j (omega arith) (omega arith)))
 
--- The outcomes are right: then so are what is stored and what is chosen.
-module _ (t : List ℕ) (q : ℕ → Bool) (s results : List ℕ) (o : Outcomes t q s results) where
+-- The results are right: then so are what is stored and what is chosen.
+module _ (t : List ℕ) (q : ℕ → Bool) (s results : List ℕ) (o : Results t q s results) where
   is-result : (r : ℕ) → r < rules t → evaluated t q s r ≡ true → word results r ≡ resultIn t s r
-  unfolding outcome
+  unfolding ruleResult
   is-result r h e = o .says r h ∙ rw e
 
   is-none : (r : ℕ) → r < rules t → evaluated t q s r ≡ false → word results r ≡ 2
-  unfolding outcome
+  unfolding ruleResult
   is-none r h e = o .says r h ∙ rw e
 
   no-two : (r : ℕ) → resultIn t s r ≡ 2 → ⊥
@@ -102,7 +102,7 @@ module _ (t : List ℕ) (q : ℕ → Bool) (s results : List ℕ) (o : Outcomes 
   unfolding chosen
   chose flags c = fun-ext (λ l. c .says l ∙ any-same _ _ 0 (rules t) (λ r a b. choose-at l r (omega arith)))
 
-  pub arbitrated : (s₀ s₂ flags : List ℕ) → s ≡ unmarkPorts t q s₀ → Chosen t results s flags → s₂ ≡ each 0 (rules t) (storeBy t results) s
-      → arbitrate t q s₀ ≡ runChosen t (flagged flags) (order t) (start s₂)
+  pub arbitrated : (os s₀ s₂ flags : List ℕ) → s ≡ unmarkPorts t q s₀ → Chosen t results s flags → s₂ ≡ each 0 (rules t) (storeBy t results) s
+      → arbitrate t q os s₀ ≡ runChosen t (flagged flags) (order t) (start os s₂)
   unfolding arbitrate decide
-  arbitrated s₀ s₂ flags hs c h₂ = rw (← hs, h₂, stored, chose flags c)
+  arbitrated os s₀ s₂ flags hs c h₂ = rw (← hs, h₂, stored, chose flags c)

@@ -1,34 +1,34 @@
--- The chosen lists along a lent trace: the next one, and the end. Assumes nothing.
+-- The chosen lists along a lent trace and lent outcomes: the next one, and the end. Assumes nothing.
 use Prim.Native.Nat.{ℕ, _<_, _≤_}
 use mathlib.Core.Path.{_≡_}
 use mathlib.Core.List.{List}
 use lib.ListN.{set}
 use Rattle.rulebook.specs.Table.{lists}
 use Rattle.rulebook.specs.Expressions.{deepest}
-use Rattle.rulebook.specs.Lists.{Run, start, runList}
+use Rattle.rulebook.specs.Lists.{Run, runList}
 use Rattle.rulebook.specs.Arbitration.{order, runChosen}
 use Rattle.words.specs.Flags.{flagged}
 use Rattle.laws.proofs.Frame.{list-framed, chosen-framed}
 use Rattle.lists.specs.declared.Written.{Written}
 use Rattle.lists.specs.Runs.{Safe, Ran, plus}
-use Rattle.lists.proofs.Along.{Along, along-as, along-end, next-safe, next}
+use Rattle.lists.proofs.Along.{begin, Along, along-as, along-end, next-safe, next}
 use Rattle.lists.proofs.Cycle.{behind, anew}
 use Rattle.arbitration.specs.Picking.{Best}
 use Rattle.arbitration.proofs.Picking.{chosen-turn, chosen-end}
 
-module _ (t flags : List ℕ) (l : ℕ) (b : Best t flags (lists t) l) (whole : Run) (before s T : List ℕ) (w : Written)
-    (a : Along whole (runChosen t (flagged flags) (order t)) before s T w) where
-  pub chosen-ran : lists t ≤ l → Ran whole s before T w
-  chosen-ran h = along-end whole _ before s T w (chosen-end t flags l b h) a
+module _ (t flags : List ℕ) (l : ℕ) (b : Best t flags (lists t) l) (os : List ℕ) (whole : Run) (before s T : List ℕ) (w : Written)
+    (a : Along os whole (runChosen t (flagged flags) (order t)) before s T w) where
+  pub chosen-ran : lists t ≤ l → Ran os whole s before T w
+  chosen-ran h = along-end os whole _ before s T w (chosen-end t flags l b h) a
 
   module _ (flags' : List ℕ) (lowered : flags' ≡ set flags l 0) (h : l < lists t) (safe : Safe whole before) where
-    turned : Along whole (λ x. runChosen t (flagged flags') (order t) (runList deepest t l x)) before s T w
-    turned = along-as whole _ _ before s T w (λ x. rw lowered (chosen-turn t flags l b h x)) a
+    turned : Along os whole (λ x. runChosen t (flagged flags') (order t) (runList deepest t l x)) before s T w
+    turned = along-as os whole _ _ before s T w (rw lowered (chosen-turn t flags l b h _)) a
 
-    pub list-safe : Safe (runList deepest t l (start s)) (behind w T)
-    list-safe = next-safe whole (runList deepest t l) _ (list-framed t deepest l) (chosen-framed t (flagged flags') (order t)) before s T w turned safe
+    pub list-safe : Safe (runList deepest t l (begin os (w .read) s)) (behind w T)
+    list-safe = next-safe os whole (runList deepest t l) _ (list-framed t deepest l) (chosen-framed t (flagged flags') (order t)) before s T w turned safe
 
-    pub list-next : (s' part : List ℕ) (v : Written) → Ran (runList deepest t l (start s)) s' (behind w T) part v
-        → Along whole (runChosen t (flagged flags') (order t)) before s' (anew w T part) (plus w v)
+    pub list-next : (s' part : List ℕ) (v : Written) → Ran os (runList deepest t l (begin os (w .read) s)) s' (behind w T) part v
+        → Along os whole (runChosen t (flagged flags') (order t)) before s' (anew w T part) (plus w v)
     list-next s' part v r =
-        next whole (runList deepest t l) _ (list-framed t deepest l) (chosen-framed t (flagged flags') (order t)) before s T w turned safe s' part v r
+        next os whole (runList deepest t l) _ (list-framed t deepest l) (chosen-framed t (flagged flags') (order t)) before s T w turned safe s' part v r

@@ -8,7 +8,7 @@ use Rattle.words.specs.declared.sections.Layout.{Layout}
 use Rattle.words.specs.Sections.{Laid}
 use Rattle.lists.specs.Runs.{Safe}
 
--- there is a word for each rule's outcome
+-- there is a word for each rule's result
 pub record ResultsLent (t : List ℕ) (h : Layout) (results : List ℕ) : Type 0 where
   pub laid : Laid t h
   pub few : h .rules ≤ 256

@@ -1,4 +1,4 @@
 -- What the contracts of the arbitration cite beside the rulebook.
 pub mod Asked
-pub mod Outcomes
+pub mod Results
 pub mod Picking

@@ -1,6 +1,7 @@
 // Arbitration: the marks of the arbitrated ports are cleared, every rule that is to be evaluated is evaluated before any list runs,
 // and the chosen lists run once each, larger priority first, then lower number.
 ghost use mathlib.Core.Path.{_≡_};
+ghost use lib.ListN.{drop};
 ghost use Rattle.rulebook.specs.Words.{any, each};
 ghost use Rattle.rulebook.specs.Table.{ports as portsOf, rules as rulesOf, lists as listsOf};
 ghost use Rattle.rulebook.specs.Lists.{start};
@@ -9,7 +10,7 @@ ghost use Rattle.rulebook.specs.Events.{only, markedIn, arbitrateMarked};
 ghost use Rattle.words.specs.Flags.{flagged};
 ghost use Rattle.words.specs.Sections.{Laid};
 ghost use Rattle.lists.specs.Runs.{MayRun, Ran};
-ghost use Rattle.arbitration.specs.Outcomes.{outcome as outcomeOf, Outcomes, storeBy, pickBy, Chosen, Marked};
+ghost use Rattle.arbitration.specs.Results.{ruleResult, Results, storeBy, pickBy, Chosen, Marked};
 ghost use Rattle.arbitration.specs.Asked.{ResultsLent, FlagsDown, MayArbitrate, MayArbitratePort};
 ghost use Rattle.arbitration.specs.Picking.{better as betterOf, Best};
 use evaluation;
@@ -56,9 +57,9 @@ fn unmark(t: &[u32], h: Layout, flags: &[u32], s: &mut [u32])
 }
 
 // Rule r's result, if it is to be evaluated: it is not nested-only, mentions a port whose flag is up, and no undefined one. Else 2.
-fn outcome(t: &[u32], h: Layout, flags: &[u32], s: &[u32], r: u32) -> u32
+fn rule_result(t: &[u32], h: Layout, flags: &[u32], s: &[u32], r: u32) -> u32
     requires { ⌜ Laid (now t) h ⌝ }
-    ensures { λ n. ⌜ n ≡ outcomeOf (now (t .entry)) (flagged (now (flags .entry))) (now (s .entry)) r ⌝ }
+    ensures { λ n. ⌜ n ≡ ruleResult (now (t .entry)) (flagged (now (flags .entry))) (now (s .entry)) r ⌝ }
 {
     let rule = sections::rule_at(t, h, r);
     if rule.nested_only != 0 {
@@ -73,21 +74,21 @@ fn outcome(t: &[u32], h: Layout, flags: &[u32], s: &[u32], r: u32) -> u32
     evaluation::result(t, h, s, r)
 }
 
-// The outcomes of all rules, all from the one state, into lent words.
-fn find_outcomes(t: &[u32], h: Layout, flags: &[u32], s: &[u32], results: &mut [u32])
+// The results of all rules, all from the one state, into lent words.
+fn find_results(t: &[u32], h: Layout, flags: &[u32], s: &[u32], results: &mut [u32])
     requires { ⌜ ResultsLent (now t) h (now results) ⌝ }
-    ensures { λ _. ⌜ Outcomes (now (t .entry)) (flagged (now (flags .entry))) (now (s .entry)) (now (results .exit)) ⌝ }
+    ensures { λ _. ⌜ Results (now (t .entry)) (flagged (now (flags .entry))) (now (s .entry)) (now (results .exit)) ⌝ }
 {
     let rules = h.rules;
     let mut r: u32 = 0;
     while r < rules {
-        let found = outcome(t, h, flags, s, r);
+        let found = rule_result(t, h, flags, s, r);
         put(results, r as usize, found);
         r += 1;
     }
 }
 
-// The list that rule r starts by its outcome; 256 where it has no result.
+// The list that rule r starts by its result; 256 where it has no result.
 fn pick(t: &[u32], h: Layout, results: &[u32], s: &[u32], r: u32) -> u32
     requires { ⌜ Laid (now t) h ⌝ }
     ensures { λ l. ⌜ l ≡ pickBy (now (t .entry)) (now (results .entry)) (now (s .entry)) r ⌝ }
@@ -172,18 +173,28 @@ fn best(t: &[u32], h: Layout, flags: &[u32]) -> u32
     l
 }
 
-// Runs the lists whose flags are up, once each; each gets the trace from the first free word on.
-fn run_chosen(t: &[u32], h: Layout, flags: &mut [u32], s: &mut [u32], trace: &mut [u32]) -> Written
-    requires { ⌜ MayRun (now t) h (runChosen (now t) (flagged (now flags)) (order (now t)) (start (now s))) (now trace) ⌝ }
-    ensures { λ w. ⌜ Ran (runChosen (now (t .entry)) (flagged (now (flags .entry))) (order (now (t .entry))) (start (now (s .entry)))) (now (s .exit)) (now (trace .entry)) (now (trace .exit)) w ⌝ }
+// Runs the lists whose flags are up, once each; each gets the trace from the first free word on, and the outcomes that are not read.
+fn run_chosen(
+    t: &[u32],
+    h: Layout,
+    flags: &mut [u32],
+    s: &mut [u32],
+    trace: &mut [u32],
+    outcomes: &[u32],
+    read: usize,
+) -> Written
+    requires { ⌜ MayRun (now t) h (runChosen (now t) (flagged (now flags)) (order (now t)) (start (drop read (now outcomes)) (now s))) (now trace) ⌝ }
+    ensures { λ w. ⌜ Ran (now (outcomes .entry)) (runChosen (now (t .entry)) (flagged (now (flags .entry))) (order (now (t .entry)))
+        (start (drop read (now (outcomes .entry))) (now (s .entry))))
+        (now (s .exit)) (now (trace .entry)) (now (trace .exit)) w ⌝ }
 {
     let lists = h.lists;
-    let mut written = lists::nothing();
+    let mut written = lists::nothing(read);
     let mut l = best(t, h, flags);
     while l < lists {
         put(flags, l as usize, 0);
         let at = written.count;
-        let more = lists::run_list(t, h, l, 7, s, &mut trace[at..]);
+        let more = lists::run_list(t, h, l, 7, s, &mut trace[at..], outcomes, written.read);
         written = lists::plus(written, more);
         l = best(t, h, flags);
     }
@@ -191,27 +202,46 @@ fn run_chosen(t: &[u32], h: Layout, flags: &mut [u32], s: &mut [u32], trace: &mu
 }
 
 // Arbitrates the ports whose flags are up.
-pub fn arbitrate(t: &[u32], h: Layout, flags: &[u32], s: &mut [u32], trace: &mut [u32]) -> Written
-    requires { ⌜ MayArbitrate (now t) h (arbitrateOf (now t) (flagged (now flags)) (now s)) (now trace) ⌝ }
-    ensures { λ w. ⌜ Ran (arbitrateOf (now (t .entry)) (flagged (now (flags .entry))) (now (s .entry))) (now (s .exit)) (now (trace .entry)) (now (trace .exit)) w ⌝ }
+pub fn arbitrate(
+    t: &[u32],
+    h: Layout,
+    flags: &[u32],
+    s: &mut [u32],
+    trace: &mut [u32],
+    outcomes: &[u32],
+    read: usize,
+) -> Written
+    requires { ⌜ MayArbitrate (now t) h (arbitrateOf (now t) (flagged (now flags)) (drop read (now outcomes)) (now s)) (now trace) ⌝ }
+    ensures { λ w. ⌜ Ran (now (outcomes .entry)) (arbitrateOf (now (t .entry)) (flagged (now (flags .entry)))
+        (drop read (now (outcomes .entry))) (now (s .entry)))
+        (now (s .exit)) (now (trace .entry)) (now (trace .exit)) w ⌝ }
 {
     unmark(t, h, flags, s);
     let mut results = [0u32; 256];
-    find_outcomes(t, h, flags, s, &mut results);
+    find_results(t, h, flags, s, &mut results);
     let mut chosen = [0u32; 256];
     choose(t, h, &results, s, &mut chosen);
     store(t, h, &results, s);
-    run_chosen(t, h, &mut chosen, s, trace)
+    run_chosen(t, h, &mut chosen, s, trace, outcomes, read)
 }
 
 // Arbitrates port p alone.
-pub fn arbitrate_one(t: &[u32], h: Layout, p: u32, s: &mut [u32], trace: &mut [u32]) -> Written
-    requires { ⌜ MayArbitratePort (now t) h p (arbitrateOf (now t) (only p) (now s)) (now trace) ⌝ }
-    ensures { λ w. ⌜ Ran (arbitrateOf (now (t .entry)) (only p) (now (s .entry))) (now (s .exit)) (now (trace .entry)) (now (trace .exit)) w ⌝ }
+pub fn arbitrate_one(
+    t: &[u32],
+    h: Layout,
+    p: u32,
+    s: &mut [u32],
+    trace: &mut [u32],
+    outcomes: &[u32],
+    read: usize,
+) -> Written
+    requires { ⌜ MayArbitratePort (now t) h p (arbitrateOf (now t) (only p) (drop read (now outcomes)) (now s)) (now trace) ⌝ }
+    ensures { λ w. ⌜ Ran (now (outcomes .entry)) (arbitrateOf (now (t .entry)) (only p) (drop read (now (outcomes .entry))) (now (s .entry)))
+        (now (s .exit)) (now (trace .entry)) (now (trace .exit)) w ⌝ }
 {
     let mut flags = [0u32; 256];
     flags[p as usize] = 1;
-    arbitrate(t, h, &flags, s, trace)
+    arbitrate(t, h, &flags, s, trace, outcomes, read)
 }
 
 // Whether port p is there and marked.
@@ -255,14 +285,22 @@ fn flag_marked(t: &[u32], h: Layout, s: &[u32], flags: &mut [u32])
 }
 
 // Arbitrates all marked ports. Where none is marked no rule is looked at.
-pub fn arbitrate_marked(t: &[u32], h: Layout, s: &mut [u32], trace: &mut [u32]) -> Written
-    requires { ⌜ MayArbitrate (now t) h (arbitrateMarked (now t) (now s)) (now trace) ⌝ }
-    ensures { λ w. ⌜ Ran (arbitrateMarked (now (t .entry)) (now (s .entry))) (now (s .exit)) (now (trace .entry)) (now (trace .exit)) w ⌝ }
+pub fn arbitrate_marked(
+    t: &[u32],
+    h: Layout,
+    s: &mut [u32],
+    trace: &mut [u32],
+    outcomes: &[u32],
+    read: usize,
+) -> Written
+    requires { ⌜ MayArbitrate (now t) h (arbitrateMarked (now t) (drop read (now outcomes)) (now s)) (now trace) ⌝ }
+    ensures { λ w. ⌜ Ran (now (outcomes .entry)) (arbitrateMarked (now (t .entry)) (drop read (now (outcomes .entry))) (now (s .entry)))
+        (now (s .exit)) (now (trace .entry)) (now (trace .exit)) w ⌝ }
 {
     if !any_marked(t, h, s) {
-        return lists::nothing();
+        return lists::nothing(read);
     }
     let mut flags = [0u32; 256];
     flag_marked(t, h, s, &mut flags);
-    arbitrate(t, h, &flags, s, trace)
+    arbitrate(t, h, &flags, s, trace, outcomes, read)
 }

@@ -3,8 +3,8 @@
 use Prim.Native.Nat.{ℕ}
 use mathlib.Core.Path.{_≡_, refl}
 use mathlib.Core.List.{List, [], _∷_, _++_}
-use Rattle.rulebook.specs.Words.{digit, first, all, any, sum, listed, each}
-use Rattle.rulebook.specs.Table.{part, byItem, stranger}
+use Rattle.rulebook.specs.Words.{digit, first, all, any, sum, listed, each, until}
+use Rattle.rulebook.specs.Table.{part, abort, aSize, byItem, stranger}
 use Rattle.rulebook.specs.Expressions.{operator, expressionNests, expressionWithin, expressionMentions, mentions, condition, expressionHolds, holds}
 use Rattle.rulebook.specs.Reasons.{hasHeader, knownEdition, countsInside, exactLength, portFields, expressionFields, itemFields, ownFields}
 use Rattle.rulebook.specs.Reasons.{networkHas, held, mayShow, expressionNames, listOrNone, itemNames, names, itemNests, listNests, listWithin}
@@ -12,13 +12,15 @@ use Rattle.rulebook.specs.Reasons.{nesting, strangersPort, ruleOwned, itemOwned
 use Rattle.rulebook.specs.Reasons.{reachedBy, reached, itemCost, listCost, costWithin, bound, affordable, breaks, lowest, orNext, firstOf, check}
 use Rattle.rulebook.specs.State.{thing, ownerOf, packPort, packRule, packNetwork, portFits, ruleFits, networkFits, thingFits, fitsAt, fits, freshPort}
 use Rattle.rulebook.specs.State.{freshThing, freshAt, fresh}
-use Rattle.rulebook.specs.Lists.{traceWord, setPort, setNetwork, effect, act, valueIn, undefinedIn, unready, resultIn, choice, choiceIn, setResult}
+use Rattle.rulebook.specs.Lists.{traceWord, setPort, setNetwork, effect, unread, act, stops, valueIn, undefinedIn, unready, resultIn, choice}
+use Rattle.rulebook.specs.Lists.{choiceIn, setResult}
 use Rattle.rulebook.specs.Lists.{runItem, runItems, runList}
 use Rattle.rulebook.specs.Arbitration.{unmarkPort, unmarkPorts, evaluated, storeResult, storeResults, chooses, chosen, ofPriority, orderBelow, order}
 use Rattle.rulebook.specs.Arbitration.{runIf, runChosen, decide, arbitrate}
 use Rattle.rulebook.specs.Events.{only, request, shown, moveNetwork, takes, wait, offBus, busOff, countedNetwork, tickedNetwork, tickNetwork}
 use Rattle.rulebook.specs.Events.{tickTimer, tickThings, markedIn, arbitrateMarked, tick, changed, happen}
-use Rattle.rulebook.specs.Step.{wellFormed, named, present, suited, known, sentByOwner, refusedState, firstFault, finish, conclude, step}
+use Rattle.rulebook.specs.Step.{wellFormed, named, present, suited, known, sentByOwner, goodOrFailed, outcomesKnown, refusedState, firstFault, finish, conclude}
+use Rattle.rulebook.specs.Step.{heeded, step}
 use Rattle.rulebook.specs.Play.{goesOn, playOn, play}
 use Rattle.text.specs.Words.{wordsOf}
 use Rattle.text.specs.Lines.{hexDigit, digits, placesIn, places, decimal, hexLine}
@@ -53,5 +55,5 @@ lines answer =
     ∷ 97 ∷ 110 ∷ 115 ∷ 119 ∷ 101 ∷ 114 ∷ 32 ∷ answer ∷ 10 ∷ []
 
 pub example : (played table event ≡ lines 48) × (played table (event ++ more) ≡ lines 52)
-unfolding digit byItem first all any sum listed each part stranger operator expressionNests expressionWithin expressionMentions mentions condition expressionHolds holds hasHeader knownEdition countsInside exactLength portFields expressionFields itemFields ownFields networkHas held mayShow expressionNames listOrNone itemNames names itemNests listNests listWithin nesting strangersPort ruleOwned itemOwned owners ruleReaches itemReaches listReaches reachesWithin reachedBy reached itemCost listCost costWithin bound affordable breaks lowest orNext firstOf check thing ownerOf packPort packRule packNetwork portFits ruleFits networkFits thingFits fitsAt fits freshPort freshThing freshAt fresh traceWord setPort setNetwork effect act valueIn undefinedIn unready resultIn choice choiceIn setResult runItem runItems runList unmarkPort unmarkPorts evaluated storeResult storeResults chooses chosen ofPriority orderBelow order runIf runChosen decide arbitrate only request shown moveNetwork takes wait offBus busOff countedNetwork tickedNetwork tickNetwork tickTimer tickThings markedIn arbitrateMarked tick changed happen wellFormed named present suited known sentByOwner firstFault finish conclude step refusedState goesOn playOn play wordsOf hexDigit digits placesIn places decimal hexLine traceLine traceLines label number printed.named thingLine linesFrom stateLines endLines whole dayLines played
+unfolding digit byItem first all any sum listed each until part abort aSize stranger operator expressionNests expressionWithin expressionMentions mentions condition expressionHolds holds hasHeader knownEdition countsInside exactLength portFields expressionFields itemFields ownFields networkHas held mayShow expressionNames listOrNone itemNames names itemNests listNests listWithin nesting strangersPort ruleOwned itemOwned owners ruleReaches itemReaches listReaches reachesWithin reachedBy reached itemCost listCost costWithin bound affordable breaks lowest orNext firstOf check thing ownerOf packPort packRule packNetwork portFits ruleFits networkFits thingFits fitsAt fits freshPort freshThing freshAt fresh traceWord setPort setNetwork effect unread act stops valueIn undefinedIn unready resultIn choice choiceIn setResult runItem runItems runList unmarkPort unmarkPorts evaluated storeResult storeResults chooses chosen ofPriority orderBelow order runIf runChosen decide arbitrate only request shown moveNetwork takes wait offBus busOff countedNetwork tickedNetwork tickNetwork tickTimer tickThings markedIn arbitrateMarked tick changed happen wellFormed named present suited known sentByOwner goodOrFailed outcomesKnown firstFault finish conclude heeded step refusedState goesOn playOn play wordsOf hexDigit digits placesIn places decimal hexLine traceLine traceLines label number printed.named thingLine linesFrom stateLines endLines whole dayLines played
 example = (refl, refl)

@@ -1,12 +1,16 @@
 -- What the demands conclude of one call follows from what its entry promises. Assumes nothing.
-use mathlib.Core.Path.{_≡_, _∙_}
-use mathlib.Core.Bool.{false}
+use mathlib.Core.Path.{_≡_, sym, _∙_}
+use mathlib.Core.Bool.{true, false}
 use mathlib.Core.List.{List, append-nil}
 use Prim.Native.Nat.{ℕ}
 use native.Mathlib.Omega.{arith}
 use lib.ListN.{length}
-use Rattle.rulebook.specs.Reasons.{accepted}
-use Rattle.rulebook.specs.Step.{refusedState, firstFault}
+use lib.Dec.{ltb}
+use Rattle.rulebook.specs.Reasons.{accepted, bound}
+use Rattle.rulebook.specs.State.{fits}
+use Rattle.rulebook.specs.Step.{refusedState, wellFormed, outcomesKnown, firstFault}
+use Rattle.rulebook.proofs.Outcomes.{first-step, above-one}
+use Rattle.laws.proofs.Tests.{split, clash}
 use Rattle.laws.proofs.Levels.{levels}
 use Rattle.laws.proofs.Started.{lists-started, unreached-refused}
 use Rattle.tables.specs.Finding.{promised}
@@ -35,20 +39,37 @@ pub of-fresh : (t s : List ℕ) (k : ℕ) (s′ : List ℕ) → MakesFreshIn t s
 of-fresh t s k s′ p = record { answered = fresh-answered t s k s′ p; waits = λ z. demand-3 t s k s′ p z }
 
 -- a table with a reason is met before all else
-bad-table : (t s : List ℕ) (room e k : ℕ) → k ≡ firstFault t s room e → accepted t ≡ false → k ≡ 1
+bad-table : (t s : List ℕ) (room : ℕ) (os : List ℕ) (e k : ℕ) → k ≡ firstFault t s room os e → accepted t ≡ false → k ≡ 1
 unfolding firstFault
-bad-table t s room e k is a = is ∙ rw a
+bad-table t s room os e k is a = is ∙ rw a
 
-pub of-event : (t s trace : List ℕ) (e k n : ℕ) (s′ trace′ : List ℕ) → TakesEventIn t s trace e k n s′ trace′ → OfEvent t s trace e k n s′ trace′
-of-event t s trace e k n s′ trace′ p =
+-- a call answered 0 was lent no outcome above 1
+unknown-refused : (t s : List ℕ) (room : ℕ) (os : List ℕ) (e k : ℕ) → k ≡ firstFault t s room os e → k ≡ 0 → outcomesKnown os ≡ true
+unfolding firstFault
+unknown-refused t s room os e k is z =
+    split (outcomesKnown os) (λ d. d)
+    (λ d. absurd
+    (split (accepted t)
+    (λ a. split (fits t s)
+    (λ b. split (ltb room (bound t)) (λ c. let y : 3 ≡ 0 = rw (a, b, c) at (sym is ∙ z) in omega arith)
+    (λ c. split (wellFormed e) (λ f. let y : 8 ≡ 0 = rw (a, b, c, f, d) at (sym is ∙ z) in omega arith)
+    (λ f. let y : 4 ≡ 0 = rw (a, b, c, f) at (sym is ∙ z) in omega arith)))
+    (λ b. let y : 2 ≡ 0 = rw (a, b) at (sym is ∙ z) in omega arith))
+    (λ a. let y : 1 ≡ 0 = rw a at (sym is ∙ z) in omega arith)))
+
+pub of-event : (t s trace os : List ℕ) (e k n : ℕ) (s′ trace′ : List ℕ) → TakesEventIn t s trace os e k n s′ trace′
+    → OfEvent t s trace os e k n s′ trace′
+of-event t s trace os e k n s′ trace′ p =
     record {
-      answered = event-answered t s trace e k n s′ trace′ p;
-      steps = λ z. steps t s trace e k n s′ trace′ p z;
-      lists = λ z. lists t s trace e k n s′ trace′ p z;
-      clears = λ z. clears t s trace e k n s′ trace′ p z;
-      heard = λ z. heards t s trace e k n s′ trace′ p z;
-      unreached = λ l un. bad-table t s (length trace) e k (event-answered t s trace e k n s′ trace′ p .number) (unreached-refused t l un);
-      taken = λ z s₀ xs q is. appended s q is (calls.taken e p z calls.none);
+      answered = event-answered t s trace os e k n s′ trace′ p;
+      steps = λ z. steps t s trace os e k n s′ trace′ p z;
+      lists = λ z. lists t s trace os e k n s′ trace′ p z;
+      clears = λ z. clears t s trace os e k n s′ trace′ p z;
+      heard = λ z. heards t s trace os e k n s′ trace′ p z;
+      unreached = λ l un. bad-table t s (length trace) os e k (event-answered t s trace os e k n s′ trace′ p .number) (unreached-refused t l un);
+      first = λ one known. rw (← first-step t one s (length trace) os e known) p;
+      above = λ j b more z. clash (unknown-refused t s (length trace) os e k (event-answered t s trace os e k n s′ trace′ p .number) z) (above-one os j b more);
+      taken = λ z s₀ xs q is. appended s q is (calls.taken os e p z calls.none);
     }
 
 bad-play : (t s : List ℕ) (k : ℕ) {A : Type 0} → ((refusedState t s ≡ 0 → ⊥) → (k ≡ refusedState t s) × A) → accepted t ≡ false → k ≡ 1

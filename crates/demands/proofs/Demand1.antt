@@ -1,13 +1,15 @@
 -- Demand 1 holds of whatever the promises of the public entries allow. Assumes nothing.
-use mathlib.Core.Path.{_≡_, sym, _∙_, ap}
+use mathlib.Core.Path.{_≡_, refl, sym, _∙_, ap}
+use mathlib.Core.Logic.{_⊎_, inl, inr}
 use mathlib.Core.List.{List, [], _++_}
-use Prim.Native.Nat.{ℕ}
+use Prim.Native.Nat.{ℕ, _≤_}
+use native.Mathlib.Omega.{arith}
 use lib.ListN.{length, drop}
 use lib.Dec.{ltb}
 use borrow.Author.Tests.{eq-eqb, ne-eqb}
 use Rattle.rulebook.specs.Reasons.{bound, accepted, check}
 use Rattle.rulebook.specs.State.{stateLength, fits, freshAnswer, freshState}
-use Rattle.rulebook.specs.Step.{refusedState, firstFault, wellFormed, known, sentByOwner, finish, conclude, step}
+use Rattle.rulebook.specs.Step.{refusedState, firstFault, wellFormed, outcomesKnown, known, sentByOwner, finish, conclude, heeded, step}
 use Rattle.laws.proofs.Tests.{split}
 use Rattle.laws.proofs.Acceptance.{reason-given, no-place}
 use Rattle.laws.proofs.Facts.{facts}
@@ -51,31 +53,52 @@ state-answered t s k p = record { badTable = λ a. p ∙ rw a; unfit = λ a f. p
 
 -- The event call.
 
-fault-is : (t s : List ℕ) (room e : ℕ) → step t s room e .answer ≡ firstFault t s room e
+fault-is : (t s : List ℕ) (room : ℕ) (os : List ℕ) (e : ℕ) → step t s room os e .answer ≡ firstFault t s room os e
 unfolding step conclude finish firstFault
-fault-is t s room e =
+fault-is t s room os e =
     split (accepted t)
     (λ a. split (fits t s)
     (λ b. split (ltb room (bound t)) (λ c. rw (a, b, c))
     (λ c. split (wellFormed e)
-    (λ d. split (known t e)
-    (λ f. split (sentByOwner t e) (λ g. rw (a, b, c, d, f, g, happen-shallow t (facts t a) e s)) (λ g. rw (a, b, c, d, f, g)))
-    (λ f. rw (a, b, c, d, f)))
+    (λ d. split (outcomesKnown os)
+    (λ u. split (known t e)
+    (λ f. split (sentByOwner t e) (λ g. rw (a, b, c, d, u, f, g, happen-shallow t (facts t a) e (heeded t os) s)) (λ g. rw (a, b, c, d, u, f, g)))
+    (λ f. rw (a, b, c, d, u, f)))
+    (λ u. rw (a, b, c, d, u)))
     (λ d. rw (a, b, c, d))))
     (λ b. rw (a, b)))
     (λ a. rw a)
 
-pub event-answered : (t s trace : List ℕ) (e k n : ℕ) (s′ trace′ : List ℕ) → TakesEventIn t s trace e k n s′ trace′ → EventAnswered t s trace e k n s′ trace′
-event-answered t s trace e k n s′ trace′ p =
+-- 0 to 6, or 8
+pub answer-small : (t s : List ℕ) (room : ℕ) (os : List ℕ) (e : ℕ) → (step t s room os e .answer ≤ 6) ⊎ (step t s room os e .answer ≡ 8)
+unfolding firstFault
+answer-small t s room os e =
+    rw (fault-is t s room os e)
+    (split (accepted t)
+    (λ a. split (fits t s)
+    (λ b. split (ltb room (bound t)) (λ c. rw (a, b, c) (inl (omega arith)))
+    (λ c. split (wellFormed e)
+    (λ d. split (outcomesKnown os)
+    (λ u. split (known t e)
+    (λ f. split (sentByOwner t e) (λ g. rw (a, b, c, d, u, f, g) (inl (omega arith))) (λ g. rw (a, b, c, d, u, f, g) (inl (omega arith))))
+    (λ f. rw (a, b, c, d, u, f) (inl (omega arith))))
+    (λ u. rw (a, b, c, d, u) (inr refl)))
+    (λ d. rw (a, b, c, d) (inl (omega arith)))))
+    (λ b. rw (a, b) (inl (omega arith))))
+    (λ a. rw a (inl (omega arith))))
+
+pub event-answered : (t s trace os : List ℕ) (e k n : ℕ) (s′ trace′ : List ℕ) → TakesEventIn t s trace os e k n s′ trace′
+    → EventAnswered t s trace os e k n s′ trace′
+event-answered t s trace os e k n s′ trace′ p =
     record {
-      number = p .answer ∙ fault-is t s (length trace) e;
+      number = p .answer ∙ fault-is t s (length trace) os e;
       stateKept = λ r. p .state ∙ same r .0;
       traceKept = λ r. p .words ∙ ap (λ (ws : List ℕ). ws ++ drop (length ws) trace) (same r .1);
       noCount = λ r. p .count ∙ ap (λ (ws : List ℕ). length ws) (same r .1);
     }
   where
-    same : (k ≡ 0 → ⊥) → (step t s (length trace) e .state ≡ s) × (step t s (length trace) e .words ≡ [])
-    same r = refusal-changes-nothing t s (length trace) e (λ z. r (p .answer ∙ z))
+    same : (k ≡ 0 → ⊥) → (step t s (length trace) os e .state ≡ s) × (step t s (length trace) os e .words ≡ [])
+    same r = refusal-changes-nothing t s (length trace) os e (λ z. r (p .answer ∙ z))
 
 pub demand-1 : Demand1
 demand-1 = record { checkTable = table-answered; makeFresh = fresh-answered; checkState = state-answered; takeEvent = event-answered; play = play-answered }

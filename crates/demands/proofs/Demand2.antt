@@ -8,8 +8,9 @@ use lib.ListN.{length, take, drop}
 use lib.Seq.{take-append-seam, drop-append-seam}
 use borrow.Author.Tests.{eqb-true, eq-eqb}
 use Rattle.rulebook.specs.Reasons.{check}
+use Rattle.rulebook.specs.Lists.{Run}
 use Rattle.rulebook.specs.Events.{happen}
-use Rattle.rulebook.specs.Step.{Result, step}
+use Rattle.rulebook.specs.Step.{Result, heeded, step}
 use Rattle.laws.specs.Acceptance.{Rules}
 use Rattle.laws.specs.Chosen.{Arbitrated}
 use Rattle.laws.proofs.Acceptance.{accepted-exactly}
@@ -23,39 +24,41 @@ use Rattle.manager.specs.Promises.{ChecksTableIn, TakesEventIn}
 use Rattle.demands.specs.Demand2.{Steps, Demand2}
 
 -- a call answered 0 went through the checks, and the step is what the event does
-pub record DoneBy (t s : List ℕ) (room e : ℕ) (r : Result) : Type 0 where
+pub record DoneBy (t s : List ℕ) (room : ℕ) (os : List ℕ) (e : ℕ) (r : Result) : Type 0 where
   pub callable : Callable t s room
   pub taken : Taken t e
-  pub state : r .state ≡ happen t e s .state
-  pub words : r .words ≡ happen t e s .words
+  pub state : r .state ≡ happen t e (heeded t os) s .state
+  pub words : r .words ≡ happen t e (heeded t os) s .words
 
-abbrev pub Done : List ℕ → List ℕ → ℕ → ℕ → Type 0
-Done t s room e = DoneBy t s room e (step t s room e)
+abbrev pub Done : List ℕ → List ℕ → ℕ → List ℕ → ℕ → Type 0
+Done t s room os e = DoneBy t s room os e (step t s room os e)
 
-pub done-step : (t s : List ℕ) (room e : ℕ) → step t s room e .answer ≡ 0 → Done t s room e
-done-step t s room e =
-    step-cases (λ r. r .answer ≡ 0 → DoneBy t s room e r) t s room e (λ k a b z. absurd (omega arith))
+pub done-step : (t s : List ℕ) (room : ℕ) (os : List ℕ) (e : ℕ) → step t s room os e .answer ≡ 0 → Done t s room os e
+done-step t s room os e =
+    step-cases (λ r. r .answer ≡ 0 → DoneBy t s room os e r) t s room os e (λ k a b z. absurd (omega arith))
     (λ c w z. record { callable = c; taken = w; state = refl; words = refl })
 
-module _ (t s trace : List ℕ) (e k n : ℕ) (s′ trace′ : List ℕ) (p : TakesEventIn t s trace e k n s′ trace′) (z : k ≡ 0) where
-  pub call : Done t s (length trace) e
-  call = done-step t s (length trace) e (sym (p .answer) ∙ z)
+module _ (t s trace os : List ℕ) (e k n : ℕ) (s′ trace′ : List ℕ) (p : TakesEventIn t s trace os e k n s′ trace′) (z : k ≡ 0) where
+  pub call : Done t s (length trace) os e
+  call = done-step t s (length trace) os e (sym (p .answer) ∙ z)
 
-  pub steps : Steps t s trace e n s′ trace′
+  abbrev x : Run
+  x = happen t e (heeded t os) s
+
+  pub steps : Steps t s trace os e n s′ trace′
   steps =
-      let is : n ≡ length (happen t e s .words) = p .count ∙ ap (λ (v : List ℕ). length v) (call .words) in
-      let tr : trace′ ≡ happen t e s .words ++ drop (length (happen t e s .words)) trace
-      = p .words ∙ ap (λ (v : List ℕ). v ++ drop (length v) trace) (call .words) in
+      let is : n ≡ length (x .words) = p .count ∙ ap (λ (v : List ℕ). length v) (call .words) in
+      let tr : trace′ ≡ x .words ++ drop (length (x .words)) trace = p .words ∙ ap (λ (v : List ℕ). v ++ drop (length v) trace) (call .words) in
       record {
         state = p .state ∙ call .state;
         count = is;
-        within = rw is (happen-paid t (facts t (call .callable .table)) e s);
-        new = rw (is, tr) (take-append-seam (happen t e s .words) _);
-        unchanged = rw (is, tr) (drop-append-seam (happen t e s .words) _);
+        within = rw is (happen-paid t (facts t (call .callable .table)) e (heeded t os) s);
+        new = rw (is, tr) (take-append-seam (x .words) _);
+        unchanged = rw (is, tr) (drop-append-seam (x .words) _);
       }
 
-  pub lists : Arbitrated t e s s′ (take n trace′)
-  lists = rw (steps .state, steps .new) (happen-arbitrates t (facts t (call .callable .table)) s e)
+  pub lists : Arbitrated t e (heeded t os) s s′ (take n trace′)
+  lists = rw (steps .state, steps .new) (happen-arbitrates t (facts t (call .callable .table)) (heeded t os) s e)
 
 pub accepts : (t : List ℕ) (reason place bound : ℕ) → ChecksTableIn t reason place bound → (reason ≡ 0) ↔ Rules t
 unfolding promised

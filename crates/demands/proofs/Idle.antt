@@ -2,6 +2,7 @@
 -- invented count wherever they occur. And a program that meets it exists. Assumes nothing.
 use mathlib.Core.Path.{_≡_, refl, sym, _∙_, ap}
 use mathlib.Core.Bool.{and-false}
+use mathlib.Core.Logic.{_⊎_, ⊎-elim}
 use mathlib.Core.List.{List, [], _∷_, _++_}
 use Prim.Native.Nat.{ℕ, zero, suc, _+_, _≤_, _<_, _^_}
 use native.Mathlib.Omega.{arith}
@@ -10,7 +11,7 @@ use lib.Seq.{drop-cons, getD-append-seam}
 use lib.Dec.{ltb}
 use borrow.Author.Tests.{ltb-true, ltb-false, eqb-true}
 use Rattle.rulebook.specs.Words.{word, listed}
-use Rattle.rulebook.specs.Step.{Result, step}
+use Rattle.rulebook.specs.Step.{Result, heeded, step}
 use Rattle.rulebook.specs.Marked.{table, marked, after, same, refuses, atFresh, afterRequest, afterTick, afterBusOff, afterThree, afterFive, markedRun}
 use Rattle.rulebook.proofs.Marked.{claim}
 use Rattle.laws.specs.Chosen.{runAll, beforeLists, WrittenBy, byNone, byFirst}
@@ -21,10 +22,11 @@ use Rattle.laws.proofs.Order.{each-both}
 use Rattle.laws.proofs.Chosen.{behind}
 use Rattle.laws.proofs.Steps.{step-cases, happen-paid}
 use Rattle.events.specs.declared.Answer.{Answer}
-use Rattle.events.specs.declared.Answer.the-variants.{Done, BadTable, UnfitState, ShortTrace, Malformed, NoSuchThing, NotItsOwner}
+use Rattle.events.specs.declared.Answer.the-variants.{Done, BadTable, UnfitState, ShortTrace, Malformed, NoSuchThing, NotItsOwner, BadOutcome}
 use Rattle.events.specs.Answers.{numberOf, countOf, Reports}
-use Rattle.demands.specs.Idle.{Outcome, Program, Words, Input, Meets, LeavesWords}
+use Rattle.demands.specs.Idle.{Gave, Program, Words, Input, Meets, LeavesWords}
 use Rattle.demands.specs.Idle.{RefusesAll, AnswersAlike, DoesNothing, OnlyFirstTick, OnlyFirstList, InventsCount, CountsAlike}
+use Rattle.demands.proofs.Demand1.{answer-small}
 use Rattle.demands.proofs.Demand2.{steps, done-step}
 use Rattle.demands.proofs.Given.{same-eq, Given, given}
 use Rattle.demands.proofs.Words.{small, small-words, step-words, drop-words}
@@ -61,13 +63,13 @@ five = eqb-true _ _ (part-of _ (λ e. rw (markedRun, e, and-false) at claim))
 lent : List ℕ
 lent = 0 ∷ 0 ∷ 0 ∷ []
 
-given-words : (s : List ℕ) (e : ℕ) → Words s → e < 2 ^ 32 → Input table s lent e
+given-words : (s : List ℕ) (e : ℕ) → Words s → e < 2 ^ 32 → Input table s lent [] e
 unfolding table lent small
-given-words s e h b = record { table = small-words table refl; state = h; trace = small-words lent refl; event = b }
+given-words s e h b = record { table = small-words table refl; state = h; trace = small-words lent refl; outcomes = tt; event = b }
 
 marked-words : (s : List ℕ) (e : ℕ) → Words s → Words (marked s e .state)
 unfolding marked
-marked-words s e h = step-words table s 3 e h .0
+marked-words s e h = step-words table s 3 [] e h .0
 
 fresh-words : Words atFresh
 unfolding small
@@ -85,38 +87,38 @@ bus-off-words = marked-words _ _ (marked-words afterRequest 0 requested-words)
 
 module _ (p : Program) (meets : Meets p) where
   module _ (s : List ℕ) (e : ℕ) (h : Words s) (b : e < 2 ^ 32) where
-    answers : numberOf (p table s lent e .answer) ≡ marked s e .answer
+    answers : numberOf (p table s lent [] e .answer) ≡ marked s e .answer
     unfolding marked lent
-    answers = meets table s lent e (given-words s e h b) .answer
+    answers = meets table s lent [] e (given-words s e h b) .answer
 
-    states : p table s lent e .state ≡ marked s e .state
+    states : p table s lent [] e .state ≡ marked s e .state
     unfolding marked lent
-    states = meets table s lent e (given-words s e h b) .state
+    states = meets table s lent [] e (given-words s e h b) .state
 
-    counts : countOf (p table s lent e .answer) ≡ length (marked s e .words)
+    counts : countOf (p table s lent [] e .answer) ≡ length (marked s e .words)
     unfolding marked lent
-    counts = meets table s lent e (given-words s e h b) .count
+    counts = meets table s lent [] e (given-words s e h b) .count
 
-  at-request : Input table atFresh lent 0x11000500
+  at-request : Input table atFresh lent [] 0x11000500
   at-request = given-words atFresh _ fresh-words (omega arith)
 
-  request-done : numberOf (p table atFresh lent 0x11000500 .answer) ≡ 0
+  request-done : numberOf (p table atFresh lent [] 0x11000500 .answer) ≡ 0
   request-done = answers atFresh _ fresh-words (omega arith) ∙ requested .answer
 
   pub not-refuses-all : RefusesAll p → ⊥
-  not-refuses-all idle = idle table atFresh lent _ at-request request-done
+  not-refuses-all idle = idle table atFresh lent [] _ at-request request-done
 
   pub not-answers-alike : AnswersAlike p → ⊥
   not-answers-alike idle =
       let other = given-words atFresh 0x21000500 fresh-words (omega arith) in
       let z : _≡_ {A = ℕ} 0 4
-      = sym request-done ∙ idle table atFresh lent _ _ at-request other ∙ answers atFresh _ fresh-words (omega arith) ∙ malformed .answer in
+      = sym request-done ∙ idle table atFresh lent [] _ _ at-request other ∙ answers atFresh _ fresh-words (omega arith) ∙ malformed .answer in
       absurd (omega arith)
 
   pub not-does-nothing : DoesNothing p → ⊥
   not-does-nothing idle =
       let is : _≡_ {A = List ℕ} (0 ∷ 0 ∷ 0 ∷ 0 ∷ []) (0x81400000 ∷ 0 ∷ 0x40000000 ∷ 0x80000000 ∷ [])
-      = sym at-fresh ∙ sym (idle table atFresh lent _ at-request) ∙ states atFresh _ fresh-words (omega arith) ∙ requested .state in
+      = sym at-fresh ∙ sym (idle table atFresh lent [] _ at-request) ∙ states atFresh _ fresh-words (omega arith) ∙ requested .state in
       let z : _≡_ {A = ℕ} 0 0x81400000 = ap (λ (s : List ℕ). word s 0) is in
       absurd (omega arith)
 
@@ -127,7 +129,7 @@ module _ (p : Program) (meets : Meets p) where
       let on : (s : List ℕ) → Words s → Words (marked s 0 .state) = λ s h. marked-words s 0 h in
       let one : (s : List ℕ) → Words s → marked (marked s 0 .state) 0 .state ≡ marked s 0 .state
       = λ s h. rw (sym (states (marked s 0 .state) 0 (on s h) (omega arith)), sym (states s 0 h (omega arith)))
-      (idle table s lent (given-words s 0 h (omega arith))) in
+      (idle table s lent [] (given-words s 0 h (omega arith))) in
       let h₁ = on afterBusOff bus-off-words in
       let h₃ = on _ (on _ h₁) in
       let h₄ = on _ h₃ in
@@ -145,7 +147,7 @@ module _ (p : Program) (meets : Meets p) where
       let tick-done = answers afterRequest 0 requested-words (omega arith) ∙ ticked .answer in
       let three-words = counts atFresh _ fresh-words (omega arith) ∙ ap (λ (ws : List ℕ). length ws) (requested .words) in
       let no-words = counts afterRequest 0 requested-words (omega arith) ∙ ap (λ (ws : List ℕ). length ws) (ticked .words) in
-      let z : _≡_ {A = ℕ} 3 0 = sym three-words ∙ idle table atFresh afterRequest lent _ 0 at-request at-tick request-done tick-done ∙ no-words in
+      let z : _≡_ {A = ℕ} 3 0 = sym three-words ∙ idle table atFresh afterRequest lent [] _ 0 at-request at-tick request-done tick-done ∙ no-words in
       absurd (omega arith)
 
 -- The first list alone. Lists that run write at least one word each, so what follows the first is not nothing.
@@ -158,10 +160,10 @@ pub not-only-first-list : (p : Program) → Meets p → OnlyFirstList p → ⊥
 not-only-first-list p meets idle =
     let t = idle .table in
     let c = idle .call in
-    let o = p t (idle .state) (idle .trace) (idle .event) in
-    let m = meets t (idle .state) (idle .trace) (idle .event) (c .input) in
-    let new = steps t (idle .state) (idle .trace) (idle .event) _ _ (o .state) (o .trace) m (m .answer ∙ c .done) .new in
-    let x = beforeLists t (c .ports) (c .from) in
+    let o = p t (idle .state) (idle .trace) (idle .outcomes) (idle .event) in
+    let m = meets t (idle .state) (idle .trace) (idle .outcomes) (idle .event) (c .input) in
+    let new = steps t (idle .state) (idle .trace) (idle .outcomes) (idle .event) _ _ (o .state) (o .trace) m (m .answer ∙ c .done) .new in
+    let x = beforeLists t (c .ports) (heeded t (idle .outcomes)) (c .from) in
     let first = runAll t (c .first ∷ []) x in
     let b = behind t (c .second ∷ c .more) first in
     let is : first .words ≡ first .words ++ b .more
@@ -210,18 +212,20 @@ pub not-invents-count : (p : Program) → Meets p → InventsCount p → ⊥
 not-invents-count p meets idle =
     let t = idle .table in
     let s = idle .state in
+    let os = idle .outcomes in
     let e = idle .event in
     let i = idle .input in
     let room = length (idle .trace) in
-    let vs = step t s room e .words in
-    let m = meets t s (idle .trace) e i in
-    let call = done-step t s room e (sym (m .answer) ∙ idle .done) in
-    let paid = happen-paid t (facts t (call .callable .table)) e s in
+    let vs = step t s room os e .words in
+    let m = meets t s (idle .trace) os e i in
+    let call = done-step t s room os e (sym (m .answer) ∙ idle .done) in
+    let paid = happen-paid t (facts t (call .callable .table)) e (heeded t os) s in
     let enough = call .callable .enough in
     let most : length vs ≤ room = rw (call .words) (omega arith) in
     let same : SameTraces room (idle .words) vs
-    = λ trace h n. sym (idle .writes trace h n) ∙ meets t s trace e (record { table = i .table; state = i .state; trace = h; event = i .event }) .words
-    ∙ ap (λ (k : ℕ). step t s k e .words ++ drop (length (step t s k e .words)) trace) n in
+    = λ trace h n. sym (idle .writes trace h n) ∙ meets t s trace os e
+    (record { table = i .table; state = i .state; trace = h; outcomes = i .outcomes; event = i .event }) .words
+    ∙ ap (λ (k : ℕ). step t s k os e .words ++ drop (length (step t s k os e .words)) trace) n in
     let least = within-lent (idle .words) vs (idle .trace) most (same (idle .trace) (i .trace) refl) in
     idle .count (m .count ∙ sym (as-many room (idle .words) vs least most same))
 
@@ -234,9 +238,10 @@ answerWith (suc (suc zero)) n = UnfitState
 answerWith (suc (suc (suc zero))) n = ShortTrace
 answerWith (suc (suc (suc (suc zero)))) n = Malformed
 answerWith (suc (suc (suc (suc (suc zero))))) n = NoSuchThing
-answerWith (suc (suc (suc (suc (suc (suc k)))))) n = NotItsOwner
+answerWith (suc (suc (suc (suc (suc (suc zero)))))) n = NotItsOwner
+answerWith (suc (suc (suc (suc (suc (suc (suc k))))))) n = BadOutcome
 
-answer-number : (k n : ℕ) → k ≤ 6 → numberOf (answerWith k n) ≡ k
+answer-number : (k n : ℕ) → (k ≤ 6) ⊎ (k ≡ 8) → numberOf (answerWith k n) ≡ k
 unfolding answerWith
 answer-number zero n h = refl
 answer-number (suc zero) n h = refl
@@ -245,7 +250,8 @@ answer-number (suc (suc (suc zero))) n h = refl
 answer-number (suc (suc (suc (suc zero)))) n h = refl
 answer-number (suc (suc (suc (suc (suc zero))))) n h = refl
 answer-number (suc (suc (suc (suc (suc (suc zero)))))) n h = refl
-answer-number (suc (suc (suc (suc (suc (suc (suc k))))))) n h = absurd (omega arith)
+answer-number (suc (suc (suc (suc (suc (suc (suc zero))))))) n h = ⊎-elim (λ a. absurd (omega arith)) (λ a. absurd (omega arith)) h
+answer-number (suc (suc (suc (suc (suc (suc (suc (suc k)))))))) n h = ⊎-elim (λ a. absurd (omega arith)) (λ a. sym a) h
 
 no-count : (k : ℕ) → countOf (answerWith k 0) ≡ 0
 unfolding answerWith
@@ -255,27 +261,27 @@ no-count (suc (suc zero)) = refl
 no-count (suc (suc (suc zero))) = refl
 no-count (suc (suc (suc (suc zero)))) = refl
 no-count (suc (suc (suc (suc (suc zero))))) = refl
-no-count (suc (suc (suc (suc (suc (suc k)))))) = refl
+no-count (suc (suc (suc (suc (suc (suc zero)))))) = refl
+no-count (suc (suc (suc (suc (suc (suc (suc k))))))) = refl
 
-outcome : List ℕ → Result → Outcome
-outcome trace x = record { answer = answerWith (x .answer) (length (x .words)); state = x .state; trace = x .words ++ drop (length (x .words)) trace }
+gave : List ℕ → Result → Gave
+gave trace x = record { answer = answerWith (x .answer) (length (x .words)); state = x .state; trace = x .words ++ drop (length (x .words)) trace }
 
-reported : (t s trace : List ℕ) (room e : ℕ)
-    → Reports (step t s room e) trace (outcome trace (step t s room e) .answer) (outcome trace (step t s room e) .state)
-    (outcome trace (step t s room e) .trace)
-unfolding outcome answerWith
-reported t s trace room e =
-    step-cases (λ x. Reports x trace (outcome trace x .answer) (outcome trace x .state) (outcome trace x .trace)) t s room e
-    (λ k a b. record { answer = answer-number k 0 b; count = no-count k; state = refl; words = refl })
-    (λ c w. record { answer = refl; count = refl; state = refl; words = refl })
+reported : (t s trace : List ℕ) (room : ℕ) (os : List ℕ) (e : ℕ)
+    → (let g = gave trace (step t s room os e) in Reports (step t s room os e) trace (g .answer) (g .state) (g .trace))
+unfolding gave answerWith
+reported t s trace room os e =
+    step-cases (λ x. (x .answer ≤ 6) ⊎ (x .answer ≡ 8) → Reports x trace (gave trace x .answer) (gave trace x .state) (gave trace x .trace)) t s room os e
+    (λ k a b small. record { answer = answer-number k 0 small; count = no-count k; state = refl; words = refl })
+    (λ c w small. record { answer = refl; count = refl; state = refl; words = refl }) (answer-small t s room os e)
 
 pub meets-exists : (p : Program) × Meets p × LeavesWords p
-unfolding outcome
+unfolding gave
 meets-exists = (
-  λ t s trace e. outcome trace (step t s (length trace) e),
-  λ t s trace e i. reported t s trace (length trace) e,
-  λ t s trace e i.
-      let ws = step t s (length trace) e .words in
-      let w = step-words t s (length trace) e (i .state) in
+  λ t s trace os e. gave trace (step t s (length trace) os e),
+  λ t s trace os e i. reported t s trace (length trace) os e,
+  λ t s trace os e i.
+      let ws = step t s (length trace) os e .words in
+      let w = step-words t s (length trace) os e (i .state) in
       (w .0, each-both _ ws _ (w .1) (drop-words (length ws) trace (i .trace))),
 )

@@ -82,7 +82,7 @@ module _ (t s trace es : List ℕ) (k n m : ℕ) (s′ trace′ : List ℕ) (p :
           );
           refused = λ y nz nf. (
             (let w = K .within in let g : P .taken ≡ length es → ⊥ = (λ e. nz (a ∙ E .doneOnly e)) in omega arith),
-            a ∙ sym (E .refused (λ e. nz (a ∙ e)) (λ e. nf (a ∙ e))) ∙ ap (λ (i : ℕ). refusedEvent t (getD es i 0)) (sym b),
+            a ∙ sym (E .refused (λ e. nz (a ∙ e)) (λ e. nf (a ∙ e))) ∙ ap (λ (i : ℕ). refusedEvent t [] (getD es i 0)) (sym b),
           );
           within = let w = K .within in omega arith;
           room = let w = K .words in omega arith;

@@ -1,6 +1,6 @@
 -- However a play is resumed at "trace full", it ends as one play that was not full; and it ends. Assumes nothing.
 use mathlib.Core.Path.{_≡_, sym, ap, _∙_}
-use mathlib.Core.List.{List, append-nil}
+use mathlib.Core.List.{List, [], append-nil}
 use Prim.Native.Nat.{ℕ, _+_, _-_, _*_, _≤_, _<_}
 use native.Mathlib.Nat.{add-comm}
 use native.Mathlib.Omega.{arith}
@@ -120,7 +120,7 @@ resumed-log {t} {s} {es} (plays.resumed {trace = w} {n₁ = a} {n = b} p f rest)
     )
 
 -- events of which none is refused are all taken
-pub all-taken : {t s es : List ℕ} {k n : ℕ} {s′ ws : List ℕ} → Resumed t s es k n s′ ws → refusedState t s ≡ 0 → Each (λ e. refusedEvent t e ≡ 0) es
+pub all-taken : {t s es : List ℕ} {k n : ℕ} {s′ ws : List ℕ} → Resumed t s es k n s′ ws → refusedState t s ≡ 0 → Each (λ e. refusedEvent t [] e ≡ 0) es
     → (k ≡ 0) × (n ≡ length es)
 all-taken {t} {s} {es} r z each =
     let ok = stood-table t s z in

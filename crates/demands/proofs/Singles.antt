@@ -14,23 +14,27 @@ use Rattle.rulebook.specs.State.{fits}
 use Rattle.rulebook.specs.Events.{happen}
 use Rattle.rulebook.specs.Step.{Result, refusedState, step}
 use Rattle.rulebook.specs.Play.{Play, playOn}
-use Rattle.laws.proofs.Play.{by-standing, stood-table, stood-state, step-unadmitted, step-full, step-refused, step-done, play-cases, later}
+use Rattle.laws.proofs.Play.{by-standing, stood-table, stood-state, step-unadmitted, step-full, step-refused, step-done, none-heeded, play-cases, later}
 use Rattle.manager.specs.Promises.{TakesEventIn, PlaysIn}
 use Rattle.demands.specs.Plays.{SingleCalls}
 use Rattle.demands.specs.Plays as plays
 use Rattle.demands.proofs.Plays.{told, untold}
 
+-- what event e does from state s with the outcomes os, as a result
+abbrev gives : List ℕ → List ℕ → ℕ → List ℕ → Result
+gives t os e s = record { answer = 0; state = happen t e os s .state; words = happen t e os s .words }
+
 -- a call whose step is known
-call-of : (t s trace : List ℕ) (e : ℕ) (r : Result) → step t s (length trace) e ≡ r
-    → TakesEventIn t s trace e (r .answer) (length (r .words)) (r .state) (r .words ++ drop (length (r .words)) trace)
-call-of t s trace e r h = rw h (record { answer = refl; count = refl; state = refl; words = refl })
+pub call-of : (t s trace os : List ℕ) (e : ℕ) (r : Result) → step t s (length trace) os e ≡ r
+    → TakesEventIn t s trace os e (r .answer) (length (r .words)) (r .state) (r .words ++ drop (length (r .words)) trace)
+call-of t s trace os e r h = rw h (record { answer = refl; count = refl; state = refl; words = refl })
 
 -- the calls that play p of es from s makes of this trace
 abbrev CallsOf : (t es s : List ℕ) → Play → List ℕ → Type 0
 CallsOf t es s p trace = SingleCalls t s trace es (p .answer) (p .taken) (length (p .words)) (p .state) (p .words ++ drop (length (p .words)) trace)
 
 -- one event in front of calls in the rest of the trace
-one-more : (t : List ℕ) (e : ℕ) (es s trace : List ℕ) (ws s₁ : List ℕ) (p : Play) → TakesEventIn t s trace e 0 (length ws) s₁ (ws ++ drop (length ws) trace)
+one-more : (t : List ℕ) (e : ℕ) (es s trace : List ℕ) (ws s₁ : List ℕ) (p : Play) → TakesEventIn t s trace [] e 0 (length ws) s₁ (ws ++ drop (length ws) trace)
     → CallsOf t es s₁ p (drop (length ws) trace)
     → CallsOf t (e ∷ es) s (record { answer = p .answer; taken = 1 + p .taken; state = p .state; words = ws ++ p .words }) trace
 one-more t e es s trace ws s₁ p call calls =
@@ -45,13 +49,14 @@ module _ (t : List ℕ) (ok : accepted t ≡ true) where
   calls-of =
       play-cases t ok (λ es s room p. (trace : List ℕ) → length trace ≡ room → CallsOf t es s p trace)
       (λ s room f trace l. plays.none)
-      (λ e es s room f h trace l. plays.refused e (call-of t s trace e _ (step-full t s (length trace) e ok f (omega arith))) (λ z. omega arith))
+      (λ e es s room f h trace l. plays.refused e (call-of t s trace [] e _ (step-full t s (length trace) [] e ok f (omega arith))) (λ z. omega arith))
       (λ e es s room f h n a b trace l.
-      plays.refused e (call-of t s trace e _ (step-refused t s (length trace) e ok f (omega arith) n)) n)
+      plays.refused e (call-of t s trace [] e _ (step-refused t s (length trace) [] e ok f (omega arith) n)) n)
       (λ e es s room k i trace l.
-      one-more t e es s trace (happen t e s .words) (happen t e s .state) (later t ok e es s room)
-      (call-of t s trace e _ (step-done t s (length trace) e ok (k .state) (let h = k .enough in omega arith) (k .event)))
-      (i (drop (length (happen t e s .words)) trace) (rw (length-drop, l))))
+      one-more t e es s trace (happen t e [] s .words) (happen t e [] s .state) (later t ok e es s room)
+      (call-of t s trace [] e _
+      (step-done t s (length trace) [] e ok (k .state) (let h = k .enough in omega arith) (k .event) ∙ ap (λ (os : List ℕ). gives t os e s) (none-heeded t)))
+      (i (drop (length (happen t e [] s .words)) trace) (rw (length-drop, l))))
 
 -- Such calls give one result.
 
@@ -81,7 +86,7 @@ module _ (t s trace es : List ℕ) (k n m : ℕ) (s′ trace′ : List ℕ) (p :
   unstood-call un [] b = absurd (omega arith)
   unstood-call un (e ∷ fs) b =
       let x = untold t s trace es k n m s′ trace′ p un in
-      rw (x .answer, x .taken, x .count, x .state, x .words) (plays.refused e (call-of t s trace e _ (step-unadmitted t s un (length trace) e)) un)
+      rw (x .answer, x .taken, x .count, x .state, x .words) (plays.refused e (call-of t s trace [] e _ (step-unadmitted t s un (length trace) [] e)) un)
 
   pub play-calls : (refusedState t s ≡ 0) ⊎ (1 ≤ length es) → SingleCalls t s trace es k n m s′ trace′
   play-calls = ⊎-elim stood-calls (λ b. by-standing t s stood-calls (λ un. unstood-call un es b))

@@ -13,7 +13,7 @@ use Rattle.rulebook.specs.Lists.{Run, traceWord, setPort, networkIn, setNetwork
 use Rattle.rulebook.specs.Arbitration.{arbitrate}
 use Rattle.rulebook.specs.Events.{request, statusIn, setSource, moveSource, shown, moveNetwork, tickNetwork, remainingIn, tickSource, tickTimer}
 use Rattle.rulebook.specs.Events.{tickThings, arbitrateMarked, tick, happen}
-use Rattle.rulebook.specs.Step.{step}
+use Rattle.rulebook.specs.Step.{heeded, step}
 use Rattle.rulebook.proofs.Width.{port-word, rule-word, network-word, source-word, trace-word}
 use Rattle.laws.specs.Facts.{Facts}
 use Rattle.laws.proofs.Tests.{split, and-left, and-right}
@@ -122,33 +122,36 @@ module _ (t : List ℕ) where
     pub words : Words (x .words)
 
   module _ (f : Facts t) where
-    arbitrated : (q : ℕ → Bool) (s : List ℕ) → Words s → Packed (arbitrate t q s)
+    arbitrated : (q : ℕ → Bool) (os s : List ℕ) → Words s → Packed (arbitrate t q os s)
     unfolding arbitrate
-    arbitrated q s h =
-        record { state = arbitrate-keeps t f Words (kept-by-writes t) q s h; words = decide-keeps t f (λ x. Words (x .words)) (kept-by-acts t) q _ tt }
+    arbitrated q os s h =
+        record {
+          state = arbitrate-keeps t f Words (kept-by-writes t) q os s h;
+          words = decide-keeps t f (λ x. Words (x .words)) (kept-by-acts t) q os _ tt;
+        }
 
-    asked : (p v : ℕ) (s : List ℕ) → Words s → Packed (request t p v s)
+    asked : (p v : ℕ) (os s : List ℕ) → Words s → Packed (request t p v os s)
     unfolding request
-    asked p v s h =
+    asked p v os s h =
         split (eqb (deferred t p) 1) (λ e. rw e (record { state = put-port p 1 v 0 s h; words = tt }))
-        (λ e. rw e (arbitrated _ _ (put-port p 0 v 0 s h)))
+        (λ e. rw e (arbitrated _ os _ (put-port p 0 v 0 s h)))
 
-    happened : (e : ℕ) (s : List ℕ) → Taken t e → Fits t s → Words s → Packed (happen t e s)
+    happened : (e : ℕ) (os s : List ℕ) → Taken t e → Fits t s → Words s → Packed (happen t e os s)
     unfolding tick arbitrateMarked
-    happened e s w fit h = go (happen t e) (event t e w)
+    happened e os s w fit h = go (happen t e) (event t e w)
       where
-        go : (g : List ℕ → Run) → Event t e g → Packed (g s)
-        go g (aTick k o) = arbitrated _ _ (ticked s h)
-        go g (aMode k of m free) = asked _ _ s h
-        go g (aRequest k of m) = asked _ _ s h
+        go : (g : List ℕ → List ℕ → Run) → Event t e g → Packed (g os s)
+        go g (aTick k o) = arbitrated _ os _ (ticked s h)
+        go g (aMode k of m free) = asked _ _ os s h
+        go g (aRequest k of m) = asked _ _ os s h
         go g (ofSource k free of u c) = record { state = source-to t f Words e s u c (λ status r ok. move-source _ status r s h) h; words = tt }
         go g (ofNetwork k of u c) =
             record { state = network-to t f Words e s u c (of .there) fit (λ x ok same. move-network _ x s h) h; words = tt }
 
-pub step-words : (t s : List ℕ) (room e : ℕ) → Words s → Words (step t s room e .state) × Words (step t s room e .words)
-step-words t s room e h =
-    step-cases (λ r. Words (r .state) × Words (r .words)) t s room e (λ k a b. (h, tt))
-    (λ c w. let p = happened t (facts t (c .table)) e s w (c .state) h in (p .state, p .words))
+pub step-words : (t s : List ℕ) (room : ℕ) (os : List ℕ) (e : ℕ) → Words s → Words (step t s room os e .state) × Words (step t s room os e .words)
+step-words t s room os e h =
+    step-cases (λ r. Words (r .state) × Words (r .words)) t s room os e (λ k a b. (h, tt))
+    (λ c w. let p = happened t (facts t (c .table)) e (heeded t os) s w (c .state) h in (p .state, p .words))
 
 pub drop-words : (n : ℕ) (ws : List ℕ) → Words ws → Words (drop n ws)
 drop-words zero ws h = h

@@ -1,10 +1,14 @@
--- What the demands, and document 02's requests, conclude of one call of each entry: t, s, trace and e are handed in, the numbers
+-- What the demands, and document 02's requests, conclude of one call of each entry: t, s, trace, os and e are handed in, the numbers
 -- answered, s′ and trace′ what is lent afterwards.
 use mathlib.Core.Path.{_≡_}
 use mathlib.Core.List.{List, [], _∷_, _++_}
 use mathlib.Core.Logic.{_↔_}
-use Prim.Native.Nat.{ℕ}
-use lib.ListN.{take}
+use mathlib.Core.Bool.{true}
+use Prim.Native.Nat.{ℕ, _<_}
+use lib.ListN.{length, take}
+use Rattle.rulebook.specs.Words.{word}
+use Rattle.rulebook.specs.Table.{edition}
+use Rattle.rulebook.specs.Step.{outcomesKnown, heeded}
 use Rattle.laws.specs.Acceptance.{Rules}
 use Rattle.laws.specs.Chosen.{Arbitrated}
 use Rattle.laws.specs.Cleared.{ClearCounts}
@@ -12,6 +16,7 @@ use Rattle.laws.specs.Levels.{Levels}
 use Rattle.laws.specs.Reached.{Unreached, ListsStarted}
 use Rattle.stranger.specs.Logs.{Entry, Log, stateAfter, logFrom, joined}
 use Rattle.stranger.specs.Heard.{HeardCounts}
+use Rattle.manager.specs.Promises.{TakesEventIn}
 use Rattle.demands.specs.Calls.{Played}
 use Rattle.demands.specs.Plays.{PlayAnswered, PlayGoes}
 use Rattle.demands.specs.Demand1.{TableAnswered, FreshAnswered, StateAnswered, EventAnswered}
@@ -34,19 +39,23 @@ pub record OfFresh (t s : List ℕ) (k : ℕ) (s′ : List ℕ) : Type 0 where
 abbrev pub OfState : List ℕ → List ℕ → ℕ → Type 0
 OfState t s k = StateAnswered t s k
 
-pub record OfEvent (t s trace : List ℕ) (e k n : ℕ) (s′ trace′ : List ℕ) : Type 0 where
-  pub answered : EventAnswered t s trace e k n s′ trace′
-  pub steps : k ≡ 0 → Steps t s trace e n s′ trace′
-  pub lists : k ≡ 0 → Arbitrated t e s s′ (take n trace′)
+pub record OfEvent (t s trace os : List ℕ) (e k n : ℕ) (s′ trace′ : List ℕ) : Type 0 where
+  pub answered : EventAnswered t s trace os e k n s′ trace′
+  pub steps : k ≡ 0 → Steps t s trace os e n s′ trace′
+  pub lists : k ≡ 0 → Arbitrated t e (heeded t os) s s′ (take n trace′)
   -- Q-2: "a clear marks the port .. for the next tick unless arbitrated sooner"
   pub clears : k ≡ 0 → ClearCounts t e s s′ (take n trace′)
   -- Q-8: "Hearing traffic ends the check"
   pub heard : k ≡ 0 → HeardCounts t e s s′ (take n trace′)
   -- Q-6: "Every event call meets it as answer 1."
   pub unreached : (l : ℕ) → Unreached t l → k ≡ 1
+  -- Q-9: "edition 1 tables act as if all calls were good, though answer 8 stands there too"
+  pub first : edition t ≡ 1 → outcomesKnown os ≡ true → TakesEventIn t s trace [] e k n s′ trace′
+  -- "An outcome word above 1 is answer 8", in every edition and of every event: none is taken
+  pub above : (j : ℕ) → j < length os → 1 < word os j → k ≡ 0 → ⊥
   -- the log goes on: calls that led from s₀ to s, and this one
   pub taken : k ≡ 0 → (s₀ : List ℕ) (xs : List Entry) → Played t s₀ xs → stateAfter s₀ xs ≡ s
-      → Played t s₀ (xs ++ record { event = e; state = s′; words = take n trace′ } ∷ [])
+      → Played t s₀ (xs ++ record { event = e; outcomes = os; state = s′; words = take n trace′ } ∷ [])
 
 -- Q-1, of a play of es: k what ended it, n events taken, m trace words written
 pub record OfPlay (t s trace es : List ℕ) (k n m : ℕ) (s′ trace′ : List ℕ) : Type 0 where

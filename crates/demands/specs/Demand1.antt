@@ -34,8 +34,8 @@ pub record StateAnswered (t s : List ℕ) (k : ℕ) : Type 0 where
   pub done : accepted t ≡ true → fits t s ≡ true → k ≡ 0
 
 -- the event call
-pub record EventAnswered (t s trace : List ℕ) (e k n : ℕ) (s′ trace′ : List ℕ) : Type 0 where
-  pub number : k ≡ firstFault t s (length trace) e
+pub record EventAnswered (t s trace os : List ℕ) (e k n : ℕ) (s′ trace′ : List ℕ) : Type 0 where
+  pub number : k ≡ firstFault t s (length trace) os e
   pub stateKept : (k ≡ 0 → ⊥) → s′ ≡ s
   pub traceKept : (k ≡ 0 → ⊥) → trace′ ≡ trace
   pub noCount : (k ≡ 0 → ⊥) → n ≡ 0
@@ -44,6 +44,7 @@ pub record Demand1 : Type 0 where
   pub checkTable : (t : List ℕ) (reason place b : ℕ) → ChecksTableIn t reason place b → TableAnswered t reason place b
   pub makeFresh : (t s : List ℕ) (k : ℕ) (s′ : List ℕ) → MakesFreshIn t s k s′ → FreshAnswered t s k s′
   pub checkState : (t s : List ℕ) (k : ℕ) → ChecksStateIn t s k → StateAnswered t s k
-  pub takeEvent : (t s trace : List ℕ) (e k n : ℕ) (s′ trace′ : List ℕ) → TakesEventIn t s trace e k n s′ trace′ → EventAnswered t s trace e k n s′ trace′
+  pub takeEvent : (t s trace os : List ℕ) (e k n : ℕ) (s′ trace′ : List ℕ) → TakesEventIn t s trace os e k n s′ trace′
+      → EventAnswered t s trace os e k n s′ trace′
   -- Q-1: of a play the first refusal, and what it changes nothing of
   pub play : (t s trace es : List ℕ) (k n m : ℕ) (s′ trace′ : List ℕ) → PlaysIn t s trace es k n m s′ trace′ → PlayAnswered t s trace es k n m s′ trace′

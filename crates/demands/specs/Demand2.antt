@@ -7,26 +7,27 @@ use Prim.Native.Nat.{ℕ, _≤_}
 use lib.ListN.{length, take, drop}
 use Rattle.rulebook.specs.Reasons.{bound}
 use Rattle.rulebook.specs.Events.{happen}
+use Rattle.rulebook.specs.Step.{heeded}
 use Rattle.laws.specs.Acceptance.{Rules}
 use Rattle.laws.specs.Chosen.{Arbitrated}
 use Rattle.manager.specs.Promises.{ChecksTableIn, TakesEventIn}
 
-pub record Steps (t s trace : List ℕ) (e n : ℕ) (s′ trace′ : List ℕ) : Type 0 where
-  pub state : s′ ≡ happen t e s .state
-  pub count : n ≡ length (happen t e s .words)
+pub record Steps (t s trace os : List ℕ) (e n : ℕ) (s′ trace′ : List ℕ) : Type 0 where
+  pub state : s′ ≡ happen t e (heeded t os) s .state
+  pub count : n ≡ length (happen t e (heeded t os) s .words)
   pub within : n ≤ bound t
-  pub new : take n trace′ ≡ happen t e s .words
+  pub new : take n trace′ ≡ happen t e (heeded t os) s .words
   pub unchanged : drop n trace′ ≡ drop n trace
 
 -- any count n, state s′ and trace′ that the event call allows with answer 0 have P
-abbrev pub OfEachCall : ((t s trace : List ℕ) (e n : ℕ) (s′ trace′ : List ℕ) → Type 0) → Type 0
-OfEachCall P = (t s trace : List ℕ) (e k n : ℕ) (s′ trace′ : List ℕ) → TakesEventIn t s trace e k n s′ trace′ → k ≡ 0 → P t s trace e n s′ trace′
+abbrev pub OfEachCall : ((t s trace os : List ℕ) (e n : ℕ) (s′ trace′ : List ℕ) → Type 0) → Type 0
+OfEachCall P = (t s trace os : List ℕ) (e k n : ℕ) (s′ trace′ : List ℕ) → TakesEventIn t s trace os e k n s′ trace′ → k ≡ 0 → P t s trace os e n s′ trace′
 
 pub record Demand2 : Type 0 where
   -- "For an accepted table, each event gives exactly the next state and ordered trace that document 01 condenses from the AUTOSAR
   -- papers: .. the reported count true."
   pub steps : OfEachCall Steps
   -- "lists by falling priority, each chosen list run once on its own account"
-  pub lists : OfEachCall (λ t s trace e n s′ trace′. Arbitrated t e s s′ (take n trace′))
+  pub lists : OfEachCall (λ t s trace os e n s′ trace′. Arbitrated t e (heeded t os) s s′ (take n trace′))
   -- "A table is accepted exactly if document 01's rules hold of it."
   pub accepts : (t : List ℕ) (reason place bound : ℕ) → ChecksTableIn t reason place bound → (reason ≡ 0) ↔ Rules t

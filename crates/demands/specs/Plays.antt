@@ -17,7 +17,7 @@ pub record PlayAnswered (t s trace es : List ℕ) (k n m : ℕ) (s′ trace′ :
   -- "It stops before an event when fewer than B trace words are free, says 'trace full' exactly then"
   pub full : (k ≡ 3) ↔ ((refusedState t s ≡ 0) × (n < length es) × (length trace < m + bound t))
   -- "A refused event ends the play": it is the one behind those taken, and the answer is its own
-  pub refused : refusedState t s ≡ 0 → (k ≡ 0 → ⊥) → (k ≡ 3 → ⊥) → (n < length es) × (k ≡ refusedEvent t (getD es n 0))
+  pub refused : refusedState t s ≡ 0 → (k ≡ 0 → ⊥) → (k ≡ 3 → ⊥) → (n < length es) × (k ≡ refusedEvent t [] (getD es n 0))
   pub within : n ≤ length es
   pub room : m ≤ length trace
   -- what ends a play changes nothing: the events taken alone give this state and this trace
@@ -25,14 +25,15 @@ pub record PlayAnswered (t s trace es : List ℕ) (k n m : ℕ) (s′ trace′ :
   pub none : n ≡ 0 → (m ≡ 0) × (s′ ≡ s) × (trace′ ≡ trace)
   pub unchanged : drop m trace′ ≡ drop m trace
 
--- "with the state and the joined trace just as single calls would give": calls of `take_event` on es from state s, each from the state
+-- "with the state and the joined trace just as single calls would give", and Q-9, "In play all calls are good": calls of `take_event` on es
+-- that lend no outcomes, from state s, each from the state
 -- that the one before left and in the rest of the trace, until none is left or one is not answered 0.
 pub data SingleCalls (t : List ℕ) : List ℕ → List ℕ → List ℕ → ℕ → ℕ → ℕ → List ℕ → List ℕ → Type 0 where
   none : {s trace : List ℕ} → SingleCalls t s trace [] 0 0 0 s trace
-  refused : {s trace : List ℕ} (e : ℕ) {es : List ℕ} {k m : ℕ} {s′ trace′ : List ℕ} → TakesEventIn t s trace e k m s′ trace′ → (k ≡ 0 → ⊥)
+  refused : {s trace : List ℕ} (e : ℕ) {es : List ℕ} {k m : ℕ} {s′ trace′ : List ℕ} → TakesEventIn t s trace [] e k m s′ trace′ → (k ≡ 0 → ⊥)
       → SingleCalls t s trace (e ∷ es) k 0 m s′ trace′
   taken : {s trace : List ℕ} (e : ℕ) {es : List ℕ} {k₁ m₁ : ℕ} {s₁ trace₁ : List ℕ} {k n m : ℕ} {s′ rest : List ℕ}
-      → TakesEventIn t s trace e k₁ m₁ s₁ trace₁ → k₁ ≡ 0 → SingleCalls t s₁ (drop m₁ trace₁) es k n m s′ rest
+      → TakesEventIn t s trace [] e k₁ m₁ s₁ trace₁ → k₁ ≡ 0 → SingleCalls t s₁ (drop m₁ trace₁) es k n m s′ rest
       → SingleCalls t s trace (e ∷ es) k (suc n) (m₁ + m) s′ (take m₁ trace₁ ++ rest)
 
 -- "can be resumed from that event": plays of es from state s, each but the last stopped at "trace full" and resumed from that event with

@@ -28,10 +28,11 @@ pub fn check_state(t: &[u32], s: &[u32]) -> Fit
     manager::check_state(t, s)
 }
 
-pub fn take_event(t: &[u32], s: &mut [u32], trace: &mut [u32], e: u32) -> Answer
-    ensures { λ r. ⌜ OfEvent (now (t .entry)) (now (s .entry)) (now (trace .entry)) e (numberOf r) (countOf r) (now (s .exit)) (now (trace .exit)) ⌝ }
+pub fn take_event(t: &[u32], s: &mut [u32], trace: &mut [u32], outcomes: &[u32], e: u32) -> Answer
+    ensures { λ r. ⌜ OfEvent (now (t .entry)) (now (s .entry)) (now (trace .entry)) (now (outcomes .entry)) e (numberOf r) (countOf r)
+        (now (s .exit)) (now (trace .exit)) ⌝ }
 {
-    manager::take_event(t, s, trace, e)
+    manager::take_event(t, s, trace, outcomes, e)
 }
 
 pub fn play(t: &[u32], s: &mut [u32], trace: &mut [u32], es: &[u32]) -> Played

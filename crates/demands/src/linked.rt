@@ -19,10 +19,18 @@ pub fn check_state(t: &[u32], s: &[u32]) -> u32
     gateway::herringcart_check_state(t, s)
 }
 
-pub fn take_event(t: &[u32], s: &mut [u32], trace: &mut [u32], e: u32, count: &mut usize) -> u32
-    ensures { λ r. ⌜ OfEvent (now (t .entry)) (now (s .entry)) (now (trace .entry)) e r (now (count .exit)) (now (s .exit)) (now (trace .exit)) ⌝ }
+pub fn take_event(
+    t: &[u32],
+    s: &mut [u32],
+    trace: &mut [u32],
+    outcomes: &[u32],
+    e: u32,
+    count: &mut usize,
+) -> u32
+    ensures { λ r. ⌜ OfEvent (now (t .entry)) (now (s .entry)) (now (trace .entry)) (now (outcomes .entry)) e r (now (count .exit))
+        (now (s .exit)) (now (trace .exit)) ⌝ }
 {
-    gateway::herringcart_take_event(t, s, trace, e, count)
+    gateway::herringcart_take_event(t, s, trace, outcomes, e, count)
 }
 
 pub fn play(

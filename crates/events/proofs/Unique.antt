@@ -6,7 +6,7 @@ use mathlib.Core.List.{List}
 use lib.Dec.{eqb}
 use Rattle.rulebook.specs.Step.{Result}
 use Rattle.events.specs.declared.Answer.{Answer}
-use Rattle.events.specs.declared.Answer.the-variants.{Done, BadTable, UnfitState, ShortTrace, Malformed, NoSuchThing, NotItsOwner}
+use Rattle.events.specs.declared.Answer.the-variants.{Done, BadTable, UnfitState, ShortTrace, Malformed, NoSuchThing, NotItsOwner, BadOutcome}
 use Rattle.events.specs.Answers.{numberOf, countOf, Reports}
 
 -- the answer that a number and a count stand for
@@ -18,16 +18,18 @@ answering k n =
     (cond (eqb k 3) ShortTrace
     (cond (eqb k 4) Malformed
     (cond (eqb k 5) NoSuchThing
-    NotItsOwner)))))
+    (cond (eqb k 6) NotItsOwner
+    BadOutcome))))))
 
 back : (r : Answer) → answering (numberOf r) (countOf r) ≡ r
-back (Done w) = refl
+back (Done report) = refl
 back BadTable = refl
 back UnfitState = refl
 back ShortTrace = refl
 back Malformed = refl
 back NoSuchThing = refl
 back NotItsOwner = refl
+back BadOutcome = refl
 
 pub one-answer : (x : Result) (trace : List ℕ) (r₁ r₂ : Answer) (s₁ s₂ w₁ w₂ : List ℕ) → Reports x trace r₁ s₁ w₁ → Reports x trace r₂ s₂ w₂
     → (r₁ ≡ r₂) × (s₁ ≡ s₂) × (w₁ ≡ w₂)

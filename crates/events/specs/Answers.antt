@@ -5,26 +5,28 @@ use mathlib.Core.List.{List, _++_}
 use lib.ListN.{length, drop}
 use Rattle.rulebook.specs.Step.{Result}
 use Rattle.events.specs.declared.Answer.{Answer}
-use Rattle.events.specs.declared.Answer.the-variants.{Done, BadTable, UnfitState, ShortTrace, Malformed, NoSuchThing, NotItsOwner}
+use Rattle.events.specs.declared.Answer.the-variants.{Done, BadTable, UnfitState, ShortTrace, Malformed, NoSuchThing, NotItsOwner, BadOutcome}
 
 abbrev pub numberOf : Answer → ℕ
-numberOf (Done w) = 0
+numberOf (Done report) = 0
 numberOf BadTable = 1
 numberOf UnfitState = 2
 numberOf ShortTrace = 3
 numberOf Malformed = 4
 numberOf NoSuchThing = 5
 numberOf NotItsOwner = 6
+numberOf BadOutcome = 8
 
 -- the reported count; a refusal's is 0
 abbrev pub countOf : Answer → ℕ
-countOf (Done w) = w .count
+countOf (Done report) = report .count
 countOf BadTable = 0
 countOf UnfitState = 0
 countOf ShortTrace = 0
 countOf Malformed = 0
 countOf NoSuchThing = 0
 countOf NotItsOwner = 0
+countOf BadOutcome = 0
 
 -- The numbers k and n tell result x: its answer, and the number of its words as the count; the state is x's; x's words stand at the
 -- front of the trace, and its other words are unchanged.

@@ -1,15 +1,17 @@
 // One event on a lent state and trace, for a table and a state that have been checked: refused, or done with the count of words
 // written. A run of many events may check table and state once and call `handle` for each.
 ghost use mathlib.Core.Path.{_≡_};
+ghost use lib.ListN.{drop};
 ghost use Rattle.rulebook.specs.Events.{request as requestOf, tick as tickOf, happen as happenOf};
-ghost use Rattle.rulebook.specs.Step.{handle as handleOf};
+ghost use Rattle.rulebook.specs.Step.{heeded, handle as handleOf};
+ghost use Rattle.words.specs.Sections.{Laid};
 ghost use Rattle.lists.specs.Runs.{Ran};
 ghost use Rattle.arbitration.specs.Asked.{MayArbitrate, MayArbitratePort};
 ghost use Rattle.refusals.specs.Answers.{answerOf};
 ghost use Rattle.events.specs.Answers.{numberOf, countOf, Reports};
 use arbitration::arbitrate_marked;
 use arbitration::arbitrate_one;
-pub use lists::Written;
+use lists::Written;
 use lists::nothing;
 use refusals::EventCheck;
 use refusals::check_event;
@@ -23,56 +25,89 @@ use words::numbers::EVENT_TICK;
 use words::sections::Layout;
 
 // A request: the port is written, and arbitrated now if it is immediate.
-fn request(t: &[u32], h: Layout, p: u32, value: u32, s: &mut [u32], trace: &mut [u32]) -> Written
-    requires { ⌜ MayArbitratePort (now t) h p (requestOf (now t) p value (now s)) (now trace) ⌝ }
-    ensures { λ w. ⌜ Ran (requestOf (now (t .entry)) p value (now (s .entry))) (now (s .exit)) (now (trace .entry)) (now (trace .exit)) w ⌝ }
+fn request(
+    t: &[u32],
+    h: Layout,
+    p: u32,
+    value: u32,
+    s: &mut [u32],
+    trace: &mut [u32],
+    outcomes: &[u32],
+    read: usize,
+) -> Written
+    requires { ⌜ MayArbitratePort (now t) h p (requestOf (now t) p value (drop read (now outcomes)) (now s)) (now trace) ⌝ }
+    ensures { λ w. ⌜ Ran (now (outcomes .entry)) (requestOf (now (t .entry)) p value (drop read (now (outcomes .entry))) (now (s .entry)))
+        (now (s .exit)) (now (trace .entry)) (now (trace .exit)) w ⌝ }
 {
     let immediate = request_port(t, s, p, value);
     if immediate {
-        return arbitrate_one(t, h, p, s, trace);
+        return arbitrate_one(t, h, p, s, trace, outcomes, read);
     }
-    nothing()
+    nothing(read)
 }
 
 // A tick: networks, sources and timers count, then all marked ports are arbitrated.
-fn tick(t: &[u32], h: Layout, s: &mut [u32], trace: &mut [u32]) -> Written
-    requires { ⌜ MayArbitrate (now t) h (tickOf (now t) (now s)) (now trace) ⌝ }
-    ensures { λ w. ⌜ Ran (tickOf (now (t .entry)) (now (s .entry))) (now (s .exit)) (now (trace .entry)) (now (trace .exit)) w ⌝ }
+fn tick(
+    t: &[u32],
+    h: Layout,
+    s: &mut [u32],
+    trace: &mut [u32],
+    outcomes: &[u32],
+    read: usize,
+) -> Written
+    requires { ⌜ MayArbitrate (now t) h (tickOf (now t) (drop read (now outcomes)) (now s)) (now trace) ⌝ }
+    ensures { λ w. ⌜ Ran (now (outcomes .entry)) (tickOf (now (t .entry)) (drop read (now (outcomes .entry))) (now (s .entry)))
+        (now (s .exit)) (now (trace .entry)) (now (trace .exit)) w ⌝ }
 {
     tick_things(t, h, s);
-    arbitrate_marked(t, h, s, trace)
+    arbitrate_marked(t, h, s, trace, outcomes, read)
 }
 
 // What an event that is not refused does.
-fn happen(t: &[u32], h: Layout, e: u32, s: &mut [u32], trace: &mut [u32]) -> Written
-    requires { ⌜ MayArbitrate (now t) h (happenOf (now t) e (now s)) (now trace) ⌝ }
-    ensures { λ w. ⌜ Ran (happenOf (now (t .entry)) e (now (s .entry))) (now (s .exit)) (now (trace .entry)) (now (trace .exit)) w ⌝ }
+fn happen(
+    t: &[u32],
+    h: Layout,
+    e: u32,
+    s: &mut [u32],
+    trace: &mut [u32],
+    outcomes: &[u32],
+    read: usize,
+) -> Written
+    requires { ⌜ MayArbitrate (now t) h (happenOf (now t) e (drop read (now outcomes)) (now s)) (now trace) ⌝ }
+    ensures { λ w. ⌜ Ran (now (outcomes .entry)) (happenOf (now (t .entry)) e (drop read (now (outcomes .entry))) (now (s .entry)))
+        (now (s .exit)) (now (trace .entry)) (now (trace .exit)) w ⌝ }
 {
     let kind = event::kind(e);
     let index = event::index(e);
     let value = event::value(e);
     if kind == EVENT_TICK {
-        return tick(t, h, s, trace);
+        return tick(t, h, s, trace, outcomes, read);
     }
     if kind == EVENT_MODE {
-        return request(t, h, index, value, s, trace);
+        return request(t, h, index, value, s, trace, outcomes, read);
     }
     if kind == EVENT_REQUEST {
-        return request(t, h, index, 1, s, trace);
+        return request(t, h, index, 1, s, trace, outcomes, read);
     }
     change(t, h, s, kind, index);
-    nothing()
+    nothing(read)
 }
 
-// A case for each answer of an event call. One that is done reports what it has written.
+// What a call that is done reports: how many trace words it has written.
+pub struct Report {
+    pub count: usize,
+}
+
+// A case for each answer of an event call.
 pub enum Answer {
-    Done(Written),
+    Done(Report),
     BadTable,
     UnfitState,
     ShortTrace,
     Malformed,
     NoSuchThing,
     NotItsOwner,
+    BadOutcome,
 }
 
 // An answer's number.
@@ -87,6 +122,7 @@ pub fn number(answer: Answer) -> u32
         Answer::Malformed => 4,
         Answer::NoSuchThing => 5,
         Answer::NotItsOwner => 6,
+        Answer::BadOutcome => 8,
     }
 }
 
@@ -95,13 +131,14 @@ pub fn count(answer: Answer) -> usize
     ensures { λ r. ⌜ r ≡ countOf answer ⌝ }
 {
     match answer {
-        Answer::Done(w) => w.count,
+        Answer::Done(report) => report.count,
         Answer::BadTable => 0,
         Answer::UnfitState => 0,
         Answer::ShortTrace => 0,
         Answer::Malformed => 0,
         Answer::NoSuchThing => 0,
         Answer::NotItsOwner => 0,
+        Answer::BadOutcome => 0,
     }
 }
 
@@ -110,22 +147,45 @@ fn refused(check: EventCheck) -> Answer
     ensures { λ r. ⌜ (numberOf r ≡ answerOf check) × (countOf r ≡ 0) ⌝ }
 {
     match check {
-        EventCheck::Taken => Answer::Done(nothing()),
+        EventCheck::Taken => Answer::Done(Report { count: 0 }),
         EventCheck::Malformed => Answer::Malformed,
+        EventCheck::BadOutcome => Answer::BadOutcome,
         EventCheck::NoSuchThing => Answer::NoSuchThing,
         EventCheck::NotItsOwner => Answer::NotItsOwner,
     }
 }
 
-// What comes after the checks of table, state and room.
-pub fn handle(t: &[u32], h: Layout, e: u32, s: &mut [u32], trace: &mut [u32]) -> Answer
-    requires { ⌜ MayArbitrate (now t) h (happenOf (now t) e (now s)) (now trace) ⌝ }
-    ensures { λ r. ⌜ Reports (handleOf (now (t .entry)) (now (s .entry)) e) (now (trace .entry)) r (now (s .exit)) (now (trace .exit)) ⌝ }
+// How many of the lent outcome words count as read before the first call: all of them in edition 1, where every call is good.
+fn read_before(t: &[u32], h: Layout, outcomes: &[u32]) -> usize
+    requires { ⌜ Laid (now t) h ⌝ }
+    ensures { λ r. ⌜ drop r (now (outcomes .entry)) ≡ heeded (now (t .entry)) (now (outcomes .entry)) ⌝ }
 {
-    let check = check_event(t, h, e);
+    if h.second {
+        return 0;
+    }
+    outcomes.len()
+}
+
+// What comes after the checks of table, state and room.
+pub fn handle(
+    t: &[u32],
+    h: Layout,
+    e: u32,
+    s: &mut [u32],
+    trace: &mut [u32],
+    outcomes: &[u32],
+) -> Answer
+    requires { ⌜ MayArbitrate (now t) h (happenOf (now t) e (heeded (now t) (now outcomes)) (now s)) (now trace) ⌝ }
+    ensures { λ r. ⌜ Reports (handleOf (now (t .entry)) (now (s .entry)) (now (outcomes .entry)) e) (now (trace .entry)) r
+        (now (s .exit)) (now (trace .exit)) ⌝ }
+{
+    let check = check_event(t, h, outcomes, e);
     let EventCheck::Taken = check else {
         return refused(check);
     };
-    let written = happen(t, h, e, s, trace);
-    Answer::Done(written)
+    let read = read_before(t, h, outcomes);
+    let written = happen(t, h, e, s, trace, outcomes, read);
+    Answer::Done(Report {
+        count: written.count,
+    })
 }

@@ -99,9 +99,11 @@ fn item_fields(t: &[u32], h: Layout, i: u32) -> bool
 {
     let item = sections::item_at(t, h, i);
     let kind = item.kind;
+    let abort = item.abort;
     let a = item.a;
     let b = item.b;
     (kind <= ITEM_RULE)
+        & (!(kind != ITEM_CALL) | (abort == 0))
         & (!(kind == ITEM_CALL) | (a == 0))
         & (!((ITEM_CLEAR <= kind) & (kind <= ITEM_STOP)) | (b == 0))
         & (!(kind == ITEM_ASK) | (b <= 2))

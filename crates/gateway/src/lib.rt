@@ -4,6 +4,7 @@ ghost use mathlib.Core.Path.{_≡_};
 ghost use Rattle.states.specs.Made.{numberOf as madeNumber};
 ghost use Rattle.manager.specs.Answers.{stateNumber};
 ghost use Rattle.manager.specs.Promises.{ChecksTableIn, CountsWords, MakesFreshIn, ChecksStateIn, TakesEventIn, PlaysIn};
+ghost use Rattle.gateway.specs.Version.{version};
 use manager::Fit;
 use states::Made;
 
@@ -25,6 +26,14 @@ fn fit_number(fit: Fit) -> u32
         Fit::BadTable => 1,
         Fit::Unfit => 2,
     }
+}
+
+// The version of the archive, its first number times 65,536 plus its second: a caller holds it against its header's.
+#[no_mangle]
+pub extern "C" fn herringcart_version() -> u32
+    ensures { λ r. ⌜ r ≡ version ⌝ }
+{
+    4 * 65536
 }
 
 // Checks a table: gives its reason, 0 if it is accepted, and writes the place and B.
@@ -62,18 +71,21 @@ pub extern "C" fn herringcart_check_state(table: &[u32], state: &[u32]) -> u32
     fit_number(manager::check_state(table, state))
 }
 
-// Takes one event: gives the answer, writes state and trace in place and the count of trace words written.
+// Takes one event, with the outcomes of its outside calls: gives the answer, writes state and trace in place and the count of trace words
+// written.
 #[no_mangle]
 pub extern "C" fn herringcart_take_event(
     table: &[u32],
     state: &mut [u32],
     trace: &mut [u32],
+    outcomes: &[u32],
     event: u32,
     count: &mut usize,
 ) -> u32
-    ensures { λ r. ⌜ TakesEventIn (now (table .entry)) (now (state .entry)) (now (trace .entry)) event r (now (count .exit)) (now (state .exit)) (now (trace .exit)) ⌝ }
+    ensures { λ r. ⌜ TakesEventIn (now (table .entry)) (now (state .entry)) (now (trace .entry)) (now (outcomes .entry)) event r
+        (now (count .exit)) (now (state .exit)) (now (trace .exit)) ⌝ }
 {
-    let answer = manager::take_event(table, state, trace, event);
+    let answer = manager::take_event(table, state, trace, outcomes, event);
     *count = events::count(answer);
     events::number(answer)
 }

@@ -1,5 +1,6 @@
--- A run goes along a lent trace: its words so far fill the front of the trace, and what is still to run gets the rest of it. One
--- invariant for every loop and every call on the tail of a trace, with its start, next and end. Assumes nothing.
+-- A run goes along a lent trace and lent outcomes: its words so far fill the front of the trace, the outcomes that it has read are the
+-- first ones, and what is still to run gets the rest of both. One invariant for every loop and every call on the tail of a trace, with its
+-- start, next and end. Assumes nothing.
 use Prim.Native.Nat.{ℕ, _+_, _-_, _≤_, _<_}
 use mathlib.Core.Path.{_≡_, refl, sym, ap, _∙_}
 use mathlib.Core.Bool.{false}
@@ -10,78 +11,84 @@ use lib.Seq.{length-take-le, take-all, take-at, drop-at, drop-drop}
 use borrow.Rule.Slice.PartMut.{midOf, putMid}
 use Rattle.rulebook.specs.Lists.{Run, start}
 use Rattle.laws.proofs.Tests.{or-none}
-use Rattle.laws.proofs.Frame.{Framed}
+use Rattle.laws.proofs.Frame.{Framed, afresh, framed-words}
 use Rattle.lists.specs.declared.Written.{Written}
 use Rattle.lists.specs.Runs.{Safe, Ran, Addable, nothing, plus}
 
--- the run so far: the state s, and as its words the first `at` of the trace T
-abbrev pub sofar : List ℕ → List ℕ → ℕ → Run
-sofar s T at = record { state = s; words = take at T; deep = false }
+-- a run that starts in the state s, where `read` of the outcomes os are read
+abbrev pub begin : List ℕ → ℕ → List ℕ → Run
+begin os read s = start (drop read os) s
+
+-- the run so far, which has written w: the state s, as its words the first ones of the trace T, and the outcomes behind those read
+abbrev pub sofar : List ℕ → List ℕ → List ℕ → Written → Run
+sofar os s T w = record { state = s; words = take (w .count) T; deep = false; outcomes = drop (w .read) os }
 
 -- The whole run is `rest` of the run so far, which has written w; from there on the trace is as it was.
-pub record Along (whole : Run) (rest : Run → Run) (before s T : List ℕ) (w : Written) : Type 0 where
-  pub run : whole ≡ rest (sofar s T (w .count))
+pub record Along (os : List ℕ) (whole : Run) (rest : Run → Run) (before s T : List ℕ) (w : Written) : Type 0 where
+  pub run : whole ≡ rest (sofar os s T w)
   pub kept : drop (w .count) T ≡ drop (w .count) before
   pub inside : w .count ≤ length T
   pub long : length T ≡ length before
 
-same-run : (x : Run) (s w : List ℕ) → x .state ≡ s → x .words ≡ w → x .deep ≡ false → x ≡ record { state = s; words = w; deep = false }
-same-run x s w a b c = rw (← a, ← b, ← c)
+same-run : (x : Run) (s w u : List ℕ) → x .state ≡ s → x .words ≡ w → x .deep ≡ false → x .outcomes ≡ u
+    → x ≡ record { state = s; words = w; deep = false; outcomes = u }
+same-run x s w u a b c d = rw (← a, ← b, ← c, ← d)
 
 -- a run of which another is the beginning: that one is safe too
 module _ (whole : Run) (rest : Run → Run) (framed : Framed rest) (x : Run) (run : whole ≡ rest x) (before : List ℕ) (safe : Safe whole before) where
-  begin-words : whole .words ≡ x .words ++ rest (start (x .state)) .words
-  begin-words = ap (λ (y : Run). y .words) run ∙ framed .words x
+  begin-words : whole .words ≡ x .words ++ rest (afresh x) .words
+  begin-words = ap (λ (y : Run). y .words) run ∙ framed-words framed x
 
   begin-room : length (x .words) ≤ length before
   begin-room =
       let a : length (whole .words) ≤ length before = safe .room in
-      let b : length (whole .words) ≡ length (x .words) + length (rest (start (x .state)) .words) =
-      ap length begin-words ∙ length-append (x .words) (rest (start (x .state)) .words) in
+      let b : length (whole .words) ≡ length (x .words) + length (rest (afresh x) .words) =
+      ap length begin-words ∙ length-append (x .words) (rest (afresh x) .words) in
       omega arith
 
   begin-shallow : x .deep ≡ false
-  begin-shallow = or-none (x .deep) (rest (start (x .state)) .deep) (sym (framed .deep x) ∙ sym (ap (λ (y : Run). y .deep) run) ∙ safe .shallow) .0
+  begin-shallow = or-none (x .deep) (rest (afresh x) .deep) (sym (ap (λ (y : Run). y .deep) (run ∙ framed x)) ∙ safe .shallow) .0
 
   pub begin-safe : Safe x before
   begin-safe = record { room = begin-room; shallow = begin-shallow }
 
 -- nothing has run yet
-pub along-none : (whole : Run) (rest : Run → Run) (s T : List ℕ) → whole ≡ rest (start s) → Along whole rest T s T nothing
-along-none whole rest s T h = record { run = h; kept = refl; inside = omega arith; long = refl }
+pub along-none : (os : List ℕ) (read : ℕ) (whole : Run) (rest : Run → Run) (s T : List ℕ) → whole ≡ rest (begin os read s)
+    → Along os whole rest T s T (nothing read)
+along-none os read whole rest s T h = record { run = h; kept = refl; inside = omega arith; long = refl }
 
 -- a run that only changes the state
-pub ran-none : (s T : List ℕ) → Ran (start s) s T T nothing
-ran-none s T = record { state = refl; words = refl; count = refl }
+pub ran-none : (os : List ℕ) (read : ℕ) (s T : List ℕ) → Ran os (begin os read s) s T T (nothing read)
+ran-none os read s T = record { state = refl; words = refl; count = refl; outcomes = refl }
 
 -- what is still to run may be said in another way
-pub along-as : (whole : Run) (rest other : Run → Run) (before s T : List ℕ) (w : Written) → ((x : Run) → rest x ≡ other x)
-    → Along whole rest before s T w → Along whole other before s T w
-along-as whole rest other before s T w h a =
-    record { run = a .run ∙ h (sofar s T (w .count)); kept = a .kept; inside = a .inside; long = a .long }
+pub along-as : (os : List ℕ) (whole : Run) (rest other : Run → Run) (before s T : List ℕ) (w : Written) → rest (sofar os s T w) ≡ other (sofar os s T w)
+    → Along os whole rest before s T w → Along os whole other before s T w
+along-as os whole rest other before s T w h a = record { run = a .run ∙ h; kept = a .kept; inside = a .inside; long = a .long }
 
 -- nothing is left to run
-pub along-end : (whole : Run) (rest : Run → Run) (before s T : List ℕ) (w : Written) → ((x : Run) → rest x ≡ x) → Along whole rest before s T w
-    → Ran whole s before T w
-along-end whole rest before s T w h a =
-    let e : whole ≡ sofar s T (w .count) = a .run ∙ h (sofar s T (w .count)) in
+pub along-end : (os : List ℕ) (whole : Run) (rest : Run → Run) (before s T : List ℕ) (w : Written) → ((x : Run) → rest x ≡ x)
+    → Along os whole rest before s T w → Ran os whole s before T w
+along-end os whole rest before s T w h a =
+    let e : whole ≡ sofar os s T w = a .run ∙ h (sofar os s T w) in
     let n : length (take (w .count) T) ≡ w .count = length-take-le (w .count) T (a .inside) in
     rw e
     (record {
       state = refl;
       words = rw (n, ← a .kept) (sym (take-append-drop (w .count) T));
       count = sym n;
+      outcomes = refl;
     })
 
 -- what was written in two parts is counted in 64 bits, for the trace is
-pub along-addable : (whole : Run) (rest : Run → Run) (before s T : List ℕ) (a b : Written) → Along whole rest before s T (plus a b)
+pub along-addable : (os : List ℕ) (whole : Run) (rest : Run → Run) (before s T : List ℕ) (a b : Written) → Along os whole rest before s T (plus a b)
     → length before < 18446744073709551616 → Addable a b
-along-addable whole rest before s T a b x h = record { count = omega (arith, x .inside, x .long) }
+along-addable os whole rest before s T a b x h = record { count = omega (arith, x .inside, x .long) }
 
 -- a first part has run on the whole trace
-pub along-ran : (whole : Run) (rest : Run → Run) → Framed rest → (x : Run) → whole ≡ rest x → (before s T : List ℕ) (w : Written) → Safe whole before
-    → Ran x s before T w → Along whole rest before s T w
-along-ran whole rest framed x run before s T w safe r =
+pub along-ran : (os : List ℕ) (whole : Run) (rest : Run → Run) → Framed rest → (x : Run) → whole ≡ rest x → (before s T : List ℕ) (w : Written)
+    → Safe whole before → Ran os x s before T w → Along os whole rest before s T w
+along-ran os whole rest framed x run before s T w safe r =
     let m : length (x .words) ≡ w .count = sym (r .count) in
     let room : length (x .words) ≤ length before = begin-room whole rest framed x run before safe in
     let e : T ≡ x .words ++ drop (w .count) before = r .words ∙ ap (λ (k : ℕ). x .words ++ drop k before) m in
@@ -89,16 +96,17 @@ along-ran whole rest framed x run before s T w safe r =
     ap length e ∙ length-append (x .words) (drop (w .count) before) ∙ ap (λ (k : ℕ). length (x .words) + k) (length-drop (w .count) before) in
     record {
       run = run
-          ∙ ap rest (same-run x s (take (w .count) T) (sym (r .state))
-          (sym (ap (take (w .count)) e ∙ take-at (x .words) (drop (w .count) before) (w .count) m)) (begin-shallow whole rest framed x run before safe));
+          ∙ ap rest (same-run x s (take (w .count) T) (drop (w .read) os) (sym (r .state))
+          (sym (ap (take (w .count)) e ∙ take-at (x .words) (drop (w .count) before) (w .count) m)) (begin-shallow whole rest framed x run before safe)
+          (sym (r .outcomes)));
       kept = ap (drop (w .count)) e ∙ drop-at (x .words) (drop (w .count) before) (w .count) m;
       inside = omega arith;
       long = omega arith;
     }
 
 -- f is next, on the part of the trace behind what w counts, and `rest` comes after it
-module _ (whole : Run) (f rest : Run → Run) (ff : Framed f) (fr : Framed rest) (before s T : List ℕ) (w : Written)
-    (a : Along whole (λ x. rest (f x)) before s T w) (safe : Safe whole before) where
+module _ (os : List ℕ) (whole : Run) (f rest : Run → Run) (ff : Framed f) (fr : Framed rest) (before s T : List ℕ) (w : Written)
+    (a : Along os whole (λ x. rest (f x)) before s T w) (safe : Safe whole before) where
   abbrev at : ℕ
   at = w .count
 
@@ -111,56 +119,59 @@ module _ (whole : Run) (f rest : Run → Run) (ff : Framed f) (fr : Framed rest)
   none-after : drop (length T - at) (drop at T) ≡ []
   none-after = drop-of-length-le (drop at T) {i = length T - at} (let e : length (drop at T) ≡ length T - at = length-drop at T in omega arith)
 
+  abbrev here : Run
+  here = sofar os s T w
+
   front : length (take at T) ≡ at
   front = length-take-le at T (a .inside)
 
-  next-words : f (sofar s T at) .words ≡ take at T ++ f (start s) .words
-  next-words = ff .words (sofar s T at)
+  next-words : f here .words ≡ take at T ++ f (afresh here) .words
+  next-words = framed-words ff here
 
-  next-shallow : f (start s) .deep ≡ false
-  next-shallow = sym (ff .deep (sofar s T at)) ∙ begin-shallow whole rest fr (f (sofar s T at)) (a .run) before safe
+  next-shallow : f (afresh here) .deep ≡ false
+  next-shallow = sym (ap (λ (y : Run). y .deep) (ff here)) ∙ begin-shallow whole rest fr (f here) (a .run) before safe
 
-  next-room : at + length (f (start s) .words) ≤ length T
+  next-room : at + length (f (afresh here) .words) ≤ length T
   next-room =
-      let r : length (f (sofar s T at) .words) ≤ length before = begin-room whole rest fr (f (sofar s T at)) (a .run) before safe in
-      let e : length (f (sofar s T at) .words) ≡ length (take at T) + length (f (start s) .words) =
-      ap length next-words ∙ length-append (take at T) (f (start s) .words) in
+      let r : length (f here .words) ≤ length before = begin-room whole rest fr (f here) (a .run) before safe in
+      let e : length (f here .words) ≡ length (take at T) + length (f (afresh here) .words) =
+      ap length next-words ∙ length-append (take at T) (f (afresh here) .words) in
       let k = front in
       let g = a .long in
       omega arith
 
-  pub next-safe : Safe (f (start s)) part
+  pub next-safe : Safe (f (afresh here)) part
   next-safe =
       record {
         room = rw part-is (let e : length (drop at T) ≡ length T - at = length-drop at T in let r = next-room in omega arith);
         shallow = next-shallow;
       }
 
-  module _ (s' part' : List ℕ) (v : Written) (r : Ran (f (start s)) s' part part' v) where
+  module _ (s' part' : List ℕ) (v : Written) (r : Ran os (f (afresh here)) s' part part' v) where
     abbrev n : ℕ
     n = v .count
 
-    m : length (f (start s) .words) ≡ n
+    m : length (f (afresh here) .words) ≡ n
     m = sym (r .count)
 
     abbrev done : List ℕ
-    done = take at T ++ f (start s) .words
+    done = take at T ++ f (afresh here) .words
 
     whole-again : putMid at (length T - at) T part' ≡ done ++ drop (at + n) T
     whole-again =
         rw (none-after, append-nil)
         (ap (λ (p : List ℕ). take at T ++ p) (r .words)
         ∙ rw (part-is, m, drop-drop)
-        (sym (append-assoc (take at T) (f (start s) .words) (drop (at + n) T))))
+        (sym (append-assoc (take at T) (f (afresh here) .words) (drop (at + n) T))))
 
     done-long : length done ≡ at + n
     done-long =
-        let e : length done ≡ length (take at T) + length (f (start s) .words) = length-append (take at T) (f (start s) .words) in
+        let e : length done ≡ length (take at T) + length (f (afresh here) .words) = length-append (take at T) (f (afresh here) .words) in
         let k = front in
         let j = m in
         omega arith
 
-    pub next : Along whole rest before s' (putMid at (length T - at) T part') (plus w v)
+    pub next : Along os whole rest before s' (putMid at (length T - at) T part') (plus w v)
     next =
         let room = next-room in
         let j = m in
@@ -171,10 +182,11 @@ module _ (whole : Run) (f rest : Run → Run) (ff : Framed f) (fr : Framed rest)
         rw whole-again
         (record {
           run = a .run
-              ∙ ap rest (same-run (f (sofar s T at)) s' (take (at + n) (done ++ drop (at + n) T))
-              (ff .state (sofar s T at) ∙ sym (r .state))
+              ∙ ap rest (same-run (f here) s' (take (at + n) (done ++ drop (at + n) T)) (drop (v .read) os)
+              (ap (λ (y : Run). y .state) (ff here) ∙ sym (r .state))
               (next-words ∙ sym (take-at done (drop (at + n) T) (at + n) done-long))
-              (begin-shallow whole rest fr (f (sofar s T at)) (a .run) before safe));
+              (begin-shallow whole rest fr (f here) (a .run) before safe)
+              (ap (λ (y : Run). y .outcomes) (ff here) ∙ sym (r .outcomes)));
           kept = drop-at done (drop (at + n) T) (at + n) done-long ∙ sym (drop-drop n at T) ∙ ap (drop n) (a .kept) ∙ drop-drop n at before;
           inside = omega arith;
           long = omega arith;

@@ -1,35 +1,42 @@
 -- What the code reads of an item, a list and a rule decides how its run goes. Assumes nothing.
 use Prim.Native.Nat.{ℕ, zero, suc, _+_, _-_, _≤_}
 use mathlib.Core.Path.{_≡_, refl, sym, ap, _∙_}
+use mathlib.Core.Bool.{Bool, false, _&&_, and-false}
 use mathlib.Core.List.{List, [], _∷_}
+use native.Mathlib.Nat.{add-zero}
 use native.Mathlib.Omega.{arith}
-use lib.ListN.{length, drop, set}
+use lib.ListN.{length, drop, set, getD, drop-of-length-le}
+use lib.Seq.{drop-drop, getD-drop}
+use lib.Dec.{eqb}
 use borrow.Author.Tests.{eq-eqb, ne-eqb}
 use Rattle.rulebook.specs.Table.{reload, itemKind, itemA}
 use Rattle.rulebook.specs.Lists.{Run, start, emit, traceWord, traceListStart, setPort, networkIn, asking, setNetwork, resultIn, previousIn, choice}
-use Rattle.rulebook.specs.Lists.{choiceIn, setResult, effect, act, judge, runRule, runItem, runItems, runList}
+use Rattle.rulebook.specs.Lists.{choiceIn, setResult, effect, unread, act, stops, judge, runRule, runItem, runItems, runList}
 use Rattle.walks.proofs.Walks.{whole}
 use Rattle.laws.proofs.Tests.{clash}
 use Rattle.laws.proofs.Cases.{item-list, item-rule, item-act}
-use Rattle.laws.proofs.Frame.{Framed, framed-each, item-framed, list-framed}
+use Rattle.laws.proofs.Frame.{Framed, framed-until, item-framed, list-framed}
 use Rattle.words.specs.declared.sections.Item.{Item}
 use Rattle.words.specs.declared.sections.List.{List as ListRead}
 use Rattle.words.specs.Sections.{ItemAt, ListAt}
-use Rattle.lists.specs.Runs.{Safe, Ran, oneWord, itemsFrom}
+use Rattle.lists.specs.Runs.{Safe, Ran, ReadOn, Stops, oneWord, itemsFrom}
+use Rattle.lists.proofs.Along.{begin}
 
 -- a run of one word, written at the front of the trace
 first-word : (T : List ℕ) (w : ℕ) → 1 ≤ length T → set T 0 w ≡ w ∷ drop 1 T
 first-word [] w h = absurd (omega arith)
 first-word (x ∷ T) w h = refl
 
-pub one-ran : (x : Run) (s T T' : List ℕ) (w : ℕ) → x .words ≡ w ∷ [] → Safe x T → s ≡ x .state → T' ≡ set T 0 w → Ran x s T T' oneWord
-one-ran x s T T' w hw safe hs hT =
+pub one-ran : (os : List ℕ) (read : ℕ) (x : Run) (s T T' : List ℕ) (w : ℕ) → x .words ≡ w ∷ [] → Safe x T → s ≡ x .state → T' ≡ set T 0 w
+    → drop read os ≡ x .outcomes → Ran os x s T T' (oneWord read)
+one-ran os read x s T T' w hw safe hs hT ho =
     let l : length (x .words) ≡ 1 = ap length hw in
     let r : length (x .words) ≤ length T = safe .room in
     record {
       state = hs;
       words = rw (l, hw) (hT ∙ first-word T w (omega arith));
       count = sym l;
+      outcomes = ho;
     }
 
 -- item i as read
@@ -52,9 +59,9 @@ module _ (t : List ℕ) (i : ℕ) (x : Item) (is : ItemAt t i x) where
     unfolding effect
     starts n₁ h m hm = rw (hm, names-it, ne-eqb (itemKind t i) 1 (λ e. n₁ (kind-is ∙ e)), eq-eqb (itemKind t i) 2 (sym kind-is ∙ h))
 
-    pub stops : (k ≡ 1 → ⊥) → (k ≡ 2 → ⊥) → k ≡ 3 → setPort (x .a) 1 0 0 s ≡ effect t i s
+    pub stopped : (k ≡ 1 → ⊥) → (k ≡ 2 → ⊥) → k ≡ 3 → setPort (x .a) 1 0 0 s ≡ effect t i s
     unfolding effect
-    stops n₁ n₂ h =
+    stopped n₁ n₂ h =
         rw (
           names-it,
           ne-eqb (itemKind t i) 1 (λ e. n₁ (kind-is ∙ e)),
@@ -85,9 +92,19 @@ module _ (t : List ℕ) (i : ℕ) (x : Item) (is : ItemAt t i x) where
         )
 
   -- the word of an item that acts
-  pub act-word : (o v : ℕ) (s : List ℕ) → v ≡ traceWord k o (x .a) (x .b) → act t o i (start s) .words ≡ v ∷ []
+  pub act-word : (o v : ℕ) (os s : List ℕ) → v ≡ traceWord k o (x .a) (x .b) → act t o i (start os s) .words ≡ v ∷ []
   unfolding act
-  act-word o v s hv = rw (hv, kind-is, names-it, is .b .value)
+  act-word o v os s hv = rw (hv, kind-is, names-it, is .b .value)
+
+  -- the outcomes that it leaves
+  pub act-outcomes : (o : ℕ) (os : List ℕ) (read r : ℕ) (s : List ℕ) → ReadOn k os read r → drop r os ≡ act t o i (begin os read s) .outcomes
+  unfolding act unread
+  act-outcomes o os read r s h = rw kind-is at h
+
+  -- whether it stops its list, by the outcome that is next
+  pub stops-by : (os : List ℕ) (read : ℕ) (b : Bool) → b ≡ (eqb k 0 && eqb (x .abort) 1 && eqb (getD os read 0) 1) → Stops t i os read b
+  unfolding stops
+  stops-by os read b hb y h = rw (h, getD-drop, add-zero, ← kind-is, ← is .abort .value) (sym hb)
 
   module _ (d o : ℕ) (y : Run) where
     pub runs-list : k ≡ 5 → runItem (runList d t) t o i y ≡ runList d t (x .a) y
@@ -105,23 +122,45 @@ module _ (t s : List ℕ) (o r result : ℕ) (hr : result ≡ resultIn t s r) wh
   unfolding choiceIn
   judge-chooses previous l hp hl = hl ∙ rw (hp, hr)
 
-  pub judge-word : (v : ℕ) → v ≡ traceWord 6 o r result → judge t o r (start s) .words ≡ v ∷ []
+  pub judge-word : (v : ℕ) → v ≡ traceWord 6 o r result → judge t o r (start [] s) .words ≡ v ∷ []
   unfolding judge
   judge-word v hv = rw (hv, hr)
 
-  pub judge-state : (s' : List ℕ) → s' ≡ setResult t r result s → s' ≡ judge t o r (start s) .state
+  pub judge-state : (s' : List ℕ) → s' ≡ setResult t r result s → s' ≡ judge t o r (start [] s) .state
   unfolding judge
   judge-state s' h = h ∙ rw hr
 
-pub act-state : (t : List ℕ) (o i : ℕ) (s : List ℕ) → effect t i s ≡ act t o i (start s) .state
+pub judge-outcomes : (t s : List ℕ) (o r : ℕ) → [] ≡ judge t o r (start [] s) .outcomes
+unfolding judge
+judge-outcomes t s o r = refl
+
+pub act-state : (t : List ℕ) (o i : ℕ) (os s : List ℕ) → effect t i s ≡ act t o i (start os s) .state
 unfolding act
-act-state t o i s = refl
+act-state t o i os s = refl
+
+-- An outcome past the end is good, and reading there reads nothing.
+module _ (os : List ℕ) (read : ℕ) (h : length os ≤ read) where
+  none-left : (n : ℕ) → read ≤ n → drop n os ≡ []
+  none-left n g = drop-of-length-le os {i = n} (omega arith)
+
+  pub good-past : (t : List ℕ) (i : ℕ) → Stops t i os read false
+  unfolding stops
+  good-past t i y e = rw (e, none-left read (omega arith), and-false)
+
+  pub reads-past : (k : ℕ) → k ≡ 0 → ReadOn k os read read
+  reads-past k e = rw (e, drop-drop, none-left read (omega arith), none-left (read + 1) (omega arith))
+
+pub reads-none : (os : List ℕ) (read k : ℕ) → (k ≡ 0 → ⊥) → ReadOn k os read read
+reads-none os read k n = rw (ne-eqb k 0 n)
+
+pub reads-next : (os : List ℕ) (read k : ℕ) → k ≡ 0 → ReadOn k os read (read + 1)
+reads-next os read k e = rw (e, drop-drop)
 
 -- A list that may run has a level left.
-pub level-left : (t : List ℕ) (d l : ℕ) (s T : List ℕ) → Safe (runList d t l (start s)) T → 1 ≤ d
+pub level-left : (t : List ℕ) (d l : ℕ) (x : Run) (T : List ℕ) → Safe (runList d t l x) T → 1 ≤ d
 unfolding runList
-level-left t zero l s T safe = clash refl (safe .shallow)
-level-left t (suc d) l s T safe = omega arith
+level-left t zero l x T safe = clash refl (safe .shallow)
+level-left t (suc d) l x T safe = omega arith
 
 list-step : (t : List ℕ) (d n l : ℕ) (x : Run) → d ≡ suc n → runList d t l x ≡ runItems (runList n t) t l x
 unfolding runList
@@ -135,4 +174,4 @@ list-runs t d l x y is more =
     list-step t d (d - 1) l y (omega arith) ∙ rw (whole, is .owner .value, is .first-item .value, is .item-count .value)
 
 pub items-framed : (t : List ℕ) (d o first end : ℕ) → Framed (itemsFrom t d o first end)
-items-framed t d o first end = framed-each _ first (end - first) (item-framed t (runList d t) (list-framed t d) o)
+items-framed t d o first end = framed-until t _ first (end - first) (item-framed t (runList d t) (list-framed t d) o)

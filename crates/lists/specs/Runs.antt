@@ -1,11 +1,13 @@
 -- What running code asks of a run of the rulebook, and what it promises.
 use Prim.Native.Nat.{ℕ, _+_, _-_, _≤_, _<_}
 use mathlib.Core.Path.{_≡_}
-use mathlib.Core.Bool.{false}
+use mathlib.Core.Bool.{Bool, false, cond}
 use mathlib.Core.List.{List, _++_}
 use lib.ListN.{length, drop}
-use Rattle.rulebook.specs.Words.{each}
-use Rattle.rulebook.specs.Lists.{Run, runItem, runList}
+use lib.Dec.{eqb}
+use Rattle.rulebook.specs.Words.{until}
+use Rattle.rulebook.specs.Table.{itemCall}
+use Rattle.rulebook.specs.Lists.{Run, stops, runItem, runList}
 use Rattle.words.specs.declared.sections.Layout.{Layout}
 use Rattle.words.specs.Sections.{Laid}
 use Rattle.lists.specs.declared.Written.{Written}
@@ -20,29 +22,38 @@ pub record MayRun (t : List ℕ) (h : Layout) (x : Run) (trace : List ℕ) : Typ
   pub laid : Laid t h
   pub safe : Safe x trace
 
--- Promised after it: the state is the run's; the run's words stand at the front of the trace, whose other words are unchanged; the
--- count is the number of words written.
-pub record Ran (x : Run) (s before after : List ℕ) (w : Written) : Type 0 where
+-- Promised after it, of the lent outcome words os: the state is the run's; the run's words stand at the front of the trace, whose other
+-- words are unchanged; the count is the number of words written; the outcomes behind those read are the ones that the run has not read.
+pub record Ran (os : List ℕ) (x : Run) (s before after : List ℕ) (w : Written) : Type 0 where
   pub state : s ≡ x .state
   pub words : after ≡ x .words ++ drop (length (x .words)) before
   pub count : w .count ≡ length (x .words)
+  pub outcomes : drop (w .read) os ≡ x .outcomes
 
--- What is written is counted from nothing, by one word, and by what one run writes after another.
+-- What is written is counted from nothing, by one word, and by what one run writes after another; the outcomes read are those read last.
 
-abbrev pub nothing : Written
-nothing = record { count = 0 }
+abbrev pub nothing : ℕ → Written
+nothing read = record { count = 0; read = read }
 
-abbrev pub oneWord : Written
-oneWord = record { count = 1 }
+abbrev pub oneWord : ℕ → Written
+oneWord read = record { count = 1; read = read }
 
 abbrev pub plus : Written → Written → Written
-plus a b = record { count = a .count + b .count }
+plus a b = record { count = a .count + b .count; read = b .read }
 
 -- asked before they are added: the sums are numbers of 64 bits
 pub record Addable (a b : Written) : Type 0 where
   pub count : a .count + b .count < 18446744073709551616
 
+-- What an item does with the outcomes, of which `read` are read: r are read after one of this kind, and whether it stops its list.
+
+abbrev pub ReadOn : ℕ → List ℕ → ℕ → ℕ → Type 0
+ReadOn kind os read r = drop r os ≡ cond (eqb kind itemCall) (drop 1 (drop read os)) (drop read os)
+
+abbrev pub Stops : List ℕ → ℕ → List ℕ → ℕ → Bool → Type 0
+Stops t i os read r = (x : Run) → x .outcomes ≡ drop read os → stops t i x ≡ r
+
 -- The items from `first` up to `end` of a list of owner o, as the rulebook's `runItems` goes through them; a list that they name has
 -- `below` levels.
 abbrev pub itemsFrom : List ℕ → ℕ → ℕ → ℕ → ℕ → Run → Run
-itemsFrom t below o first end x = each first (end - first) (runItem (runList below t) t o) x
+itemsFrom t below o first end x = until first (end - first) (stops t) (runItem (runList below t) t o) x

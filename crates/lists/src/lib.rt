@@ -1,10 +1,14 @@
 // Lists: what each item does, the trace words, and a list run with the lists and rules that it names.
 ghost use mathlib.Core.Path.{_≡_};
-ghost use Rattle.rulebook.specs.Lists.{start, traceWord, effect as effectOf, networkIn, asking, setNetwork, choiceIn, act as actOf, judge as judgeOf, runList, runItem, runRule};
+ghost use mathlib.Core.List.{[]};
+ghost use lib.ListN.{drop};
+ghost use Rattle.rulebook.specs.Lists.{start, traceWord, effect as effectOf, networkIn, asking, setNetwork, choiceIn, act as actOf, judge as judgeOf};
+ghost use Rattle.rulebook.specs.Lists.{runList, runItem, runRule};
 ghost use Rattle.words.specs.Sections.{Laid};
-ghost use Rattle.lists.specs.Runs.{MayRun, Ran, Addable, nothing as nothingWritten, oneWord, plus as plusOf, itemsFrom};
+ghost use Rattle.lists.specs.Runs.{MayRun, Ran, Addable, Stops, ReadOn, nothing as nothingWritten, oneWord, plus as plusOf, itemsFrom};
 use evaluation;
 use words::numbers::ITEM_ASK;
+use words::numbers::ITEM_CALL;
 use words::numbers::ITEM_CLEAR;
 use words::numbers::ITEM_LIST;
 use words::numbers::ITEM_RULE;
@@ -22,21 +26,23 @@ use words::state;
 use words::state::Network;
 use words::state::set_port;
 
-// What a run has written, counted from nothing, by one word, and by what one run writes after another.
+// What a run has written, counted from nothing, by one word, and by what one run writes after another; and how many of the lent outcome
+// words are read by then.
 pub struct Written {
     pub count: usize,
+    pub read: usize,
 }
 
-pub fn nothing() -> Written
-    ensures { λ w. ⌜ w ≡ nothingWritten ⌝ }
+pub fn nothing(read: usize) -> Written
+    ensures { λ w. ⌜ w ≡ nothingWritten read ⌝ }
 {
-    Written { count: 0 }
+    Written { count: 0, read }
 }
 
-fn one_word() -> Written
-    ensures { λ w. ⌜ w ≡ oneWord ⌝ }
+fn one_word(read: usize) -> Written
+    ensures { λ w. ⌜ w ≡ oneWord read ⌝ }
 {
-    Written { count: 1 }
+    Written { count: 1, read }
 }
 
 pub fn plus(a: Written, b: Written) -> Written
@@ -44,7 +50,8 @@ pub fn plus(a: Written, b: Written) -> Written
     ensures { λ w. ⌜ w ≡ plusOf a b ⌝ }
 {
     let count = a.count + b.count;
-    Written { count }
+    let read = b.read;
+    Written { count, read }
 }
 
 // A trace word, each field cut to its width.
@@ -94,23 +101,60 @@ fn effect(t: &[u32], h: Layout, i: u32, s: &mut [u32])
     }
 }
 
+// Of the outcome words, how many are read once an item of this kind has run: a call reads the next one, where there is one.
+fn read_on(kind: u32, outcomes: &[u32], read: usize) -> usize
+    ensures { λ r. ⌜ ReadOn kind (now (outcomes .entry)) read r ⌝ }
+{
+    if kind != ITEM_CALL {
+        return read;
+    }
+    if outcomes.len() <= read {
+        return read;
+    }
+    read + 1
+}
+
 // Item i, of kind 0 to 4, in a list of owner o: its effect and its word.
-fn act(t: &[u32], h: Layout, o: u32, i: u32, s: &mut [u32], trace: &mut [u32]) -> Written
-    requires { ⌜ MayRun (now t) h (actOf (now t) o i (start (now s))) (now trace) ⌝ }
-    ensures { λ w. ⌜ Ran (actOf (now (t .entry)) o i (start (now (s .entry)))) (now (s .exit)) (now (trace .entry)) (now (trace .exit)) w ⌝ }
+fn act(
+    t: &[u32],
+    h: Layout,
+    o: u32,
+    i: u32,
+    s: &mut [u32],
+    trace: &mut [u32],
+    outcomes: &[u32],
+    read: usize,
+) -> Written
+    requires { ⌜ MayRun (now t) h (actOf (now t) o i (start (drop read (now outcomes)) (now s))) (now trace) ⌝ }
+    ensures { λ w. ⌜ Ran (now (outcomes .entry)) (actOf (now (t .entry)) o i (start (drop read (now (outcomes .entry))) (now (s .entry))))
+        (now (s .exit)) (now (trace .entry)) (now (trace .exit)) w ⌝ }
 {
     effect(t, h, i, s);
     let item = sections::item_at(t, h, i);
     put(trace, 0, trace_word(item.kind, o, item.a, item.b));
-    one_word()
+    one_word(read_on(item.kind, outcomes, read))
+}
+
+// Whether item i stops the list that holds it: it is a call with abort, and the outcome that it is about to read says failed. Where no
+// outcome is left every call is good, and no item is looked at.
+fn stops(t: &[u32], h: Layout, i: u32, outcomes: &[u32], read: usize) -> bool
+    requires { ⌜ Laid (now t) h ⌝ }
+    ensures { λ r. ⌜ Stops (now (t .entry)) i (now (outcomes .entry)) read r ⌝ }
+{
+    if read < outcomes.len() {
+        let item = sections::item_at(t, h, i);
+        let failed = outcomes[read] == 1;
+        return (item.kind == ITEM_CALL) & (item.abort == 1) & failed;
+    }
+    false
 }
 
 // Rule r, which is ready, as an item of a list of owner o: its result is stored and its word written. Returns the list that it
-// starts, 255 for none.
+// starts, 255 for none. It reads no outcome, so it is told of none.
 fn judge(t: &[u32], h: Layout, o: u32, r: u32, s: &mut [u32], trace: &mut [u32]) -> u32
-    requires { ⌜ MayRun (now t) h (judgeOf (now t) o r (start (now s))) (now trace) ⌝ }
+    requires { ⌜ MayRun (now t) h (judgeOf (now t) o r (start [] (now s))) (now trace) ⌝ }
     ensures { λ l. ⌜ l ≡ choiceIn (now (t .entry)) (now (s .entry)) r ⌝ }
-    ensures { λ _. ⌜ Ran (judgeOf (now (t .entry)) o r (start (now (s .entry)))) (now (s .exit)) (now (trace .entry)) (now (trace .exit)) oneWord ⌝ }
+    ensures { λ _. ⌜ Ran [] (judgeOf (now (t .entry)) o r (start [] (now (s .entry)))) (now (s .exit)) (now (trace .entry)) (now (trace .exit)) (oneWord 0) ⌝ }
 {
     let result = evaluation::result(t, h, s, r);
     let before = state::result_in(t, h, s, r);
@@ -121,7 +165,8 @@ fn judge(t: &[u32], h: Layout, o: u32, r: u32, s: &mut [u32], trace: &mut [u32])
 }
 
 // List l with so many levels left: a word for its start, then its items. Like each of the cycle it fills the front of the trace
-// that it is lent, and returns what it has written. A list has fewer levels left than the one that starts it.
+// that it is lent, goes by the lent outcome words behind those that are read, and returns what it has written. A list has fewer levels
+// left than the one that starts it.
 pub fn run_list(
     t: &[u32],
     h: Layout,
@@ -129,9 +174,12 @@ pub fn run_list(
     levels: u32,
     s: &mut [u32],
     trace: &mut [u32],
+    outcomes: &[u32],
+    read: usize,
 ) -> Written
-    requires { ⌜ MayRun (now t) h (runList levels (now t) l (start (now s))) (now trace) ⌝ }
-    ensures { λ w. ⌜ Ran (runList levels (now (t .entry)) l (start (now (s .entry)))) (now (s .exit)) (now (trace .entry)) (now (trace .exit)) w ⌝ }
+    requires { ⌜ MayRun (now t) h (runList levels (now t) l (start (drop read (now outcomes)) (now s))) (now trace) ⌝ }
+    ensures { λ w. ⌜ Ran (now (outcomes .entry)) (runList levels (now (t .entry)) l (start (drop read (now (outcomes .entry))) (now (s .entry))))
+        (now (s .exit)) (now (trace .entry)) (now (trace .exit)) w ⌝ }
 {
     let list = sections::list_at(t, h, l);
     put(trace, 0, trace_word(TRACE_LIST_START, list.owner, l, 0));
@@ -144,11 +192,13 @@ pub fn run_list(
         levels - 1,
         s,
         &mut trace[1..],
+        outcomes,
+        read,
     );
-    plus(one_word(), more)
+    plus(one_word(read), more)
 }
 
-// The items from `first` up to `end`, of a list of owner o.
+// The items from `first` up to `end`, of a list of owner o, or up to and with the one that stops the list.
 fn run_items(
     t: &[u32],
     h: Layout,
@@ -158,16 +208,24 @@ fn run_items(
     below: u32,
     s: &mut [u32],
     trace: &mut [u32],
+    outcomes: &[u32],
+    read: usize,
 ) -> Written
-    requires { ⌜ MayRun (now t) h (itemsFrom (now t) below o first end (start (now s))) (now trace) ⌝ }
-    ensures { λ w. ⌜ Ran (itemsFrom (now (t .entry)) below o first end (start (now (s .entry)))) (now (s .exit)) (now (trace .entry)) (now (trace .exit)) w ⌝ }
+    requires { ⌜ MayRun (now t) h (itemsFrom (now t) below o first end (start (drop read (now outcomes)) (now s))) (now trace) ⌝ }
+    ensures { λ w. ⌜ Ran (now (outcomes .entry)) (itemsFrom (now (t .entry)) below o first end (start (drop read (now (outcomes .entry))) (now (s .entry))))
+        (now (s .exit)) (now (trace .entry)) (now (trace .exit)) w ⌝ }
 {
-    let mut written = nothing();
+    let mut written = nothing(read);
     let mut i = first;
     while i < end {
         let at = written.count;
-        let more = run_item(t, h, o, i, below, s, &mut trace[at..]);
+        let next = written.read;
+        let last = stops(t, h, i, outcomes, next);
+        let more = run_item(t, h, o, i, below, s, &mut trace[at..], outcomes, next);
         written = plus(written, more);
+        if last {
+            return written;
+        }
         i += 1;
     }
     written
@@ -182,18 +240,22 @@ fn run_item(
     below: u32,
     s: &mut [u32],
     trace: &mut [u32],
+    outcomes: &[u32],
+    read: usize,
 ) -> Written
-    requires { ⌜ MayRun (now t) h (runItem (runList below (now t)) (now t) o i (start (now s))) (now trace) ⌝ }
-    ensures { λ w. ⌜ Ran (runItem (runList below (now (t .entry))) (now (t .entry)) o i (start (now (s .entry)))) (now (s .exit)) (now (trace .entry)) (now (trace .exit)) w ⌝ }
+    requires { ⌜ MayRun (now t) h (runItem (runList below (now t)) (now t) o i (start (drop read (now outcomes)) (now s))) (now trace) ⌝ }
+    ensures { λ w. ⌜ Ran (now (outcomes .entry)) (runItem (runList below (now (t .entry))) (now (t .entry)) o i
+        (start (drop read (now (outcomes .entry))) (now (s .entry))))
+        (now (s .exit)) (now (trace .entry)) (now (trace .exit)) w ⌝ }
 {
     let item = sections::item_at(t, h, i);
     if item.kind == ITEM_LIST {
-        return run_list(t, h, item.a, below, s, trace);
+        return run_list(t, h, item.a, below, s, trace, outcomes, read);
     }
     if item.kind == ITEM_RULE {
-        return run_rule(t, h, o, item.a, below, s, trace);
+        return run_rule(t, h, o, item.a, below, s, trace, outcomes, read);
     }
-    act(t, h, o, i, s, trace)
+    act(t, h, o, i, s, trace, outcomes, read)
 }
 
 // Rule item r of a list of owner o.
@@ -205,18 +267,22 @@ fn run_rule(
     below: u32,
     s: &mut [u32],
     trace: &mut [u32],
+    outcomes: &[u32],
+    read: usize,
 ) -> Written
-    requires { ⌜ MayRun (now t) h (runRule (runList below (now t)) (now t) o r (start (now s))) (now trace) ⌝ }
-    ensures { λ w. ⌜ Ran (runRule (runList below (now (t .entry))) (now (t .entry)) o r (start (now (s .entry)))) (now (s .exit)) (now (trace .entry)) (now (trace .exit)) w ⌝ }
+    requires { ⌜ MayRun (now t) h (runRule (runList below (now t)) (now t) o r (start (drop read (now outcomes)) (now s))) (now trace) ⌝ }
+    ensures { λ w. ⌜ Ran (now (outcomes .entry)) (runRule (runList below (now (t .entry))) (now (t .entry)) o r
+        (start (drop read (now (outcomes .entry))) (now (s .entry))))
+        (now (s .exit)) (now (trace .entry)) (now (trace .exit)) w ⌝ }
 {
     if evaluation::unready(t, h, s, r) {
         put(trace, 0, trace_word(ITEM_RULE, o, r, UNDEFINED_RESULT));
-        return one_word();
+        return one_word(read);
     }
     let l = judge(t, h, o, r, s, trace);
     if l == NO_LIST {
-        return one_word();
+        return one_word(read);
     }
-    let more = run_list(t, h, l, below, s, &mut trace[1..]);
-    plus(one_word(), more)
+    let more = run_list(t, h, l, below, s, &mut trace[1..], outcomes, read);
+    plus(one_word(read), more)
 }

@@ -14,8 +14,7 @@ use types.Run.{OneOf, miss}
 use denote.Enum.Declared.{tagOf}
 use borrow.Author.Tests.{eqb-true}
 use borrow.Rule.Slice.PartMut.{midOf, putMid, put-same}
-use Rattle.rulebook.specs.State.{fits}
-use Rattle.rulebook.specs.Step.{refusedState, step}
+use Rattle.rulebook.specs.Step.{refusedState, heeded, step}
 use Rattle.rulebook.specs.Play.{Play, ending, onto, playOn}
 use Rattle.rulebook.proofs.Play.{refused-ends, taken-goes-on}
 use Rattle.laws.proofs.Fit.{fits-length}
@@ -23,30 +22,36 @@ use Rattle.laws.proofs.Facts.{facts}
 use Rattle.laws.proofs.Steps.{step-cases, happen-paid, step-fits, refusal-changes-nothing}
 use Rattle.laws.proofs.Play.{stood-table, stood-state, play-stands, play-unadmitted, onto-none, onto-onto}
 use Rattle.events.specs.declared.Answer.{Answer}
-use Rattle.events.specs.declared.Answer.the-variants.{Done, BadTable, UnfitState, ShortTrace, Malformed, NoSuchThing, NotItsOwner}
+use Rattle.events.specs.declared.Answer.the-variants.{Done, BadTable, UnfitState, ShortTrace, Malformed, NoSuchThing, NotItsOwner, BadOutcome}
 use Rattle.events.proofs.Answer.{the-type}
 use Rattle.events.specs.Answers.{numberOf, countOf, Reports}
 use Rattle.manager.specs.declared.End.{End}
 use Rattle.manager.specs.declared.End.the-variants as ends
 use Rattle.manager.specs.Answers.{endNumber}
 use Rattle.manager.specs.Promises.{PlaysIn}
+use Rattle.manager.proofs.Steps.{small-answer}
 
 -- what `let .. else` knows of an answer that is not `Done`: its variant is one of the others
 
 abbrev others : List ℕ
-others = 1 ∷ 2 ∷ 3 ∷ 4 ∷ 5 ∷ 6 ∷ []
+others = 1 ∷ 2 ∷ 3 ∷ 4 ∷ 5 ∷ 6 ∷ 7 ∷ []
 
 done-alone : (r : Answer) → numberOf r ≡ 0 → eqb (tagOf the-type r) 0 ≡ true
-done-alone (Done w) z = refl
+done-alone (Done report) z = refl
 done-alone BadTable z = absurd (omega arith)
 done-alone UnfitState z = absurd (omega arith)
 done-alone ShortTrace z = absurd (omega arith)
 done-alone Malformed z = absurd (omega arith)
 done-alone NoSuchThing z = absurd (omega arith)
 done-alone NotItsOwner z = absurd (omega arith)
+done-alone BadOutcome z = absurd (omega arith)
 
 pub not-done : (r : Answer) → OneOf others (tagOf the-type r) → numberOf r ≡ 0 → ⊥
 not-done r other z = miss others 0 tt (subst (OneOf others) (eqb-true _ _ (done-alone r z)) other)
+
+-- the words behind the last event are none
+pub none-behind : (es : List ℕ) → midOf (length es) (length es - length es) es ≡ []
+none-behind es = let z : length es - length es ≡ 0 = omega arith in rw z
 
 -- table or state does not stand
 pub plays-unadmitted : (t s trace es : List ℕ) (k : ℕ) → (refusedState t s ≡ 0 → ⊥) → k ≡ refusedState t s → PlaysIn t s trace es k 0 0 s trace
@@ -54,10 +59,10 @@ plays-unadmitted t s trace es k n is =
     rw (play-unadmitted t s n (length trace) es) (record { answer = is; taken = refl; count = refl; state = refl; words = refl })
 
 -- what a done call writes has room
-words-in-room : (t s : List ℕ) (room e : ℕ) → step t s room e .answer ≡ 0 → length (step t s room e .words) ≤ room
+words-in-room : (t s : List ℕ) (room e : ℕ) → step t s room [] e .answer ≡ 0 → length (step t s room [] e .words) ≤ room
 words-in-room t s room e =
-    step-cases (λ r. r .answer ≡ 0 → length (r .words) ≤ room) t s room e (λ k a b z. absurd (omega arith))
-    (λ c w z. let p = happen-paid t (facts t (c .table)) e s in let q = c .enough in omega arith)
+    step-cases (λ r. r .answer ≡ 0 → length (r .words) ≤ room) t s room [] e (λ k a b z. absurd (omega arith))
+    (λ c w z. let p = happen-paid t (facts t (c .table)) e (heeded t []) s in let q = c .enough in omega arith)
 
 -- The whole play of es from s₀ is what was taken so far, with its words at the front of the trace T, and a play of the rest from s in the
 -- rest of the trace, which is as it was.
@@ -84,9 +89,9 @@ along-none t es s T z =
       stateLong = refl;
     }
 
-stands-again : (t s : List ℕ) (room e : ℕ) → refusedState t s ≡ 0 → refusedState t (step t s room e .state) ≡ 0
+stands-again : (t s : List ℕ) (room e : ℕ) → refusedState t s ≡ 0 → refusedState t (step t s room [] e .state) ≡ 0
 unfolding refusedState
-stands-again t s room e z = rw (stood-table t s z, step-fits t s room e (stood-table t s z) (stood-state t s z))
+stands-again t s room e z = rw (stood-table t s z, step-fits t s room [] e (stood-table t s z) (stood-state t s z))
 
 module _ {t es s₀ before s T : List ℕ} {taken count : ℕ} (a : Along t es s₀ before s T taken count) where
   abbrev pub part : List ℕ
@@ -121,31 +126,37 @@ module _ {t es s₀ before s T : List ℕ} {taken count : ℕ} (a : Along t es s
   unfolding playOn
   along-end all = tells 0 (rw (drop-of-length-le es {i = taken} all))
 
-  -- event e is next; a single call in the rest of the trace gave r
+  -- event e is next; a single call in the rest of the trace, with no outcomes lent, gave r
   module _ (e : ℕ) (left : taken < length es) (is : e ≡ getD es taken 0) (s' part' : List ℕ) (r : Answer)
-      (told : Reports (step t s (length part) e) part r s' part') where
+      (os : List ℕ) (none : os ≡ []) (lent : Reports (step t s (length part) os e) part r s' part') where
+    told : Reports (step t s (length part) [] e) part r s' part'
+    told = rw none at lent
+
     ahead : playOn t (drop taken es) s (length before - count) ≡ playOn t (e ∷ drop (suc taken) es) s (length part)
     ahead = rw (drop-cons es taken 0 left, ← is, part-long)
 
+    pub not-eight : numberOf r ≡ 8 → ⊥
+    not-eight z = omega (arith, small-answer t s (length part) e, told .answer, z)
+
     module _ (n : numberOf r ≡ 0 → ⊥) where
-      no : step t s (length part) e .answer ≡ 0 → ⊥
+      no : step t s (length part) [] e .answer ≡ 0 → ⊥
       no z = n (told .answer ∙ z)
 
       unchanged : putMid count (length T - count) T part' ≡ T
       unchanged =
           ap (putMid count (length T - count) T)
-          (told .words ∙ ap (λ (ws : List ℕ). ws ++ drop (length ws) part) (refusal-changes-nothing t s (length part) e no .1))
+          (told .words ∙ ap (λ (ws : List ℕ). ws ++ drop (length ws) part) (refusal-changes-nothing t s (length part) [] e no .1))
           ∙ put-same count (length T - count) T
 
       same-state : s' ≡ s
-      same-state = told .state ∙ refusal-changes-nothing t s (length part) e no .0
+      same-state = told .state ∙ refusal-changes-nothing t s (length part) [] e no .0
 
       -- the call refused it
       pub along-ends : PlaysIn t s₀ before es (numberOf r) taken count s' (putMid count (length T - count) T part')
       along-ends =
           rw (unchanged, same-state)
           (tells (numberOf r) (ahead ∙ refused-ends t e (drop (suc taken) es) s (length part) no
-          ∙ rw (refusal-changes-nothing t s (length part) e no .0, told .answer)))
+          ∙ rw (refusal-changes-nothing t s (length part) [] e no .0, told .answer)))
 
       pub ends-state-long : length s' ≡ length s₀
       ends-state-long = ap length same-state ∙ a .stateLong
@@ -155,7 +166,7 @@ module _ {t es s₀ before s T : List ℕ} {taken count : ℕ} (a : Along t es s
 
     module _ (n : ℕ) (z : numberOf r ≡ 0) (counted : countOf r ≡ n) where
       abbrev ws : List ℕ
-      ws = step t s (length part) e .words
+      ws = step t s (length part) [] e .words
 
       words-long : length ws ≡ n
       words-long = sym (told .count) ∙ counted
@@ -186,7 +197,7 @@ module _ {t es s₀ before s T : List ℕ} {taken count : ℕ} (a : Along t es s
 
       -- the play of the events behind it
       abbrev behind : ℕ → ℕ → Play
-      behind k left = playOn t (drop k es) (step t s (length part) e .state) left
+      behind k left = playOn t (drop k es) (step t s (length part) [] e .state) left
 
       goes-on : onto (taken + 1) done (behind (suc taken) (length part - length ws))
           ≡ onto (taken + 1) (take (count + n) (done ++ drop (count + n) T)) (behind (taken + 1) (length before - (count + n)))

@@ -2,17 +2,18 @@
 use Prim.Native.Nat.{ℕ, _≤_}
 use mathlib.Core.Path.{_≡_, refl}
 use mathlib.Core.Bool.{true, false}
-use mathlib.Core.List.{List}
+use mathlib.Core.List.{List, []}
 use native.Mathlib.Omega.{arith}
 use lib.ListN.{length}
-use lib.Dec.{leb}
+use lib.Dec.{leb, eqb}
 use borrow.Author.Tests.{leb-true, leb-false, le-ltb}
 use Rattle.rulebook.specs.Table.{rules}
 use Rattle.rulebook.specs.Reasons.{bound, accepted}
 use Rattle.rulebook.specs.Events.{happen}
-use Rattle.rulebook.specs.Step.{refusedState, firstFault, refusedEvent, conclude, step, handle}
+use Rattle.rulebook.specs.Step.{refusedState, refusedCall, firstFault, refusedEvent, finish, conclude, heeded, step, handle}
 use Rattle.laws.proofs.Facts.{facts}
-use Rattle.laws.proofs.Steps.{happen-shallow, happen-paid}
+use Rattle.laws.proofs.Tests.{split}
+use Rattle.laws.proofs.Steps.{call-small, event-small, step-in-parts, happen-shallow, happen-paid}
 use Rattle.laws.proofs.Play.{stood-table, stood-state, step-unadmitted, step-full}
 use Rattle.words.specs.declared.sections.Layout.{Layout}
 use Rattle.lists.specs.Runs.{Safe}
@@ -22,35 +23,35 @@ use Rattle.events.specs.Answers.{numberOf, countOf, Reports}
 use Rattle.manager.specs.Promises.{Admitted}
 
 -- table or state does not stand
-pub reports-unadmitted : (t s trace : List ℕ) (e : ℕ) (r : Answer) → (refusedState t s ≡ 0 → ⊥) → numberOf r ≡ refusedState t s → countOf r ≡ 0
-    → Reports (step t s (length trace) e) trace r s trace
-reports-unadmitted t s trace e r n is none =
-    rw (step-unadmitted t s n (length trace) e) (record { answer = is; count = none; state = refl; words = refl })
+pub reports-unadmitted : (t s trace os : List ℕ) (e : ℕ) (r : Answer) → (refusedState t s ≡ 0 → ⊥) → numberOf r ≡ refusedState t s → countOf r ≡ 0
+    → Reports (step t s (length trace) os e) trace r s trace
+reports-unadmitted t s trace os e r n is none =
+    rw (step-unadmitted t s n (length trace) os e) (record { answer = is; count = none; state = refl; words = refl })
 
 -- what the run needs: its words fit the trace, and it is not deep
-pub safe : (t s trace : List ℕ) (e : ℕ) → accepted t ≡ true → bound t ≤ length trace → Safe (happen t e s) trace
-safe t s trace e h enough =
-    record { room = let paid = happen-paid t (facts t h) e s in omega arith; shallow = happen-shallow t (facts t h) e s }
+pub safe : (t s trace os : List ℕ) (e : ℕ) → accepted t ≡ true → bound t ≤ length trace → Safe (happen t e os s) trace
+safe t s trace os e h enough =
+    record { room = let paid = happen-paid t (facts t h) e os s in omega arith; shallow = happen-shallow t (facts t h) e os s }
 
 pub few-rules : (t : List ℕ) (n : ℕ) → accepted t ≡ true → n ≡ rules t → n ≤ 256
 few-rules t n h e = let few = facts t h .counts .rules in omega arith
 
 -- Behind the check of table and state, which gave b.
 
-module _ {t s : List ℕ} {h : Layout} {b : ℕ} (ok : Admitted t s h b) (trace : List ℕ) (e : ℕ) where
+module _ {t s : List ℕ} {h : Layout} {b : ℕ} (ok : Admitted t s h b) (trace os : List ℕ) (e : ℕ) where
   table-stands : accepted t ≡ true
   table-stands = stood-table t s (ok .stands)
 
-  pub short-trace : leb b (length trace) ≡ false → Reports (step t s (length trace) e) trace ShortTrace s trace
+  pub short-trace : leb b (length trace) ≡ false → Reports (step t s (length trace) os e) trace ShortTrace s trace
   short-trace r =
       let less = leb-false b (length trace) r in let is = ok .bound in
-      rw (step-full t s (length trace) e table-stands (stood-state t s (ok .stands)) (omega arith))
+      rw (step-full t s (length trace) os e table-stands (stood-state t s (ok .stands)) (omega arith))
       (record { answer = refl; count = refl; state = refl; words = refl })
 
   enough : leb b (length trace) ≡ true → bound t ≤ length trace
   enough r = let least = leb-true b (length trace) r in let is = ok .bound in omega arith
 
-  pub goes-on : leb b (length trace) ≡ true → step t s (length trace) e ≡ handle t s e
+  pub goes-on : leb b (length trace) ≡ true → step t s (length trace) os e ≡ handle t s os e
   unfolding step handle conclude firstFault refusedEvent
   goes-on r = rw (table-stands, stood-state t s (ok .stands), le-ltb (length trace) (bound t) (enough r))
 
@@ -58,5 +59,15 @@ module _ {t s : List ℕ} {h : Layout} {b : ℕ} (ok : Admitted t s h b) (trace 
   pub few : h .rules ≤ 256
   few = few-rules t _ table-stands (ok .laid .rules .value)
 
-  pub run-safe : leb b (length trace) ≡ true → Safe (happen t e s) trace
-  run-safe r = safe t s trace e table-stands (enough r)
+  pub run-safe : leb b (length trace) ≡ true → Safe (happen t e (heeded t os) s) trace
+  run-safe r = safe t s trace (heeded t os) e table-stands (enough r)
+
+-- no outcomes are lent: answer 8 does not come
+pub small-answer : (t s : List ℕ) (room e : ℕ) → step t s room [] e .answer ≤ 7
+unfolding handle conclude finish
+small-answer t s room e =
+    split (eqb (refusedCall t s room) 0)
+    (λ a. split (eqb (refusedEvent t [] e) 0)
+    (λ b. split (happen t e (heeded t []) s .deep) (λ c. rw (step-in-parts, a, b, c) (omega arith)) (λ c. rw (step-in-parts, a, b, c) (omega arith)))
+    (λ b. let m = event-small t e in rw (step-in-parts, a, b) (omega arith)))
+    (λ a. let m = call-small t s room in rw (step-in-parts, a) (omega arith))

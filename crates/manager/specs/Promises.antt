@@ -51,14 +51,14 @@ ChecksStateIn t s k = k ≡ refusedState t s
 abbrev pub ChecksState : List ℕ → List ℕ → Fit → Type 0
 ChecksState t s r = ChecksStateIn t s (stateNumber r)
 
--- `take_event` of table t, state s, the lent trace and the event word e: the answer's number k and the count n, state and trace
+-- `take_event` of table t, state s, the lent trace, the lent outcome words os and the event word e: the answer's number k and the count n, state and trace
 -- afterwards
 
-abbrev pub TakesEventIn : List ℕ → List ℕ → List ℕ → ℕ → ℕ → ℕ → List ℕ → List ℕ → Type 0
-TakesEventIn t s trace e k n s′ trace′ = Tells (step t s (length trace) e) trace k n s′ trace′
+abbrev pub TakesEventIn : List ℕ → List ℕ → List ℕ → List ℕ → ℕ → ℕ → ℕ → List ℕ → List ℕ → Type 0
+TakesEventIn t s trace os e k n s′ trace′ = Tells (step t s (length trace) os e) trace k n s′ trace′
 
-abbrev pub TakesEvent : List ℕ → List ℕ → List ℕ → ℕ → Answer → List ℕ → List ℕ → Type 0
-TakesEvent t s trace e r s′ trace′ = TakesEventIn t s trace e (numberOf r) (countOf r) s′ trace′
+abbrev pub TakesEvent : List ℕ → List ℕ → List ℕ → List ℕ → ℕ → Answer → List ℕ → List ℕ → Type 0
+TakesEvent t s trace os e r s′ trace′ = TakesEventIn t s trace os e (numberOf r) (countOf r) s′ trace′
 
 -- `play` of table t, state s, the lent trace and the event words es: the number k of what ended it, n events taken, m trace words
 -- written, state and trace afterwards. The joined words stand at the front of the trace, and its other words are unchanged.

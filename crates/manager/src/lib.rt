@@ -5,7 +5,7 @@ ghost use Rattle.events.specs.Answers.{numberOf, countOf};
 ghost use Rattle.manager.specs.Answers.{stateNumber, endNumber};
 ghost use Rattle.manager.specs.Promises.{ChecksTable, CountsWords, MakesFresh, ChecksState, Admitted, TakesEvent, Plays};
 use events::Answer;
-use lists::nothing;
+use events::Report;
 use refusals::Check;
 use refusals::passed_if;
 use states::Admission;
@@ -65,34 +65,43 @@ fn not_admitted(admission: Admission) -> Answer
     ensures { λ r. ⌜ (numberOf r ≡ admissionNumber admission) × (countOf r ≡ 0) ⌝ }
 {
     match admission {
-        Admission::Stands(_) => Answer::Done(nothing()),
+        Admission::Stands(_) => Answer::Done(Report { count: 0 }),
         Admission::BadTable => Answer::BadTable,
         Admission::Unfit => Answer::UnfitState,
     }
 }
 
 // One event behind the check of table and state, which gave B.
-fn take_next(t: &[u32], h: Layout, b: u32, e: u32, s: &mut [u32], trace: &mut [u32]) -> Answer
+fn take_next(
+    t: &[u32],
+    h: Layout,
+    b: u32,
+    e: u32,
+    s: &mut [u32],
+    trace: &mut [u32],
+    outcomes: &[u32],
+) -> Answer
     requires { ⌜ Admitted (now t) (now s) h b ⌝ }
-    ensures { λ r. ⌜ TakesEvent (now (t .entry)) (now (s .entry)) (now (trace .entry)) e r (now (s .exit)) (now (trace .exit)) ⌝ }
+    ensures { λ r. ⌜ TakesEvent (now (t .entry)) (now (s .entry)) (now (trace .entry)) (now (outcomes .entry)) e r (now (s .exit)) (now (trace .exit)) ⌝ }
 {
     let room = passed_if(b as usize <= trace.len());
     let Check::Passed = room else {
         return Answer::ShortTrace;
     };
-    events::handle(t, h, e, s, trace)
+    events::handle(t, h, e, s, trace, outcomes)
 }
 
-// Takes one event. The state and the trace are written in place; a refusal changes no word of either.
-pub fn take_event(t: &[u32], s: &mut [u32], trace: &mut [u32], e: u32) -> Answer
-    ensures { λ r. ⌜ TakesEvent (now (t .entry)) (now (s .entry)) (now (trace .entry)) e r (now (s .exit)) (now (trace .exit)) ⌝ }
+// Takes one event, with the outcomes of the outside calls that it runs: 0 for good, 1 for failed, and past their end good. The state and
+// the trace are written in place; a refusal changes no word of either.
+pub fn take_event(t: &[u32], s: &mut [u32], trace: &mut [u32], outcomes: &[u32], e: u32) -> Answer
+    ensures { λ r. ⌜ TakesEvent (now (t .entry)) (now (s .entry)) (now (trace .entry)) (now (outcomes .entry)) e r (now (s .exit)) (now (trace .exit)) ⌝ }
 {
     let admission = admit(t, s);
     let Admission::Stands(b) = admission else {
         return not_admitted(admission);
     };
     let h = read_accepted(t);
-    take_next(t, h, b, e, s, trace)
+    take_next(t, h, b, e, s, trace, outcomes)
 }
 
 // What ended a play: all its events are taken, or which answer stood before the next. A trace that is full is answer 3's.
@@ -121,8 +130,9 @@ pub fn end_number(end: End) -> u32
     }
 }
 
-// The end that a single call's answer makes.
+// The end that a single call's answer makes. A play lends no outcomes, so answer 8 does not come.
 fn end_of(answer: Answer) -> End
+    requires { ⌜ (numberOf answer ≡ 8 → ⊥) ⌝ }
     ensures { λ r. ⌜ endNumber r ≡ numberOf answer ⌝ }
 {
     match answer {
@@ -133,6 +143,7 @@ fn end_of(answer: Answer) -> End
         Answer::Malformed => End::Malformed,
         Answer::NoSuchThing => End::NoSuchThing,
         Answer::NotItsOwner => End::NotItsOwner,
+        Answer::BadOutcome => End::Done,
     }
 }
 
@@ -143,7 +154,7 @@ pub struct Played {
     pub end: End,
 }
 
-// The events of a play, each in the trace words that those before it left free.
+// The events of a play, each in the trace words that those before it left free. All calls are good: the outcomes lent are none.
 fn play_on(t: &[u32], h: Layout, b: u32, s: &mut [u32], trace: &mut [u32], es: &[u32]) -> Played
     requires { ⌜ Admitted (now t) (now s) h b ⌝ }
     ensures { λ r. ⌜ Plays (now (t .entry)) (now (s .entry)) (now (trace .entry)) (now (es .entry)) r (now (s .exit)) (now (trace .exit)) ⌝ }
@@ -151,12 +162,12 @@ fn play_on(t: &[u32], h: Layout, b: u32, s: &mut [u32], trace: &mut [u32], es: &
     let mut taken: usize = 0;
     let mut count: usize = 0;
     while taken < es.len() {
-        let answer = take_next(t, h, b, es[taken], s, &mut trace[count..]);
-        let Answer::Done(written) = answer else {
+        let answer = take_next(t, h, b, es[taken], s, &mut trace[count..], &es[es.len()..]);
+        let Answer::Done(report) = answer else {
             let end = end_of(answer);
             return Played { taken, count, end };
         };
-        count += written.count;
+        count += report.count;
         taken += 1;
     }
     Played {

@@ -1,8 +1,8 @@
-// Answers 4, 5 and 6: an event that is refused, by its word and the table alone.
+// Answers 4, 8, 5 and 6, in this order: an event that is refused, by its word, the outcome words lent with it and the table alone.
 ghost use mathlib.Core.Path.{_≡_};
 ghost use Rattle.rulebook.specs.State.{ownerOf};
 ghost use Rattle.rulebook.specs.Step.{wellFormed, named as namedOf, present as presentOf, suited as suitedOf};
-ghost use Rattle.rulebook.specs.Step.{known as knownOf, sentByOwner};
+ghost use Rattle.rulebook.specs.Step.{outcomesKnown, known as knownOf, sentByOwner};
 ghost use Rattle.words.specs.Sections.{Laid};
 ghost use Rattle.words.specs.State.{thingOf};
 ghost use Rattle.refusals.specs.Answers.{passes, eventChecked};
@@ -111,6 +111,19 @@ fn well_formed(e: u32) -> Check
     )
 }
 
+// Whether every outcome word that is lent is 0 for good or 1 for failed.
+fn outcomes_known(outcomes: &[u32]) -> Check
+    ensures { λ r. ⌜ passes r ≡ outcomesKnown (now (outcomes .entry)) ⌝ }
+{
+    let n = outcomes.len();
+    for k in 0..n {
+        if 1 < outcomes[k] {
+            return Check::Failed;
+        }
+    }
+    Check::Passed
+}
+
 fn known(t: &[u32], h: Layout, e: u32) -> Check
     requires { ⌜ Laid (now t) h ⌝ }
     ensures { λ r. ⌜ passes r ≡ knownOf (now (t .entry)) e ⌝ }
@@ -135,18 +148,23 @@ fn sent_by_owner(t: &[u32], h: Layout, e: u32) -> Check
 pub enum EventCheck {
     Taken,
     Malformed,
+    BadOutcome,
     NoSuchThing,
     NotItsOwner,
 }
 
 // The first check that fails ends the call with its answer.
-pub fn check_event(t: &[u32], h: Layout, e: u32) -> EventCheck
+pub fn check_event(t: &[u32], h: Layout, outcomes: &[u32], e: u32) -> EventCheck
     requires { ⌜ Laid (now t) h ⌝ }
-    ensures { λ r. ⌜ r ≡ eventChecked (now (t .entry)) e ⌝ }
+    ensures { λ r. ⌜ r ≡ eventChecked (now (t .entry)) (now (outcomes .entry)) e ⌝ }
 {
     let form = well_formed(e);
     let Check::Passed = form else {
         return EventCheck::Malformed;
+    };
+    let lent = outcomes_known(outcomes);
+    let Check::Passed = lent else {
+        return EventCheck::BadOutcome;
     };
     let thing = known(t, h, e);
     let Check::Passed = thing else {

@@ -3,7 +3,7 @@
 use Prim.Native.Nat.{ℕ, _+_, _*_, _<_, _≤_}
 use mathlib.Core.Path.{_≡_, sym, _∙_}
 use mathlib.Core.Bool.{true, false}
-use mathlib.Core.List.{List}
+use mathlib.Core.List.{List, []}
 use native.Mathlib.Omega.{arith}
 use lib.ListN.{length, take, length-append, length-drop}
 use lib.Seq.{take-append-seam}
@@ -17,12 +17,12 @@ use Rattle.laws.specs.Callable.{Callable}
 use Rattle.laws.proofs.Tests.{split}
 use Rattle.laws.proofs.Facts.{facts}
 use Rattle.laws.proofs.Fit.{fits-length}
-use Rattle.laws.proofs.Steps.{step-cases, words-within, step-fits, callable}
+use Rattle.laws.proofs.Steps.{words-within, step-fits, callable}
 use Rattle.lists.specs.Runs.{Safe}
 use Rattle.events.specs.declared.Answer.{Answer}
 use Rattle.events.specs.Answers.{numberOf, countOf, Reports}
 use Rattle.laws.proofs.Play.{stood-table, stood-state}
-use Rattle.manager.proofs.Steps.{safe}
+use Rattle.manager.proofs.Steps.{safe, small-answer}
 use Rattle.session.specs.Printed.{lines, taken, eventLines, most}
 use Rattle.session.specs.Promises.{PutAt, Ready, tracedBy, TookOne}
 use Rattle.session.proofs.Lines.{lines-long}
@@ -54,21 +54,21 @@ module _ (t s : List ℕ) (room : ℕ) where
       (λ e. let b = leb-false (bound t) room e in rw (e, h, k, lt-ltb room (bound t) b))
 
 module _ (t s trace : List ℕ) (e : ℕ) (ready : Ready t s trace) where
-  pub taken-is : taken t s e ≡ handle t s e
+  pub taken-is : taken t s e ≡ handle t s [] e
   unfolding step handle conclude firstFault refusedEvent
   taken-is = rw (ready .table, ready .state, le-ltb (bound t) (bound t) (omega arith))
 
-  pub run-safe : Safe (happen t e s) trace
-  run-safe = safe t s trace e (ready .table) (ready .enough)
+  pub run-safe : (os : List ℕ) → Safe (happen t e os s) trace
+  run-safe os = safe t s trace os e (ready .table) (ready .enough)
 
   pub answer-small : taken t s e .answer < 10
-  answer-small = step-cases (λ r. r .answer < 10) t s (bound t) e (λ k a b. omega arith) (λ c w. omega arith)
+  answer-small = omega (arith, small-answer t s (bound t) e)
 
   pub words-few : length (taken t s e .words) ≤ bound t
-  words-few = words-within t s (bound t) e (ready .table)
+  words-few = words-within t s (bound t) [] e (ready .table)
 
   next-fits : fits t (taken t s e .state) ≡ true
-  next-fits = step-fits t s (bound t) e (ready .table) (ready .state)
+  next-fits = step-fits t s (bound t) [] e (ready .table) (ready .state)
 
   pub next-long : length (taken t s e .state) ≡ length s
   next-long = fits-length t _ next-fits ∙ sym (fits-length t s (ready .state))
@@ -92,8 +92,12 @@ module _ (t s trace : List ℕ) (e : ℕ) (ready : Ready t s trace) where
       let b = facts t (ready .table) .cost in
       omega arith
 
-  -- what the call reports: its number n and its count m
-  module _ (r : Answer) (s′ trace′ : List ℕ) (reports : Reports (handle t s e) trace r s′ trace′) (n m : ℕ) (hn : n ≡ numberOf r) (hm : m ≡ countOf r) where
+  -- what the call reports, with no outcomes lent: its number n and its count m
+  module _ (os : List ℕ) (none : os ≡ []) (r : Answer) (s′ trace′ : List ℕ) (lent : Reports (handle t s os e) trace r s′ trace′) (n m : ℕ)
+      (hn : n ≡ numberOf r) (hm : m ≡ countOf r) where
+    reports : Reports (handle t s [] e) trace r s′ trace′
+    reports = rw none at lent
+
     number-is : n ≡ taken t s e .answer
     number-is = rw taken-is (hn ∙ reports .answer)
 

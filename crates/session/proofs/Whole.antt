@@ -148,7 +148,7 @@ module _ (t s trace bytes : List ℕ) (from : ℕ) (out : List ℕ) (r : Taken) 
 fits-after : (t s es : List ℕ) → accepted t ≡ true → fits t s ≡ true → fits t (stateAfter t s es) ≡ true
 unfolding stateAfter
 fits-after t s [] h f = f
-fits-after t s (e ∷ es) h f = fits-after t (taken t s e .state) es h (step-fits t s _ e h f)
+fits-after t s (e ∷ es) h f = fits-after t (taken t s e .state) es h (step-fits t s _ [] e h f)
 
 -- what events leave of a ready state
 pub ready-after : {t s s₁ : List ℕ} {room room₁ : ℕ} (es : List ℕ) → Callable t s room → room₁ ≡ room → s₁ ≡ stateAfter t s es → Callable t s₁ room₁

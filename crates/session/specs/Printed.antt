@@ -14,9 +14,9 @@ use Rattle.text.specs.Lines.{decimalLine, hexLines}
 unfoldable pub lines : ℕ → List ℕ → List ℕ → List ℕ
 lines answer state words = decimalLine answer ++ hexLines state ++ hexLines words
 
--- one event, with B trace words lent
+-- one event, with B trace words lent and no outcomes: all calls are good
 abbrev pub taken : List ℕ → List ℕ → ℕ → Result
-taken t s e = step t s (bound t) e
+taken t s e = step t s (bound t) [] e
 
 unfoldable pub eventLines : List ℕ → List ℕ → ℕ → List ℕ
 eventLines t s e = lines (taken t s e .answer) (taken t s e .state) (taken t s e .words)

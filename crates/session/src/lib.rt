@@ -8,7 +8,6 @@ ghost use Rattle.rulebook.specs.Step.{refusedCall};
 ghost use Rattle.words.specs.Sections.{Laid as LaidOut};
 ghost use Rattle.session.specs.Printed.{lines, reasonLines, most};
 ghost use Rattle.session.specs.Promises.{Opens, PutAt, PutLines, Ready, TookOne, offered, TookEvents};
-use events::Answer;
 use states::Admission;
 use states::admit;
 use tables::Checked;
@@ -86,7 +85,7 @@ fn lay_lines(
     words.next
 }
 
-// Takes one event and lays its lines.
+// Takes one event, all calls good, and lays its lines.
 fn take_one(
     t: &[u32],
     h: Layout,
@@ -99,7 +98,7 @@ fn take_one(
     requires { ⌜ LaidOut (now t) h × Ready (now t) (now s) (now trace) × (at + most ≤ length (now out)) ⌝ }
     ensures { λ r. ⌜ TookOne (now (t .entry)) e (now (s .entry)) (now (trace .entry)) (now (out .entry)) at r (now (s .exit)) (now (trace .exit)) (now (out .exit)) ⌝ }
 {
-    let answer = events::handle(t, h, e, s, trace);
+    let answer = events::handle(t, h, e, s, trace, &t[t.len()..]);
     let number = events::number(answer);
     let count = events::count(answer);
     lay_lines(out, at, number, s, trace, count)

@@ -1,6 +1,7 @@
 // The state: whether one fits a table, table and state checked together, and a fresh one.
 ghost use mathlib.Core.Path.{_≡_};
-ghost use Rattle.rulebook.specs.State.{portFits, ruleFits, networkFits, sourceFits, thingFits, fits as fitsOf, freshPort, packRule, freshThing, fresh as freshOf};
+ghost use Rattle.rulebook.specs.State.{portFits, ruleFits, networkFits, sourceFits, thingFits, fits as fitsOf, freshPort, packRule, freshThing};
+ghost use Rattle.rulebook.specs.State.{fresh as freshOf};
 ghost use Rattle.rulebook.specs.Table.{firstResult};
 ghost use Rattle.words.specs.Sections.{Laid};
 ghost use Rattle.words.specs.State.{thingOf};

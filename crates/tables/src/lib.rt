@@ -1,6 +1,6 @@
 // The table check: any words, of any number. Accepted with B, or the first reason that holds and its place.
 ghost use mathlib.Core.Path.{_≡_};
-ghost use Rattle.rulebook.specs.Reasons.{countsInside};
+ghost use Rattle.rulebook.specs.Reasons.{knownEdition, countsInside};
 ghost use Rattle.words.specs.Sections.{Laid};
 ghost use Rattle.tables.specs.Finding.{finding, promised, Says};
 use cost::bound;
@@ -100,6 +100,13 @@ pub fn numbers(checked: Checked) -> InNumbers
     }
 }
 
+fn known_edition(t: &[u32]) -> bool
+    ensures { λ r. ⌜ r ≡ knownEdition (now (t .entry)) ⌝ }
+{
+    let edition = edition(word(t, 0));
+    (edition == 1) | (edition == 2)
+}
+
 fn counts_inside(t: &[u32], h: Layout) -> bool
     requires { ⌜ Laid (now t) h ⌝ }
     ensures { λ r. ⌜ r ≡ countsInside (now (t .entry)) ⌝ }
@@ -128,8 +135,7 @@ pub fn check(t: &[u32]) -> Checked
         return Checked::TooShort;
     }
     let h = read_layout(t);
-    let first = word(t, 0);
-    if edition(first) != 1 {
+    if !known_edition(t) {
         return Checked::WrongEdition;
     }
     if !counts_inside(t, h) {

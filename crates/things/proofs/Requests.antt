@@ -11,8 +11,8 @@ use Rattle.rulebook.specs.Events.{only, request}
 use Rattle.laws.proofs.Tests.{split}
 use Rattle.things.specs.Requests.{Requested}
 
-pub request-goes : (t : List ℕ) (p value : ℕ) (s after : List ℕ) (immediate : Bool) → Requested t p value s after immediate
-    → request t p value s ≡ cond immediate (arbitrate t (only p) after) (start after)
+pub request-goes : (t : List ℕ) (p value : ℕ) (os s after : List ℕ) (immediate : Bool) → Requested t p value s after immediate
+    → request t p value os s ≡ cond immediate (arbitrate t (only p) os after) (start os after)
 unfolding request
-request-goes t p value s after immediate r =
+request-goes t p value os s after immediate r =
     split (eqb (deferred t p) 1) (λ y. rw (r .written, r .answered, y)) (λ y. rw (r .written, r .answered, y))

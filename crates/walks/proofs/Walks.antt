@@ -5,9 +5,9 @@ use native.Mathlib.Nat.{zero-add, add-zero, suc-add}
 use mathlib.Core.Bool.{Bool, true, false, cond, _&&_, _||_, not}
 use native.Mathlib.Numerals.{add-one}
 use native.Mathlib.Omega.{arith}
-use Rattle.rulebook.specs.Words.{first, all, any, sum, each}
+use Rattle.rulebook.specs.Words.{first, all, any, sum, each, until}
 use Rattle.laws.proofs.Tests.{split}
-use Rattle.laws.proofs.Walks.{first-before as none-before}
+use Rattle.laws.proofs.Walks.{first-before as none-before, until-last, until-next}
 
 -- what is left before a turn and after it, and at the end
 left-more : (i e : ℕ) → i < e → e - i ≡ suc (e - (i + 1))
@@ -82,6 +82,17 @@ module _ {A : Type 0} (i e : ℕ) (f : ℕ → A → A) (a : A) where
   pub each-end : e ≤ i → each i (e - i) f a ≡ a
   unfolding each
   each-end h = rw (left-none i e h)
+
+module _ {A : Type 0} (i e : ℕ) (last : ℕ → A → Bool) (f : ℕ → A → A) (a : A) where
+  pub until-here : i < e → last i a ≡ true → until i (e - i) last f a ≡ f i a
+  until-here h y = rw (left-more i e h) (until-last last f i (e - (i + 1)) a y)
+
+  pub until-turn : i < e → last i a ≡ false → until i (e - i) last f a ≡ until (i + 1) (e - (i + 1)) last f (f i a)
+  until-turn h y = rw (left-more i e h, add-one) (until-next last f i (e - suc i) a y)
+
+  pub until-end : e ≤ i → until i (e - i) last f a ≡ a
+  unfolding until
+  until-end h = rw (left-none i e h)
 
 -- A range may be written in another way.
 pub same-first : {i j m n : ℕ} (p : ℕ → Bool) → i ≡ j → m ≡ n → first i m p ≡ first j n p

@@ -5,6 +5,7 @@ use mathlib.Core.Path.{_≡_}
 use mathlib.Core.Bool.{true}
 use mathlib.Core.List.{List}
 use lib.ListN.{length}
+use lib.Dec.{eqb}
 use Rattle.rulebook.specs.Table
 use Rattle.rulebook.specs.Reasons.{accepted}
 use Rattle.words.specs.Field.{Field}
@@ -26,6 +27,7 @@ pub record Laid (t : List ℕ) (h : Layout) : Type 0 where
   pub rules : Field (Table.rules t) 65536 (h .rules)
   pub lists : Field (Table.lists t) 65536 (h .lists)
   pub items : Field (Table.items t) 65536 (h .items)
+  pub second : h .second ≡ eqb (Table.edition t) 2
   pub network0 : h .network0 ≡ Table.networksFrom t
   pub source0 : h .source0 ≡ Table.sourcesFrom t
   pub expression0 : h .expression0 ≡ Table.expressionsFrom t
@@ -97,5 +99,6 @@ pub record ListAt (t : List ℕ) (l : ℕ) (x : ListRead) : Type 0 where
 
 pub record ItemAt (t : List ℕ) (i : ℕ) (x : Item) : Type 0 where
   pub kind : Field (Table.itemKind t i) 16 (x .kind)
+  pub abort : Field (Table.abort t i) 2 (x .abort)
   pub a : Field (Table.itemA t i) 4096 (x .a)
   pub b : Field (Table.itemB t i) 65536 (x .b)

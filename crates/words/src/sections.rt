@@ -7,7 +7,7 @@ ghost use Rattle.words.specs.Sections.{Laid, PortAt, NetworkAt, WaitsAt,
 use crate::table;
 use crate::word;
 
-// The counts; whether the table is known to be accepted; the place of each section's first word, `port0` being 3 always; the length that
+// The counts; whether the edition is 2, and whether the table is known to be accepted; the place of each section's first word, `port0` being 3 always; the length that
 // the header asks for.
 pub struct Layout {
     pub ports: u32,
@@ -17,6 +17,7 @@ pub struct Layout {
     pub rules: u32,
     pub lists: u32,
     pub items: u32,
+    pub second: bool,
     pub accepted: bool,
     pub network0: usize,
     pub source0: usize,
@@ -40,6 +41,8 @@ pub fn read_layout(t: &[u32]) -> Layout
     let rules = table::rules(second);
     let lists = table::lists(third);
     let items = table::items(third);
+    let edition = table::edition(first);
+    let second = edition == 2;
     let network0 = 3 + ports as usize;
     let source0 = network0 + 2 * networks as usize;
     let expression0 = source0 + sources as usize;
@@ -55,6 +58,7 @@ pub fn read_layout(t: &[u32]) -> Layout
         rules,
         lists,
         items,
+        second,
         accepted: false,
         network0,
         source0,
@@ -328,6 +332,7 @@ pub fn list_at(t: &[u32], h: Layout, l: u32) -> List
 // An item's word.
 pub struct Item {
     pub kind: u32,
+    pub abort: u32,
     pub a: u32,
     pub b: u32,
 }
@@ -338,7 +343,8 @@ pub fn item_at(t: &[u32], h: Layout, i: u32) -> Item
 {
     let w = item_word(t, h, i);
     let kind = table::item_kind(w);
-    let a = table::item_a(w);
+    let abort = table::item_abort(w, h.second);
+    let a = table::item_a(w, h.second);
     let b = table::item_b(w);
-    Item { kind, a, b }
+    Item { kind, abort, a, b }
 }

@@ -2,7 +2,7 @@
 ghost use mathlib.Core.Path.{_≡_};
 ghost use Rattle.rulebook.specs.Words.{field as fieldOf};
 ghost use Rattle.rulebook.specs.Expressions.{operatorKind};
-ghost use Rattle.words.specs.Field.{Field};
+ghost use Rattle.words.specs.Field.{Field, abortBy, aBy};
 use crate::numbers::OPERATOR_AND;
 use crate::numbers::OPERATOR_NOT;
 
@@ -279,9 +279,22 @@ pub fn item_kind(w: u32) -> u32
     crate::field(w, 268435456, 16)
 }
 
-pub fn item_a(w: u32) -> u32
-    ensures { λ r. ⌜ Field (fieldOf 4 12 w) 4096 r ⌝ }
+// By the edition: 2 has abort(1), a(11); 1 has a(12) and never aborts.
+pub fn item_abort(w: u32, second: bool) -> u32
+    ensures { λ r. ⌜ Field (abortBy second w) 2 r ⌝ }
 {
+    if second {
+        return crate::field(w, 134217728, 2);
+    }
+    0
+}
+
+pub fn item_a(w: u32, second: bool) -> u32
+    ensures { λ r. ⌜ Field (aBy second w) 4096 r ⌝ }
+{
+    if second {
+        return crate::field(w, 65536, 2048);
+    }
     crate::field(w, 65536, 4096)
 }
 

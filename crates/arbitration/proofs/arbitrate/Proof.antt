@@ -21,18 +21,18 @@ at-after-choose c = c .before .before .before .before
 abbrev at-after-store : tie.After-run-chosen-arg → tie.After-store
 at-after-store c = c .before .before .before .before
 
-abbrev at-after-find-outcomes : tie.After-run-chosen-arg2 → tie.After-find-outcomes
-at-after-find-outcomes c = after-results2 (at-after-choose (at-after-store (c .before))) .before
+abbrev at-after-find-results : tie.After-run-chosen-arg2 → tie.After-find-results
+at-after-find-results c = after-results2 (at-after-choose (at-after-store (c .before))) .before
 
 abbrev after-run-chosen : tie.After-trace → tie.After-run-chosen
 after-run-chosen c = c .before .before .before .before
 
 -- Places that the proof names itself.
 abbrev after-unmark : tie.After-run-chosen-arg2 → tie.After-unmark
-after-unmark c = at-after-unmark (at-after-find-outcomes c .before)
+after-unmark c = at-after-unmark (at-after-find-results c .before)
 
-abbrev after-find-outcomes : tie.After-slice-known6 → tie.After-find-outcomes
-after-find-outcomes c = at-after-find-outcomes (after-run-chosen (c .before) .before)
+abbrev after-find-results : tie.After-slice-known6 → tie.After-find-results
+after-find-results c = at-after-find-results (after-run-chosen (c .before) .before)
 
 abbrev after-choose : tie.After-run-chosen-arg2 → tie.After-choose
 after-choose c = at-after-choose (at-after-store (c .before))
@@ -43,16 +43,16 @@ after-store c = at-after-store (after-run-chosen (c .before) .before .before)
 run-chosen-requires : tie.Need-run-chosen-requires
 run-chosen-requires c κs =
     record {
-      laid = start (after-unmark c .before .before) .pre .laid;
-      safe = safe-as _ _ _ (arbitrated _ _ _ _ (after-results2 (after-choose c) .before .find-outcomes .ensures) _ _ _
+      laid = start (after-unmark c .before .before .before) .pre .laid;
+      safe = safe-as _ _ _ (arbitrated _ _ _ _ (after-results2 (after-choose c) .before .find-results .ensures) _ _ _ _
           (after-unmark c .unmark .ensures) (after-choose c .choose .ensures) (at-after-store (c .before) .store .ensures))
-          (start (after-unmark c .before .before) .pre .safe);
+          (start (after-unmark c .before .before .before) .pre .safe);
     }
 
 returns : tie.Need-returns
 returns c =
-    ran-as _ _ _ _ _ _ (arbitrated _ _ _ _ (after-find-outcomes c .find-outcomes .ensures) _ _ _
-    (at-after-unmark (after-find-outcomes c .before) .unmark .ensures) (at-after-choose (after-store c) .choose .ensures)
+    ran-as _ _ _ _ _ _ _ (arbitrated _ _ _ _ (after-find-results c .find-results .ensures) _ _ _ _
+    (at-after-unmark (after-find-results c .before) .unmark .ensures) (at-after-choose (after-store c) .choose .ensures)
     (after-store c .store .ensures)) (after-run-chosen (c .before) .run-chosen .ensures)
 
 pub arbitrate-spec : {M : Type 1} → statement M

@@ -2,6 +2,7 @@
 use Prim.Native.Nat.{ℕ}
 use mathlib.Core.Path.{sym, ap, _∙_}
 use mathlib.Core.Bool.{Bool}
+use lib.ListN.{drop}
 use borrow.Author.Tests.{not-true}
 use Rattle.rulebook.specs.Arbitration.{arbitrate}
 use Rattle.rulebook.specs.Events.{arbitrateMarked}
@@ -23,7 +24,7 @@ after-arbitrate c = c .before .before .before .before
 
 -- Places that the proof names itself.
 abbrev entry : tie.After-arbitrate-arg2 → tie.Start
-entry c = after-any-marked-arg (at-after-flag-marked c .before) .before .before .before .before
+entry c = after-any-marked-arg (at-after-flag-marked c .before) .before .before .before .before .before
 
 abbrev entry-2 : tie.After-slice-known4 → tie.Start
 entry-2 c = entry (after-arbitrate c .before)
@@ -33,7 +34,7 @@ after-flag-marked c = at-after-flag-marked (after-arbitrate c .before)
 
 returns : tie.Need-returns
 unfolding arbitrateMarked
-returns c = rw (c .nothing .ensures) (nothing-marked _ _ _ (sym (c .before .before .any-marked .ensures) ∙ not-true _ (c .before .if1 .taken)))
+returns c = rw (c .nothing .ensures) (nothing-marked _ _ _ _ _ (sym (c .before .before .any-marked .ensures) ∙ not-true _ (c .before .if1 .taken)))
 
 arbitrate-requires : tie.Need-arbitrate-requires
 unfolding arbitrateMarked
@@ -41,15 +42,15 @@ arbitrate-requires c κs =
     record {
       laid = entry c .pre .laid;
       few = entry c .pre .few;
-      safe = safe-as _ _ _ (ap (λ (q : ℕ → Bool). arbitrate (entry c .args .t .now) q (entry c .args .s .now))
-          (sym (marked-are _ _ _ (at-after-flag-marked c .flag-marked .ensures)))) (entry c .pre .safe);
+      safe = safe-as _ _ _ (ap (λ (q : ℕ → Bool). arbitrate (entry c .args .t .now) q (drop (entry c .args .read) (entry c .args .outcomes .now))
+          (entry c .args .s .now)) (sym (marked-are _ _ _ (at-after-flag-marked c .flag-marked .ensures)))) (entry c .pre .safe);
     }
 
 returns-2 : tie.Need-returns-2
 unfolding arbitrateMarked
 returns-2 c =
-    ran-as _ _ _ _ _ _ (ap (λ (q : ℕ → Bool). arbitrate (entry-2 c .args .t .now) q (entry-2 c .args .s .now))
-    (sym (marked-are _ _ _ (after-flag-marked c .flag-marked .ensures)))) (after-arbitrate c .arbitrate .ensures)
+    ran-as _ _ _ _ _ _ _ (ap (λ (q : ℕ → Bool). arbitrate (entry-2 c .args .t .now) q (drop (entry-2 c .args .read) (entry-2 c .args .outcomes .now))
+    (entry-2 c .args .s .now)) (sym (marked-are _ _ _ (after-flag-marked c .flag-marked .ensures)))) (after-arbitrate c .arbitrate .ensures)
 
 pub arbitrate-marked-spec : {M : Type 1} → statement M
 arbitrate-marked-spec =

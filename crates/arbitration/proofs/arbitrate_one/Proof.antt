@@ -2,6 +2,7 @@
 use Prim.Native.Nat.{ℕ}
 use mathlib.Core.Path.{ap}
 use mathlib.Core.Bool.{Bool}
+use lib.ListN.{drop}
 use Rattle.rulebook.specs.Arbitration.{arbitrate}
 use Rattle.lists.proofs.Cycle.{safe-as, ran-as}
 use Rattle.arbitration.proofs.Marks.{only-one}
@@ -14,7 +15,7 @@ abbrev after-flags : tie.After-arbitrate-arg2 → tie.After-flags
 after-flags c = c .before .before
 
 abbrev start : tie.After-arbitrate-arg2 → tie.Start
-start c = after-flags c .before .before .before .before
+start c = after-flags c .before .before .before .before .before
 
 abbrev after-arbitrate : tie.After-trace → tie.After-arbitrate
 after-arbitrate c = c .before .before .before
@@ -28,14 +29,16 @@ arbitrate-requires c κs =
     record {
       laid = start c .pre .laid;
       few = start c .pre .few;
-      safe = safe-as _ _ _ (ap (λ (q : ℕ → Bool). arbitrate (start c .args .t .now) q
+      safe = safe-as _ _ _ (ap (λ (q : ℕ → Bool). arbitrate (start c .args .t .now) q (drop (start c .args .read) (start c .args .outcomes .now))
           (start c .args .s .now)) (only-one _ (start c .pre .port)))
           (start c .pre .safe);
     }
 
 returns : tie.Need-returns
 returns c =
-    ran-as _ _ _ _ _ _ (ap (λ (q : ℕ → Bool). arbitrate (entry c .args .t .now) q (entry c .args .s .now)) (only-one _ (entry c .pre .port)))
+    ran-as _ _ _ _ _ _ _ (ap (λ (q : ℕ → Bool). arbitrate (entry c .args .t .now) q (drop (entry c .args .read) (entry c .args .outcomes .now))
+    (entry c .args .s .now))
+    (only-one _ (entry c .pre .port)))
     (after-arbitrate (c .before) .arbitrate .ensures)
 
 pub arbitrate-one-spec : {M : Type 1} → statement M

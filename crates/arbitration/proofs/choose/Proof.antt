@@ -6,7 +6,7 @@ use lib.ListN.{length}
 use Rattle.rulebook.specs.Words.{any}
 use Rattle.rulebook.specs.Table as Table
 use Rattle.words.specs.Flags.{flagged}
-use Rattle.arbitration.specs.Outcomes.{choosesBy}
+use Rattle.arbitration.specs.Results.{choosesBy}
 use Rattle.arbitration.proofs.Passes.{chose-none, chose-more, chose-all}
 use native.Mathlib.Omega.{arith}
 use borrow.Author.Needs.{needs}

@@ -1,6 +1,6 @@
 -- `arbitration::pick` meets its contract: each exit by its test. Assumes nothing.
 use borrow.Author.Tests.{eq-eqb, ne-eqb}
-use Rattle.arbitration.specs.Outcomes.{pickBy}
+use Rattle.arbitration.specs.Results.{pickBy}
 use borrow.Author.Needs.{needs}
 use Rattle.arbitration.proofs.pick.Statement.{statement}
 use Rattle.arbitration.proofs.pick.Tie as tie

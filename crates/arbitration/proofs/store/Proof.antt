@@ -6,7 +6,7 @@ use lib.ListN.{length}
 use Rattle.rulebook.specs.Words.{each}
 use Rattle.rulebook.specs.Table as Table
 use Rattle.walks.proofs.Walks.{each-turn, each-end}
-use Rattle.arbitration.specs.Outcomes.{storeBy}
+use Rattle.arbitration.specs.Results.{storeBy}
 use native.Mathlib.Omega.{arith}
 use Rattle.arbitration.proofs.store.Statement.{statement}
 use Rattle.arbitration.proofs.store.Tie as tie

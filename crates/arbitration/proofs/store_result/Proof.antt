@@ -1,6 +1,6 @@
 -- `arbitration::store_result` meets its contract: each exit by its test. Assumes nothing.
 use borrow.Author.Tests.{eq-eqb, ne-eqb}
-use Rattle.arbitration.specs.Outcomes.{storeBy}
+use Rattle.arbitration.specs.Results.{storeBy}
 use borrow.Author.Needs.{needs}
 use Rattle.arbitration.proofs.store_result.Statement.{statement}
 use Rattle.arbitration.proofs.store_result.Tie as tie

@@ -7,7 +7,7 @@ use Rattle.events.proofs.happen.Tie as tie
 
 -- The places that the answers cite, each seen from a later one.
 abbrev start : tie.After-kind → tie.Start
-start c = c .before .before .before .before
+start c = c .before .before .before .before .before
 
 abbrev after-kind-from-then1 : tie.Then1 → tie.After-kind
 after-kind-from-then1 c = c .before .before .before
@@ -73,12 +73,12 @@ tick-requires c κs =
       laid = entry c .pre .laid;
       few = entry c .pre .few;
       safe = rw
-          (happens-tick _ _ _ _ (after-kind-from-then1 (at-then1 c) .kind .ensures .value) (at-then1 c .if1 .taken)) at (entry c .pre .safe);
+          (happens-tick _ _ _ _ _ (after-kind-from-then1 (at-then1 c) .kind .ensures .value) (at-then1 c .if1 .taken)) at (entry c .pre .safe);
     }
 
 returns : tie.Need-returns
 returns c =
-    rw (happens-tick _ _ _ _ (after-kind-from-then1 (then1 c) .kind .ensures .value) (then1 c .if1 .taken))
+    rw (happens-tick _ _ _ _ _ (after-kind-from-then1 (then1 c) .kind .ensures .value) (then1 c .if1 .taken))
     (after-tick (c .before) .tick .ensures)
 
 request-requires : tie.Need-request-requires
@@ -87,14 +87,14 @@ request-requires c κs =
       laid = entry-2 c .pre .laid;
       few = entry-2 c .pre .few;
       port = after-index-from-else1 (at-else1 c) .index .ensures .small;
-      safe = rw (happens-mode _ _ _ _ (at-after-kind (at-else1 c) .kind .ensures .value) _ _
+      safe = rw (happens-mode _ _ _ _ _ (at-after-kind (at-else1 c) .kind .ensures .value) _ _
           (after-index-from-else1 (at-else1 c) .index .ensures .value) (at-else1 c .before .value .ensures .value)
           (at-then2 c .if2 .taken)) at (entry-2 c .pre .safe);
     }
 
 returns-2 : tie.Need-returns-2
 returns-2 c =
-    rw (happens-mode _ _ _ _ (at-after-kind (then2 c .before) .kind .ensures .value) _ _
+    rw (happens-mode _ _ _ _ _ (at-after-kind (then2 c .before) .kind .ensures .value) _ _
     (after-index-from-else1 (then2 c .before) .index .ensures .value) (then2 c .before .before .value .ensures .value) (then2 c .if2 .taken))
     (after-request (c .before) .request .ensures)
 
@@ -105,24 +105,24 @@ request-requires-2 c κs =
       few = start (after-kind c) .pre .few;
       port = after-index (at-then3 c) .index .ensures .small;
       safe = rw
-          (happens-request _ _ _ _ (after-kind c .kind .ensures .value) _ (after-index (at-then3 c) .index .ensures .value)
-          (at-then3 c .if3 .taken)) at (after-kind c .before .before .before .before .pre .safe);
+          (happens-request _ _ _ _ _ (after-kind c .kind .ensures .value) _ (after-index (at-then3 c) .index .ensures .value)
+          (at-then3 c .if3 .taken)) at (start (after-kind c) .pre .safe);
     }
 
 returns-3 : tie.Need-returns-3
 returns-3 c =
-    rw (happens-request _ _ _ _ (after-index (then3 c) .before .kind .ensures .value) _
+    rw (happens-request _ _ _ _ _ (after-index (then3 c) .before .kind .ensures .value) _
     (after-index (then3 c) .index .ensures .value) (then3 c .if3 .taken)) (after-request2 (c .before) .request2 .ensures)
 
 returns-4 : tie.Need-returns-4
 returns-4 c =
     rw (
-      happens-change _ _ _ _ (else1 c .before .before .before .kind .ensures .value) _ (else1 c .before .before .index .ensures .value)
+      happens-change _ _ _ _ _ (else1 c .before .before .before .kind .ensures .value) _ (else1 c .before .before .index .ensures .value)
           (else1 c .if1 .left) (c .before .before .before .before .before .before .if2 .left) (c .before .before .before .before .before .if3 .left),
       ← (c .before .before .before .change .ensures),
       c .nothing .ensures,
     )
-    (ran-none _ _)
+    (ran-none _ _ _ _)
 
 pub happen-spec : {M : Type 1} → statement M
 happen-spec =

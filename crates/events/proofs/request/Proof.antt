@@ -7,7 +7,7 @@ use Rattle.events.proofs.request.Tie as tie
 
 -- The places that the answers cite, each seen from a later one.
 abbrev start : tie.After-request-port-arg → tie.Start
-start c = c .before .before .before .before
+start c = c .before .before .before .before .before
 
 abbrev after-request-port : tie.Then1 → tie.After-request-port
 after-request-port c = c .before .before .before
@@ -32,22 +32,22 @@ arbitrate-one-requires c κs =
       few = entry c .pre .few;
       port = entry c .pre .port;
       safe = rw
-          (request-now _ _ _ _ _ _ (after-request-port (at-then1 c) .request-port .ensures) (at-then1 c .if1 .taken)) at
+          (request-now _ _ _ _ _ _ _ (after-request-port (at-then1 c) .request-port .ensures) (at-then1 c .if1 .taken)) at
           (entry c .pre .safe);
     }
 
 returns : tie.Need-returns
 returns c =
-    rw (request-now _ _ _ _ _ _ (after-request-port (then1 c) .request-port .ensures) (then1 c .if1 .taken))
+    rw (request-now _ _ _ _ _ _ _ (after-request-port (then1 c) .request-port .ensures) (then1 c .if1 .taken))
     (after-arbitrate-one (c .before) .arbitrate-one .ensures)
 
 returns-2 : tie.Need-returns-2
 returns-2 c =
     rw (
-      request-late _ _ _ _ _ _ (c .before .before .before .before .request-port .ensures) (c .before .if1 .left),
+      request-late _ _ _ _ _ _ _ (c .before .before .before .before .request-port .ensures) (c .before .if1 .left),
       c .nothing .ensures,
     )
-    (ran-none _ _)
+    (ran-none _ _ _ _)
 
 pub request-spec : {M : Type 1} → statement M
 request-spec =

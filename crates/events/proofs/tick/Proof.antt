@@ -6,7 +6,7 @@ use Rattle.events.proofs.tick.Tie as tie
 
 -- The places that the answers cite, each seen from a later one.
 abbrev start : tie.After-tick-things-arg → tie.Start
-start c = c .before .before .before .before
+start c = c .before .before .before .before .before
 
 abbrev at-after-tick-things : tie.After-arbitrate-marked-arg2 → tie.After-tick-things
 at-after-tick-things c = c .before .before .before .before

@@ -6,7 +6,7 @@ use Rattle.fields.proofs.item_fields.Tie as tie
 
 returns : tie.Need-returns
 unfolding ownFields itemFields
-returns c = let item = c .item-at .ensures in rw (item .kind .value, item .a .value, item .b .value)
+returns c = let item = c .item-at .ensures in rw (item .kind .value, item .abort .value, item .a .value, item .b .value)
 
 pub item-fields-spec : {M : Type 1} → statement M
 item-fields-spec = tie.close (tie.spec (λ c κs. search needs) returns)

@@ -1,6 +1,6 @@
 -- `lists::effect` meets its contract: each exit by the law of its kind. Assumes nothing.
 use mathlib.Core.Path.{_∙_}
-use Rattle.lists.proofs.Items.{clears, starts, stops, asks, leaves}
+use Rattle.lists.proofs.Items.{clears, starts, stopped, asks, leaves}
 use borrow.Author.Needs.{needs}
 use Rattle.lists.proofs.effect.Statement.{statement}
 use Rattle.lists.proofs.effect.Tie as tie
@@ -54,7 +54,7 @@ returns-2 c =
 
 returns-3 : tie.Need-returns-3
 returns-3 c =
-    c .before .before .set-port3 .ensures ∙ stops _ _ _ (at-after-item-at (else1-2 c) .item-at .ensures) _ (else1-2 c .if1 .left)
+    c .before .before .set-port3 .ensures ∙ stopped _ _ _ (at-after-item-at (else1-2 c) .item-at .ensures) _ (else1-2 c .if1 .left)
     (then3 c .before .before .if2 .left) (then3 c .if3 .taken)
 
 returns-4 : tie.Need-returns-4

@@ -1,8 +1,9 @@
 -- `manager::play` meets its promise: table and state do not stand, or the events are played behind their check. Assumes nothing.
-use mathlib.Core.Path.{sym, _∙_}
-use Rattle.laws.proofs.Play.{stood-table}
+use mathlib.Core.Path.{_∙_}
+use Rattle.laws.proofs.Play.{state-small, stood-table}
 use Rattle.states.proofs.Admitting.{not-standing, standing, standing-bound}
 use Rattle.manager.proofs.Playing.{plays-unadmitted}
+use native.Mathlib.Omega.{arith}
 use borrow.Author.Needs.{needs}
 use Rattle.manager.proofs.play.Statement.{statement}
 use Rattle.manager.proofs.play.Tie as tie
@@ -25,6 +26,14 @@ returns c =
     (λ z. not-standing (checked .admit .result) (refused .before .match .keys2) (checked .admit .ensures .number ∙ z))
     (c .end-of .ensures ∙ refused .not-admitted .ensures .0 ∙ checked .admit .ensures .number)
 
+end-of-requires : tie.Need-end-of-requires
+end-of-requires c κs z =
+    let checked = c .before .before in
+    let a = checked .before .before .before .before .before .before .args in
+    let small = state-small (a .t .now) (a .s .now) in
+    let is = c .not-admitted .ensures .0 ∙ checked .admit .ensures .number in
+    omega (arith, small, is, z)
+
 read-accepted-requires : tie.Need-read-accepted-requires
 read-accepted-requires c κs = stood-table _ _ (standing (after-admission c .admission .given .1) (after-admit c .admit .ensures))
 
@@ -42,7 +51,7 @@ play-spec =
     (λ c κs. search needs)
     (λ c. search needs)
     (λ c κs. search needs)
-    (λ c κs. search needs)
+    end-of-requires
     (λ c. search needs)
     returns
     read-accepted-requires

@@ -2,11 +2,11 @@
 -- Assumes nothing.
 use borrow.Author.Needs.{needs}
 use Prim.Native.Nat.{_-_}
-use mathlib.Core.Path.{refl, sym, ap, _∙_}
+use mathlib.Core.Path.{refl, ap}
 use native.Mathlib.Omega.{arith}
 use lib.ListN.{length}
 use Rattle.events.specs.Answers.{numberOf, countOf}
-use Rattle.manager.proofs.Playing.{Along, along-none, along-end, along-ends, ends-state-long, ends-long, along-next, not-done}
+use Rattle.manager.proofs.Playing.{none-behind, Along, along-none, along-end, not-eight, along-ends, ends-state-long, ends-long, along-next, not-done}
 use Rattle.manager.proofs.play_on.Statement.{statement}
 use Rattle.manager.proofs.play_on.Tie as tie
 
@@ -30,7 +30,7 @@ abbrev after-take-next : tie.After-slice-known4 Inv-loop μ-loop → tie.After-t
 after-take-next c = c .before .before .before .before
 
 abbrev after-arg : tie.After-slice-known4 Inv-loop μ-loop → tie.After-take-next-arg Inv-loop μ-loop
-after-arg c = after-take-next c .before .before
+after-arg c = after-take-next c .before .before .before
 
 abbrev after-answer : tie.After-struct-known Inv-loop μ-loop → tie.After-answer Inv-loop μ-loop
 after-answer c = c .before .before
@@ -43,34 +43,43 @@ loop-holds c = along-none _ _ _ _ (c .before .before .before .before .pre .stand
 
 take-next-requires : tie.Need-take-next-requires Inv-loop μ-loop
 take-next-requires c κs =
-    let asked = start (at-loop (c .before)) .pre in
-    record { stands = at-loop (c .before) .loop .inv .stands; laid = asked .laid; bound = asked .bound }
+    let asked = start (at-loop (c .before .before)) .pre in
+    record { stands = at-loop (c .before .before) .loop .inv .stands; laid = asked .laid; bound = asked .bound }
+
+end-of-requires : tie.Need-end-of-requires Inv-loop μ-loop
+end-of-requires c κs =
+    let k = c .before in
+    not-eight (at-loop (after-arg k) .loop .inv) _ (in-loop (after-arg k) .loop-test .taken) refl _ _ (after-take-next k .take-next .result)
+    _ (none-behind (start (at-loop (after-arg k)) .args .es .now)) (after-take-next k .take-next .ensures)
 
 same-length : tie.Need-same-length Inv-loop μ-loop
 same-length c =
     let k = c .before .before in
     ends-state-long (at-loop (after-arg k) .loop .inv) _ (in-loop (after-arg k) .loop-test .taken) refl _ _ (after-take-next k .take-next .result)
-    (after-take-next k .take-next .ensures) (not-done (after-take-next k .take-next .result) (c .before .match .keys2))
+    _ (none-behind (start (at-loop (after-arg k)) .args .es .now)) (after-take-next k .take-next .ensures)
+    (not-done (after-take-next k .take-next .result) (c .before .match .keys2))
 
 same-length-2 : tie.Need-same-length-2 Inv-loop μ-loop
 same-length-2 c =
     let k = c .before .before in
     ends-long (at-loop (after-arg k) .loop .inv) _ (in-loop (after-arg k) .loop-test .taken) refl _ _ (after-take-next k .take-next .result)
-    (after-take-next k .take-next .ensures) (not-done (after-take-next k .take-next .result) (c .before .match .keys2))
+    _ (none-behind (start (at-loop (after-arg k)) .args .es .now)) (after-take-next k .take-next .ensures)
+    (not-done (after-take-next k .take-next .result) (c .before .match .keys2))
 
 returns : tie.Need-returns Inv-loop μ-loop
 returns c =
     let k = c .before .before in
     rw (c .end-of .ensures)
     (along-ends (at-loop (after-arg k) .loop .inv) _ (in-loop (after-arg k) .loop-test .taken) refl _ _ (after-take-next k .take-next .result)
-    (after-take-next k .take-next .ensures) (not-done (after-take-next k .take-next .result) (c .before .match .keys2)))
+    _ (none-behind (start (at-loop (after-arg k)) .args .es .now)) (after-take-next k .take-next .ensures)
+    (not-done (after-take-next k .take-next .result) (c .before .match .keys2)))
 
 add-count : tie.Need-add-count Inv-loop μ-loop
 add-count c =
     let k = after-known4 c in
     let done = after-answer c .answer .given .1 in
     let next = along-next (at-loop (after-arg k) .loop .inv) _ (in-loop (after-arg k) .loop-test .taken) refl _ _ (after-take-next k .take-next .result)
-    (after-take-next k .take-next .ensures) _ (ap numberOf done) (ap countOf done) in
+    _ (none-behind (start (at-loop (after-arg k)) .args .es .now)) (after-take-next k .take-next .ensures) _ (ap numberOf done) (ap countOf done) in
     omega (arith, next .inside, next .long, start (at-loop (after-arg k)) .good .1 .1 .1 .1 .0)
 
 loop-again : tie.Need-loop-again Inv-loop μ-loop
@@ -78,7 +87,7 @@ loop-again c =
     let k = after-known4 c in
     let done = after-answer c .answer .given .1 in
     along-next (at-loop (after-arg k) .loop .inv) _ (in-loop (after-arg k) .loop-test .taken) refl _ _ (after-take-next k .take-next .result)
-    (after-take-next k .take-next .ensures) _ (ap numberOf done) (ap countOf done)
+    _ (none-behind (start (at-loop (after-arg k)) .args .es .now)) (after-take-next k .take-next .ensures) _ (ap numberOf done) (ap countOf done)
 
 pub play-on-spec : {M : Type 1} → statement M
 play-on-spec =
@@ -93,9 +102,13 @@ play-on-spec =
     (λ c. search needs)
     (λ c. at-loop c .loop .inv .inside)
     (λ c. search needs)
+    (λ c. search needs)
+    (λ c. search needs)
+    (λ c. search needs)
+    (λ c. search needs)
     take-next-requires
     (λ c. search needs)
-    (λ c κs. search needs)
+    end-of-requires
     same-length
     same-length-2
     returns

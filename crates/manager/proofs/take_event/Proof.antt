@@ -1,5 +1,5 @@
 -- `manager::take_event` meets its promise: table and state do not stand, or the event is taken behind their check. Assumes nothing.
-use mathlib.Core.Path.{sym, _∙_}
+use mathlib.Core.Path.{_∙_}
 use Rattle.laws.proofs.Play.{stood-table}
 use Rattle.states.proofs.Admitting.{not-standing, standing, standing-bound}
 use Rattle.manager.proofs.Steps.{reports-unadmitted}
@@ -15,7 +15,7 @@ abbrev after-admit : tie.After-known-told → tie.After-admit
 after-admit c = after-admission c .before .before
 
 abbrev after-not-admitted-start : tie.After-not-admitted → tie.Start
-after-not-admitted-start c = c .before .before .before .before .before .before .before
+after-not-admitted-start c = c .before .before .before .before .before .before .before .before
 
 abbrev after-read-accepted : tie.After-take-next-arg2 → tie.After-read-accepted
 after-read-accepted c = c .before .before
@@ -23,7 +23,7 @@ after-read-accepted c = c .before .before
 returns : tie.Need-returns
 returns c =
     let a = after-not-admitted-start c .args in
-    reports-unadmitted (a .t .now) (a .s .now) _ _ (c .not-admitted .result)
+    reports-unadmitted (a .t .now) (a .s .now) _ _ _ (c .not-admitted .result)
     (λ z. not-standing (c .before .before .admit .result) (c .before .match .keys2) (c .before .before .admit .ensures .number ∙ z))
     (c .not-admitted .ensures .0 ∙ c .before .before .admit .ensures .number) (c .not-admitted .ensures .1)
 

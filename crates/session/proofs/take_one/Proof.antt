@@ -1,5 +1,6 @@
 -- `session::take_one` meets its contract: the event's call is safe, and its lines have room. Assumes nothing.
 use Rattle.manager.proofs.Steps.{few-rules}
+use Rattle.manager.proofs.Playing.{none-behind}
 use Rattle.session.proofs.Steps.{run-safe, number-small, count-few, room-enough, took}
 use borrow.Author.Needs.{needs}
 use Rattle.session.proofs.take_one.Statement.{statement}
@@ -9,8 +10,8 @@ use Rattle.session.proofs.take_one.Tie as tie
 abbrev start-from-slice-known3 : tie.After-slice-known3 → tie.Start
 start-from-slice-known3 c = c .before .before .before .before
 
-abbrev start : tie.After-handle-arg2 → tie.Start
-start c = start-from-slice-known3 (c .before .before)
+abbrev start : tie.After-handle-arg3 → tie.Start
+start c = start-from-slice-known3 (c .before .before .before)
 
 abbrev after-s : tie.After-number → tie.After-s
 after-s c = c .before .before .before .before
@@ -32,7 +33,7 @@ after-lay-lines-arg3 c = c .before .before .before
 
 handle-requires : tie.Need-handle-requires
 handle-requires c κs =
-    record { laid = start c .pre .0; few = few-rules _ _ (start c .pre .1 .table) (start c .pre .0 .rules .value); safe = run-safe _ _ _ _ (start c .pre .1) }
+    record { laid = start c .pre .0; few = few-rules _ _ (start c .pre .1 .table) (start c .pre .0 .rules .value); safe = run-safe _ _ _ _ (start c .pre .1) _ }
 
 lay-lines-requires : tie.Need-lay-lines-requires
 lay-lines-requires c κs =
@@ -40,15 +41,17 @@ lay-lines-requires c κs =
     let h = after-handle c .handle .ensures in
     let a = after-number c .number .ensures in
     let b = after-count c .count .ensures in
+    let none = none-behind (start-from-lay-lines-arg3 c .args .t .now) in
     let ok = start-from-lay-lines-arg3 c .pre .1 in (
-      number-small _ _ _ _ ok r _ _ h _ _ a b,
-      count-few _ _ _ _ ok r _ _ h _ _ a b,
-      room-enough _ _ _ _ ok r _ _ h _ _ a b _ _ (start-from-lay-lines-arg3 c .pre .2),
+      number-small _ _ _ _ ok _ none r _ _ h _ _ a b,
+      count-few _ _ _ _ ok _ none r _ _ h _ _ a b,
+      room-enough _ _ _ _ ok _ none r _ _ h _ _ a b _ _ (start-from-lay-lines-arg3 c .pre .2),
     )
 
 returns : tie.Need-returns
 returns c =
-    took _ _ _ _ (start-from-lay-lines-arg3 (after-lay-lines-arg3 c) .pre .1) (after-handle (after-lay-lines-arg3 c) .handle .result) _ _
+    took _ _ _ _ (start-from-lay-lines-arg3 (after-lay-lines-arg3 c) .pre .1)
+    _ (none-behind (start-from-lay-lines-arg3 (after-lay-lines-arg3 c) .args .t .now)) (after-handle (after-lay-lines-arg3 c) .handle .result) _ _
     (after-handle (after-lay-lines-arg3 c) .handle .ensures) _ _ (after-number (after-lay-lines-arg3 c) .number .ensures)
     (after-count (after-lay-lines-arg3 c) .count .ensures) _ _ _ _ (c .before .before .lay-lines .ensures)
 
@@ -56,6 +59,10 @@ pub take-one-spec : {M : Type 1} → statement M
 take-one-spec =
     tie.close
     (tie.spec
+    (λ c. search needs)
+    (λ c. search needs)
+    (λ c. search needs)
+    (λ c. search needs)
     handle-requires
     (λ c κs. search needs)
     (λ c κs. search needs)

@@ -1,13 +1,12 @@
 -- `tables::check` meets its promise: at each test, what is left of the rules is what comes from that one on. Assumes nothing.
-use mathlib.Core.Path.{_≡_, refl, sym, ap, _∙_}
+use mathlib.Core.Path.{_≡_, refl, sym, _∙_}
 use mathlib.Core.List.{List}
 use Prim.Native.Nat.{ℕ, _≤_}
 use native.Mathlib.Omega.{arith}
 use borrow.Author.Tests.{le-leb, lt-leb, eq-eqb, ne-eqb, not-true, not-false}
 use mathlib.Core.Bool.{true}
-use Rattle.rulebook.specs.Words.{word, field}
 use Rattle.rulebook.specs.Reasons as Reasons
-use Rattle.rulebook.specs.Reasons.{hasHeader, knownEdition, exactLength, ownFields, names, nesting, owners, reached, Link, firstOf}
+use Rattle.rulebook.specs.Reasons.{hasHeader, exactLength, ownFields, names, nesting, owners, reached, Link, firstOf}
 use Rattle.tables.proofs.Chain.{from-header, from-edition, from-counts, from-length, from-fields, from-names, from-nesting, from-owners}
 use Rattle.tables.proofs.Chain.{from-reached, from-cost, none-left, kept, broken, kept-by-all, broken-at, refuses}
 use Rattle.tables.proofs.Chain.{dear, cheap, accepts, kept-everywhere, no-deep-list}
@@ -21,7 +20,7 @@ use Rattle.tables.proofs.check.Tie as tie
 
 -- places: from each test back to the one before
 
-abbrev at-edition : tie.After-counts-inside → tie.After-edition
+abbrev at-edition : tie.After-counts-inside → tie.After-known-edition
 at-edition c = c .before .before
 
 abbrev at-length : tie.After-first-misfit → tie.Else3
@@ -48,26 +47,22 @@ at-owners c = c .before .before .before
 abbrev at-reached : tie.After-bound → tie.After-first-unreached
 at-reached c = c .before .before .before
 
-abbrev layout-read : tie.After-edition → tie.After-read-layout
-layout-read c = c .before .before
+abbrev layout-read : tie.After-known-edition → tie.After-read-layout
+layout-read c = c .before
 
-abbrev table : tie.After-edition → List ℕ
+abbrev table : tie.After-known-edition → List ℕ
 table c = layout-read c .before .before .before .args .t .now
 
 -- what is left of the check at a test: the rules from that test's on
 abbrev Left : List ℕ → List Link → Type 0
 Left t links = Reasons.check t ≡ firstOf t links
 
-left-edition : (c : tie.After-edition) → Left (table c) from-edition
+left-edition : (c : tie.After-known-edition) → Left (table c) from-edition
 unfolding hasHeader
 left-edition c = from-header _ ∙ kept _ 1 _ _ (le-leb 3 _ (layout-read c .before .if1 .left))
 
-edition-is : (c : tie.After-edition) → c .edition .result ≡ field 0 8 (word (table c) 0)
-edition-is c = c .edition .ensures .value ∙ ap (field 0 8) (c .before .word .ensures)
-
 left-counts : (c : tie.After-counts-inside) → Left (table (at-edition c)) from-counts
-unfolding knownEdition
-left-counts c = left-edition (at-edition c) ∙ kept _ 2 _ _ (eq-eqb _ 1 (sym (edition-is (at-edition c)) ∙ c .before .if2 .left))
+left-counts c = left-edition (at-edition c) ∙ kept _ 2 _ _ (sym (at-edition c .known-edition .ensures) ∙ not-false _ (c .before .if2 .left))
 
 counts-kept : (c : tie.Else3) → Reasons.countsInside (table (at-edition (c .before))) ≡ true
 counts-kept c = sym (c .before .counts-inside .ensures) ∙ not-false _ (c .if3 .left)
@@ -122,8 +117,7 @@ unfolding hasHeader
 returns c = refuses _ 1 0 refl (from-header _ ∙ broken _ 1 _ _ (lt-leb 3 _ (c .if1 .taken)))
 
 returns-2 : tie.Need-returns-2
-unfolding knownEdition
-returns-2 c = refuses _ 2 0 refl (left-edition (c .before) ∙ broken _ 2 _ _ (ne-eqb _ 1 (λ e. c .if2 .taken (edition-is (c .before) ∙ e))))
+returns-2 c = refuses _ 2 0 refl (left-edition (c .before) ∙ broken _ 2 _ _ (sym (c .before .known-edition .ensures) ∙ not-true _ (c .if2 .taken)))
 
 returns-3 : tie.Need-returns-3
 returns-3 c = refuses _ 3 0 refl (left-counts (c .before) ∙ broken _ 3 _ _ (sym (c .before .counts-inside .ensures) ∙ not-true _ (c .if3 .taken)))
@@ -211,7 +205,6 @@ check-spec =
     tie.close
     (tie.spec
     returns
-    (λ c κs. search needs)
     (λ c κs. search needs)
     (λ c κs. search needs)
     returns-2

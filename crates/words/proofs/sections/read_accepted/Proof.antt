@@ -16,6 +16,7 @@ returns c =
       rules = read .rules;
       lists = read .lists;
       items = read .items;
+      second = read .second;
       network0 = read .network0;
       source0 = read .source0;
       expression0 = read .expression0;

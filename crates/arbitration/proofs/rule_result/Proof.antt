@@ -1,11 +1,11 @@
--- `arbitration::outcome` meets its contract: each exit by the tests that led there. Assumes nothing.
+-- `arbitration::rule_result` meets its contract: each exit by the tests that led there. Assumes nothing.
 use mathlib.Core.Path.{sym, _∙_}
 use borrow.Author.Tests.{eq-eqb, ne-eqb, not-true, not-false}
 use Rattle.rulebook.specs.Arbitration.{evaluated}
-use Rattle.arbitration.specs.Outcomes.{outcome}
+use Rattle.arbitration.specs.Results.{ruleResult}
 use borrow.Author.Needs.{needs}
-use Rattle.arbitration.proofs.outcome.Statement.{statement}
-use Rattle.arbitration.proofs.outcome.Tie as tie
+use Rattle.arbitration.proofs.rule_result.Statement.{statement}
+use Rattle.arbitration.proofs.rule_result.Tie as tie
 
 -- The places that the answers cite, each seen from a later one.
 abbrev at-after-rule-at : tie.After-mentions → tie.After-rule-at
@@ -16,11 +16,11 @@ abbrev after-rule-at : tie.After-result → tie.After-rule-at
 after-rule-at c = at-after-rule-at (c .before .before .before .before)
 
 returns : tie.Need-returns
-unfolding outcome evaluated
+unfolding ruleResult evaluated
 returns c = rw (← c .before .before .rule-at .ensures .nested-only .value, ne-eqb _ _ (c .if1 .taken))
 
 returns-2 : tie.Need-returns-2
-unfolding outcome evaluated
+unfolding ruleResult evaluated
 returns-2 c =
     let at-else1 = c .before .before in
     let at-rule-at = at-else1 .before .before in
@@ -32,7 +32,7 @@ returns-2 c =
     )
 
 returns-3 : tie.Need-returns-3
-unfolding outcome evaluated
+unfolding ruleResult evaluated
 returns-3 c =
     let at-else2 = c .before .before in
     let at-else1 = at-else2 .before .before in
@@ -46,7 +46,7 @@ returns-3 c =
     )
 
 returns-4 : tie.Need-returns-4
-unfolding outcome evaluated
+unfolding ruleResult evaluated
 returns-4 c =
     let at-unready = c .before .before in
     let at-mentions = at-unready .before .before in
@@ -59,8 +59,8 @@ returns-4 c =
     )
     (c .result .ensures)
 
-pub outcome-spec : {M : Type 1} → statement M
-outcome-spec =
+pub rule-result-spec : {M : Type 1} → statement M
+rule-result-spec =
     tie.close
     (tie.spec
     (λ c κs. search needs) returns (λ c κs. search needs) returns-2 (λ c κs. search needs) returns-3 (λ c κs. search needs) returns-4)

@@ -1,19 +1,19 @@
--- `arbitration::find_outcomes` meets its contract. The loop's invariant: the outcomes of the rules passed are right. Assumes nothing.
+-- `arbitration::find_results` meets its contract. The loop's invariant: the results of the rules passed are right. Assumes nothing.
 use Prim.Native.Nat.{ℕ, _-_, _≤_, _<_}
 use mathlib.Core.Path.{_≡_, sym, _∙_}
 use lib.ListN.{length, length-set}
 use Rattle.rulebook.specs.Words.{word}
 use Rattle.words.specs.Flags.{flagged}
 use Rattle.words.proofs.Fill.{set-more}
-use Rattle.arbitration.specs.Outcomes.{outcome}
+use Rattle.arbitration.specs.Results.{ruleResult}
 use native.Mathlib.Omega.{arith}
 use borrow.Author.Needs.{needs}
-use Rattle.arbitration.proofs.find_outcomes.Statement.{statement}
-use Rattle.arbitration.proofs.find_outcomes.Tie as tie
+use Rattle.arbitration.proofs.find_results.Statement.{statement}
+use Rattle.arbitration.proofs.find_results.Tie as tie
 
 abbrev Inv-loop : tie.InvT-loop
 Inv-loop t h flags s results₀ rules r₀ results r =
-    (r ≤ rules) × (length results ≡ 256) × ((k : ℕ) → k < r → word results k ≡ outcome t (flagged flags) s k)
+    (r ≤ rules) × (length results ≡ 256) × ((k : ℕ) → k < r → word results k ≡ ruleResult t (flagged flags) s k)
 
 abbrev μ-loop : tie.MeasureT-loop
 μ-loop t h flags s results₀ rules r₀ results r = rules - r
@@ -22,11 +22,11 @@ abbrev μ-loop : tie.MeasureT-loop
 abbrev start : tie.After-slice-known Inv-loop μ-loop → tie.Start Inv-loop μ-loop
 start c = c .before .before .before .before
 
-abbrev after-outcome : tie.After-slice-known2 Inv-loop μ-loop → tie.After-outcome Inv-loop μ-loop
-after-outcome c = c .before .before .before .before
+abbrev after-rule-result : tie.After-slice-known2 Inv-loop μ-loop → tie.After-rule-result Inv-loop μ-loop
+after-rule-result c = c .before .before .before .before
 
 abbrev in-loop : tie.After-slice-known2 Inv-loop μ-loop → tie.In-loop Inv-loop μ-loop
-in-loop c = after-outcome c .before
+in-loop c = after-rule-result c .before
 
 abbrev at-loop : tie.After-slice-known2 Inv-loop μ-loop → tie.At-loop Inv-loop μ-loop
 at-loop c = in-loop c .before
@@ -49,15 +49,15 @@ loop-again c = (
   omega (arith, in-loop c .loop-test .taken),
   rw (c .before .before .put .ensures) (simp length-set (at-loop c .loop .inv .1)),
   rw (c .before .before .put .ensures)
-      (set-more (λ k w. w ≡ outcome (entry c .args .t .now) (flagged (entry c .args .flags .now)) (entry c .args .s .now) k)
+      (set-more (λ k w. w ≡ ruleResult (entry c .args .t .now) (flagged (entry c .args .flags .now)) (entry c .args .s .now) k)
       (at-loop c .loop .results) (at-loop c .loop .r)
-      (after-outcome c .outcome .result)
+      (after-rule-result c .rule-result .result)
       (omega (
         arith,
         in-loop c .loop-test .taken,
         entry c .pre .few,
         at-loop c .loop .inv .1,
-      )) (after-outcome c .outcome .ensures)
+      )) (after-rule-result c .rule-result .ensures)
       (at-loop c .loop .inv .2)),
 )
 
@@ -72,8 +72,8 @@ returns c =
           (omega (arith, c .loop-test .left, start (c .before .before) .pre .laid .rules .value));
     }
 
-pub find-outcomes-spec : {M : Type 1} → statement M
-find-outcomes-spec =
+pub find-results-spec : {M : Type 1} → statement M
+find-results-spec =
     tie.close
     (tie.spec
     Inv-loop μ-loop loop-holds (λ c κs. search needs) (λ c. omega arith) (λ c κs. tt) add-r loop-less loop-again same-length returns)

@@ -1,5 +1,5 @@
--- An arbitration in two passes over the rules: the outcome of each is found first, all from one state, and then the lists are chosen
--- and the results stored by the outcomes.
+-- An arbitration in two passes over the rules: the result of each is found first, all from one state, and then the lists are chosen
+-- and the results stored.
 use Prim.Native.Nat.{ℕ, _<_}
 use mathlib.Core.Path.{_≡_}
 use mathlib.Core.Bool.{Bool, cond, _&&_, not}
@@ -14,13 +14,13 @@ use Rattle.rulebook.specs.Arbitration.{evaluated}
 use Rattle.rulebook.specs.Events.{markedIn}
 use Rattle.words.specs.Flags.{flagged}
 
--- the outcome of rule r: its result, or 2 where it is not evaluated
-unfoldable pub outcome : List ℕ → (ℕ → Bool) → List ℕ → ℕ → ℕ
-outcome t q s r = cond (evaluated t q s r) (resultIn t s r) undefinedResult
+-- what is found of rule r: its result, or 2 where it is not evaluated
+unfoldable pub ruleResult : List ℕ → (ℕ → Bool) → List ℕ → ℕ → ℕ
+ruleResult t q s r = cond (evaluated t q s r) (resultIn t s r) undefinedResult
 
-pub record Outcomes (t : List ℕ) (q : ℕ → Bool) (s results : List ℕ) : Type 0 where
+pub record Results (t : List ℕ) (q : ℕ → Bool) (s results : List ℕ) : Type 0 where
   pub long : length results ≡ 256
-  pub says : (r : ℕ) → r < rules t → word results r ≡ outcome t q s r
+  pub says : (r : ℕ) → r < rules t → word results r ≡ ruleResult t q s r
 
 -- rule r's result stored, if it has one
 unfoldable pub storeBy : List ℕ → List ℕ → ℕ → List ℕ → List ℕ

@@ -1,0 +1,2 @@
+-- What the calls for C cite of their own.
+pub mod Version
