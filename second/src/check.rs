@@ -49,7 +49,8 @@ pub fn accept(words: &[u32]) -> Result<(Table<'_>, usize), (u32, usize)> {
 /// Reasons 1 to 4, which have no place.
 fn shaped(words: &[u32]) -> Result<Table<'_>, u32> {
     let table = Table::of(words).ok_or(1u32)?;
-    if Head::of(words[0]).edition != EDITION {
+    // "Reason 2 now means an edition other than 1 or 2".
+    if ![edition::ONE, edition::TWO].contains(&table.edition) {
         return Err(2);
     }
     let outside = |section: Section| {
@@ -114,12 +115,14 @@ fn condition_breaks_own_fields(condition: Condition) -> bool {
 }
 
 fn item_breaks_own_fields(item: Item) -> bool {
-    match item.kind {
+    let fields_break = match item.kind {
         item::OUTSIDE_CALL => item.a != 0,
         item::NETWORK_REQUEST => item.b > mode::FULL,
         item::CLEAR_EVENT..=item::RULE => item.b != 0,
         _ => true,
-    }
+    };
+    // "abort only in outside calls".
+    fields_break || (item.abort == 1 && item.kind != item::OUTSIDE_CALL)
 }
 
 /// Reason 6: an absent thing, or one of a wrong kind.

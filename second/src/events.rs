@@ -3,10 +3,14 @@
 use crate::lists::{EighthLevel, Run};
 use crate::words::*;
 
-/// Answers 4, 5 and 6, which read the table only; otherwise 0.
-pub fn refusal(table: &Table, event: Event) -> u32 {
+/// Answers 4, 8, 5 and 6, in this order, which read the table, the event and the outcomes lent
+/// only; otherwise 0. Q-9: "An outcome word above 1 is answer 8, checked after answer 4 over all
+/// lent words."
+pub fn refusal(table: &Table, event: Event, outcomes: &[u32]) -> u32 {
     if malformed(event) {
         4
+    } else if outcomes.iter().any(|&word| word > outcome::FAILED) {
+        8
     } else if event.kind == event::TICK {
         0
     } else {

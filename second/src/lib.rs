@@ -1,6 +1,6 @@
 //! The second program of Herringcart: document 01's rules written again, with
-//! document 02's requests, from the documents
-//! and their readings alone, as the judge of the first.
+//! document 02's requests, from the
+//! documents and their readings alone, as the judge of the first.
 
 // The rules, in the document's order.
 pub mod words;
@@ -29,4 +29,4 @@ pub mod testing;
 pub use check::{Check, check};
 pub use play::{Played, play};
 pub use state::{check_state, fresh};
-pub use step::{Outcome, step};
+pub use step::{Stepped, step};

@@ -10,11 +10,13 @@ use crate::words::*;
 #[derive(Debug)]
 pub struct EighthLevel;
 
-/// An event being taken: the state as it changes and the trace as it grows.
+/// An event being taken: the state as it changes, the trace as it grows, and the outcomes that are
+/// still to be read.
 pub struct Run<'a> {
     pub table: &'a Table<'a>,
     pub state: State<'a>,
     pub trace: Vec<u32>,
+    pub outcomes: &'a [u32],
 }
 
 impl Run<'_> {
@@ -65,9 +67,28 @@ impl Run<'_> {
         let list = self.table.list(number);
         self.write(LIST_START, list.owner, number as u32, 0);
         for item in list.items() {
-            self.run_item(self.table.item(item), list.owner, levels_left)?;
+            let item = self.table.item(item);
+            self.run_item(item, list.owner, levels_left)?;
+            // Q-9: "A failed call with abort stops the list that holds it, after its trace word;
+            // an outer list goes on."
+            if item.kind == item::OUTSIDE_CALL && self.call_failed() && item.abort == 1 {
+                break;
+            }
         }
         Ok(())
+    }
+
+    /// Whether the outside call that has just run failed. Every call of edition 2 reads the next
+    /// outcome, abort or not; "past their end every call is good". Edition 1 reads none.
+    fn call_failed(&mut self) -> bool {
+        if self.table.edition == edition::ONE {
+            return false;
+        }
+        let Some((&next, rest)) = self.outcomes.split_first() else {
+            return false;
+        };
+        self.outcomes = rest;
+        next == outcome::FAILED
     }
 
     fn run_item(&mut self, item: Item, owner: u32, levels_left: u32) -> Result<(), EighthLevel> {

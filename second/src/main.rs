@@ -1,4 +1,4 @@
-//! `run TABLE EVENTS`, `play TABLE EVENTS`, `test`, `emit SEED COUNT` and `answer`.
+//! `run TABLE EVENTS [OUTCOMES]`, `play TABLE EVENTS`, `test`, `emit SEED COUNT` and `answer`.
 
 use std::io::{self, BufWriter, Write};
 use std::process::ExitCode;
@@ -6,14 +6,15 @@ use std::process::ExitCode;
 use second::cases::Cases;
 use second::{program, stream, testing};
 
-const USAGE: &str = "usage: second run TABLE EVENTS | play TABLE EVENTS | test | emit SEED COUNT | \
-                     answer < CASES";
+const USAGE: &str = "usage: second run TABLE EVENTS [OUTCOMES] | play TABLE EVENTS | test | \
+                     emit SEED COUNT | answer < CASES";
 
 fn main() -> ExitCode {
     let args: Vec<String> = std::env::args().skip(1).collect();
     let args: Vec<&str> = args.iter().map(String::as_str).collect();
     let done = match args[..] {
-        ["run", table, events] => program::run(table, events).and_then(|text| put(text.as_bytes())),
+        ["run", table, events] => run(table, events, None),
+        ["run", table, events, outcomes] => run(table, events, Some(outcomes)),
         ["play", table, events] => {
             program::play_files(&mut BufWriter::new(io::stdout().lock()), table, events)
         }
@@ -30,6 +31,10 @@ fn main() -> ExitCode {
             ExitCode::from(2)
         }
     }
+}
+
+fn run(table: &str, events: &str, outcomes: Option<&str>) -> Result<(), String> {
+    put(program::run(table, events, outcomes)?.as_bytes())
 }
 
 fn put(bytes: &[u8]) -> Result<(), String> {

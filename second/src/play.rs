@@ -44,7 +44,8 @@ struct Day {
 fn day(table: &[u32], state: &[u32], room: usize, events: &[u32]) -> Result<Day, u32> {
     let (table, b) = accept(table).map_err(|_| 1u32)?;
     let state = State::of(&table, state).filter(State::fits).ok_or(2u32)?;
-    let mut run = Run { table: &table, state, trace: vec![] };
+    // "In play all calls are good."
+    let mut run = Run { table: &table, state, trace: vec![], outcomes: &[] };
     let (mut taken, mut answer) = (0, 0);
     for &event in events {
         // The room is asked for before the event's word is looked at, and only for an event.
@@ -61,7 +62,7 @@ fn day(table: &[u32], state: &[u32], room: usize, events: &[u32]) -> Result<Day,
 /// Takes an event, its words behind those of the events before: 0; or the number of its refusal,
 /// and then nothing has changed.
 fn take(run: &mut Run, event: Event) -> u32 {
-    let refused = refusal(run.table, event);
+    let refused = refusal(run.table, event, &[]);
     if refused != 0 {
         return refused;
     }

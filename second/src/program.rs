@@ -15,9 +15,24 @@ pub fn words(bytes: &[u8]) -> Vec<u32> {
     whole.map(|b| u32::from_be_bytes([b[0], b[1], b[2], b[3]])).collect()
 }
 
-/// What the program prints for the two files' bytes.
+/// What the program prints for the two files' bytes, with no outcomes lent.
 pub fn printed(table: &[u8], events: &[u8]) -> String {
-    let table = words(table);
+    printed_with(table, events, &[])
+}
+
+/// The outcomes that each event's call lends, of a file that has for each event, in order, their
+/// number and then the outcome words. Where the file ends, no more are lent.
+fn lent(outcomes: &[u8]) -> impl Iterator<Item = Vec<u32>> {
+    let mut rest = words(outcomes).into_iter();
+    std::iter::from_fn(move || {
+        let length = rest.next()? as usize;
+        Some(rest.by_ref().take(length).collect())
+    })
+}
+
+/// The same with outcomes lent.
+pub fn printed_with(table: &[u8], events: &[u8], outcomes: &[u8]) -> String {
+    let (table, mut lent) = (words(table), lent(outcomes));
     let (shape, b) = match accept(&table) {
         Ok(accepted) => accepted,
         Err((reason, place)) => return format!("{reason}\n{place}\n"),
@@ -27,25 +42,26 @@ pub fn printed(table: &[u8], events: &[u8]) -> String {
     let mut trace = vec![0; b];
     let mut lines = String::new();
     for event in words(events) {
-        let outcome = step(&table, &mut state, &mut trace, event);
-        let _ = writeln!(lines, "{}", outcome.answer);
-        for word in state.iter().chain(&trace[..outcome.count]) {
+        let outcomes = lent.next().unwrap_or_default();
+        let stepped = step(&table, &mut state, &mut trace, event, &outcomes);
+        let _ = writeln!(lines, "{}", stepped.answer);
+        for word in state.iter().chain(&trace[..stepped.count]) {
             let _ = writeln!(lines, "{word:08X}");
         }
     }
     lines
 }
 
-/// Both files' bytes, read before anything is printed, so that an unreadable one
-/// leaves no output.
-fn read(table: &str, events: &str) -> Result<(Vec<u8>, Vec<u8>), String> {
-    let read = |path: &str| std::fs::read(path).map_err(|why| format!("cannot read {path}: {why}"));
-    Ok((read(table)?, read(events)?))
+/// A file's bytes. All files are read before anything is printed, so that an
+/// unreadable one leaves no output.
+fn read(path: &str) -> Result<Vec<u8>, String> {
+    std::fs::read(path).map_err(|why| format!("cannot read {path}: {why}"))
 }
 
-pub fn run(table: &str, events: &str) -> Result<String, String> {
-    let (table, events) = read(table, events)?;
-    Ok(printed(&table, &events))
+pub fn run(table: &str, events: &str, outcomes: Option<&str>) -> Result<String, String> {
+    let (table, events) = (read(table)?, read(events)?);
+    let outcomes = outcomes.map_or(Ok(vec![]), read)?;
+    Ok(printed_with(&table, &events, &outcomes))
 }
 
 /// Trace words lent beyond B to each call of a day: so many that the checks of table and state,
@@ -109,7 +125,7 @@ fn write_state(out: &mut impl Write, table: &Table, state: &[u32]) -> io::Result
 
 /// Prints the day of two files.
 pub fn play_files(out: &mut impl Write, table: &str, events: &str) -> Result<(), String> {
-    let (table, events) = read(table, events)?;
+    let (table, events) = (read(table)?, read(events)?);
     write_played(out, &table, &events, SPARE)
         .and_then(|()| out.flush())
         .map_err(|why| format!("cannot print: {why}"))

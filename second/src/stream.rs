@@ -26,9 +26,12 @@ pub fn case_words(case: &Case) -> Vec<u32> {
     };
     counted(&case.table);
     counted(&case.state);
-    words.push(case.room as u32);
-    words.push(case.events.len() as u32);
-    words.extend(&case.events);
+    words.extend([case.room as u32, case.events.len() as u32]);
+    for (number, &event) in case.events.iter().enumerate() {
+        let lent = case.lent(number);
+        words.extend([event, lent.len() as u32]);
+        words.extend(lent);
+    }
     words
 }
 
@@ -41,10 +44,10 @@ pub fn result_words(case: &Case) -> Vec<u32> {
     words.extend(made);
     words.push(check_state(&case.table, &case.state));
     let mut state = case.state.clone();
-    for &event in &case.events {
+    for (number, &event) in case.events.iter().enumerate() {
         let mut trace = vec![TRACE_FILL; case.room];
-        let outcome = step(&case.table, &mut state, &mut trace, event);
-        words.extend([outcome.answer, outcome.count as u32]);
+        let stepped = step(&case.table, &mut state, &mut trace, event, case.lent(number));
+        words.extend([stepped.answer, stepped.count as u32]);
         words.extend(&state);
         words.extend(&trace);
     }
@@ -52,7 +55,8 @@ pub fn result_words(case: &Case) -> Vec<u32> {
     words
 }
 
-/// The plays of a case's first events, each with another room and from the case's state.
+/// The plays of a case's first events, each with another room and from the case's state. A play
+/// lends no outcomes, whatever the case lends to single events.
 fn play_words(case: &Case) -> Vec<u32> {
     let rooms = play_rooms(case);
     let mut words = vec![rooms.len() as u32];
@@ -102,11 +106,12 @@ fn rooms_needed(case: &Case) -> Vec<usize> {
             break;
         }
         needed.push(written + b);
-        let outcome = step(&case.table, &mut state, &mut trace, event);
-        if outcome.answer != 0 {
+        // No outcomes: in play all calls are good.
+        let stepped = step(&case.table, &mut state, &mut trace, event, &[]);
+        if stepped.answer != 0 {
             break;
         }
-        written += outcome.count;
+        written += stepped.count;
     }
     needed
 }
@@ -128,9 +133,13 @@ pub fn read_case(input: &mut impl Read) -> io::Result<Option<Case>> {
     let length = read_word(input)?;
     let state = read_words(input, length)?;
     let room = read_word(input)? as usize;
-    let length = read_word(input)?;
-    let events = read_words(input, length)?;
-    Ok(Some(Case { table, state, room, events }))
+    let (mut events, mut outcomes) = (vec![], vec![]);
+    for _ in 0..read_word(input)? {
+        events.push(read_word(input)?);
+        let length = read_word(input)?;
+        outcomes.push(read_words(input, length)?);
+    }
+    Ok(Some(Case { table, state, room, events, outcomes }))
 }
 
 fn read_word(input: &mut impl Read) -> io::Result<u32> {

@@ -42,7 +42,8 @@ layout! {
     Operator { kind: 4, left: 14, right: 14 }
     Rule { owner: 4, first: 2, nested_only: 1, expression: 9, true_list: 8, false_list: 8 }
     List { owner: 4, triggered: 1, priority: 8, first: 11, count: 8 }
-    Item { kind: 4, a: 12, b: 16 }
+    ItemOne { kind: 4, a: 12, b: 16 }
+    ItemTwo { kind: 4, abort: 1, a: 11, b: 16 }
     PortState { defined: 1, marked: 1, value: 8, zero: 6, remaining: 16 }
     RuleState { last: 2, zero: 30 }
     NetworkState { asked: 2, state: 3, counter: 8, heard: 1, zero: 2, remaining: 16 }
@@ -52,6 +53,10 @@ layout! {
 }
 
 /// The document's numbers, by the document's names.
+pub mod edition {
+    pub const ONE: u32 = 1;
+    pub const TWO: u32 = 2;
+}
 pub mod port {
     pub const MODE: u32 = 0;
     pub const EVENT: u32 = 1;
@@ -112,7 +117,12 @@ pub mod event {
     pub const HEARD: u32 = 7;
 }
 
-pub const EDITION: u32 = 1;
+/// How an outside call ended, as an outcome word says it.
+pub mod outcome {
+    pub const GOOD: u32 = 0;
+    pub const FAILED: u32 = 1;
+}
+
 pub const PLATFORM: u32 = 0;
 /// A rule's result before it has one.
 pub const UNDEFINED: u32 = 2;
@@ -156,6 +166,52 @@ impl Expression {
             Expression::Operator(o) => (o.left, o.right, 2),
         };
         [left as usize, right as usize].into_iter().take(named)
+    }
+}
+
+/// An item of either edition. Q-9: in edition 2 "an item's a field becomes abort(1), a(11)"; in
+/// edition 1 there is no abort.
+#[derive(Clone, Copy, Default, PartialEq, Eq, Debug)]
+pub struct Item {
+    pub kind: u32,
+    pub abort: u32,
+    pub a: u32,
+    pub b: u32,
+}
+
+impl Item {
+    pub fn of(edition: u32, word: u32) -> Self {
+        if edition == edition::TWO {
+            let ItemTwo { kind, abort, a, b } = ItemTwo::of(word);
+            Item { kind, abort, a, b }
+        } else {
+            let ItemOne { kind, a, b } = ItemOne::of(word);
+            Item { kind, abort: 0, a, b }
+        }
+    }
+
+    pub fn word(self, edition: u32) -> u32 {
+        let Item { kind, abort, a, b } = self;
+        if edition == edition::TWO {
+            ItemTwo { kind, abort, a, b }.word()
+        } else {
+            ItemOne { kind, a, b }.word()
+        }
+    }
+
+    /// An outside call that aborts nothing.
+    pub fn call(code: u32) -> Self {
+        Item { kind: item::OUTSIDE_CALL, b: code, ..Default::default() }
+    }
+
+    /// An item of kinds 1, 2, 3, 5 and 6.
+    pub fn naming(kind: u32, a: u32) -> Self {
+        Item { kind, a, ..Default::default() }
+    }
+
+    /// An item of kind 4.
+    pub fn asking(network: u32, mode: u32) -> Self {
+        Item { kind: item::NETWORK_REQUEST, a: network, b: mode, ..Default::default() }
     }
 }
 
@@ -235,6 +291,8 @@ pub enum Word {
 /// A table whose header has been read.
 #[derive(Clone, Copy, Debug)]
 pub struct Table<'a> {
+    /// What its item words' fields are depends on it.
+    pub edition: u32,
     words: &'a [u32],
     counts: [usize; 7],
     /// Where each section begins, and where the last ends.
@@ -263,7 +321,7 @@ impl<'a> Table<'a> {
             let at = section as usize;
             starts[at + 1] = starts[at] + counts[at] * section.words_each();
         }
-        Some(Table { words, counts, starts })
+        Some(Table { edition: head.edition, words, counts, starts })
     }
 
     pub fn count(&self, section: Section) -> usize {
@@ -313,7 +371,7 @@ impl<'a> Table<'a> {
     }
 
     pub fn item(&self, number: usize) -> Item {
-        Item::of(self.word(Section::Items, number))
+        Item::of(self.edition, self.word(Section::Items, number))
     }
 
     /// The ports that networks, then sources, have as their own.

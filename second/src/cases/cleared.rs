@@ -65,11 +65,11 @@ impl Clearer<'_> {
         let asked = self.condition(expression::EQUAL, self.go, value);
         let rule = Rule { owner, expression: asked, ..Default::default() };
         let list = match self.rng.below(4) {
-            0 => self.add_list(owner, 0, &[Item { kind: item::LIST, a: clears, b: 0 }]),
+            0 => self.add_list(owner, 0, &[Item::naming(item::LIST, clears)]),
             1 => {
                 let lists = Rule { true_list: clears, false_list: clears, ..rule };
                 let named = self.draft.add_rule(Rule { nested_only: 1, ..lists });
-                self.add_list(owner, 0, &[Item { kind: item::RULE, a: named, b: 0 }])
+                self.add_list(owner, 0, &[Item::naming(item::RULE, named)])
             }
             _ => clears,
         };
@@ -77,7 +77,7 @@ impl Clearer<'_> {
     }
 
     fn clear(&mut self) -> Item {
-        Item { kind: item::CLEAR_EVENT, a: self.rng.pick(&self.events) as u32, b: 0 }
+        Item::naming(item::CLEAR_EVENT, self.rng.pick(&self.events) as u32)
     }
 
     fn add_list(&mut self, owner: u32, triggered_percent: usize, items: &[Item]) -> u32 {
@@ -105,7 +105,7 @@ impl Clearer<'_> {
             };
             let number = self.draft.add_rule(rule);
             if rule.nested_only == 1 {
-                items.push(Item { kind: item::RULE, a: number, b: 0 });
+                items.push(Item::naming(item::RULE, number));
             }
         }
         if items.is_empty() {
@@ -144,7 +144,7 @@ impl Clearer<'_> {
             return NO_LIST;
         }
         let b = self.rng.within(0, 65535);
-        let mut items = vec![Item { kind: item::OUTSIDE_CALL, a: 0, b }];
+        let mut items = vec![Item::call(b)];
         let may = self.watching == PLATFORM || self.watching == self.cleared;
         if may && self.rng.chance(20) {
             items.push(self.clear());

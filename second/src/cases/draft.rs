@@ -10,8 +10,9 @@ pub const SEVEN: u32 = 7;
 /// Few priorities, so that equal ones are common.
 pub const PRIORITIES: [u32; 5] = [0, 1, 1, 7, 255];
 
-#[derive(Clone, Default, Debug)]
+#[derive(Clone, Debug)]
 pub struct Draft {
+    pub edition: u32,
     pub ports: Vec<Port>,
     pub networks: Vec<(Network, Waits)>,
     pub sources: Vec<Source>,
@@ -19,6 +20,22 @@ pub struct Draft {
     pub rules: Vec<Rule>,
     pub lists: Vec<List>,
     pub items: Vec<Item>,
+}
+
+/// An empty table of edition 1.
+impl Default for Draft {
+    fn default() -> Self {
+        Draft {
+            edition: edition::ONE,
+            ports: vec![],
+            networks: vec![],
+            sources: vec![],
+            expressions: vec![],
+            rules: vec![],
+            lists: vec![],
+            items: vec![],
+        }
+    }
 }
 
 /// The kinds of conditions there may be on a port.
@@ -43,6 +60,7 @@ impl Draft {
     pub fn of(table: &Table) -> Self {
         let all = |section: Section| 0..table.count(section);
         Draft {
+            edition: table.edition,
             ports: all(Section::Ports).map(|p| table.port(p)).collect(),
             networks: all(Section::Networks).map(|n| (table.network(n), table.waits(n))).collect(),
             sources: all(Section::Sources).map(|s| table.source(s)).collect(),
@@ -99,7 +117,7 @@ impl Draft {
     pub fn words(&self) -> Vec<u32> {
         let pair = |high: usize, low: usize| Pair { high: high as u32, low: low as u32 }.word();
         let head = Head {
-            edition: EDITION,
+            edition: self.edition,
             ports: self.ports.len() as u32,
             networks: self.networks.len() as u32,
             sources: self.sources.len() as u32,
@@ -115,7 +133,7 @@ impl Draft {
         words.extend(self.expressions.iter().map(|expression| expression.word()));
         words.extend(self.rules.iter().map(|rule| rule.word()));
         words.extend(self.lists.iter().map(|list| list.word()));
-        words.extend(self.items.iter().map(|item| item.word()));
+        words.extend(self.items.iter().map(|item| item.word(self.edition)));
         words
     }
 

@@ -62,12 +62,12 @@ impl Hearer<'_> {
         let pair = self.network(owner, port as u32);
         self.draft.networks.push(pair);
         for (value, modes) in ASKED.iter().enumerate() {
-            let ask = |&b: &u32| Item { kind: item::NETWORK_REQUEST, a: network as u32, b };
+            let ask = |&b: &u32| Item::asking(network as u32, b);
             let items: Vec<Item> = modes.iter().map(ask).collect();
             self.add_rule(asking, line.go, value as u32, &items);
         }
         // Whether check or full is shown: going from one to the other starts nothing.
-        let call = Item { kind: item::OUTSIDE_CALL, a: 0, b: port as u32 };
+        let call = Item::call(port as u32);
         self.add_rule(owner, port, SHOWN, &[call]);
         self.lines.push(line);
     }

@@ -70,7 +70,7 @@ impl Leveler<'_> {
             let rule = self.rule(depth, nested_only);
             let number = self.draft.add_rule(rule);
             if nested_only == 1 || self.rng.chance(25) {
-                items.push(Item { kind: item::RULE, a: number, b: 0 });
+                items.push(Item::naming(item::RULE, number));
             }
         }
         if items.is_empty() {
@@ -79,7 +79,7 @@ impl Leveler<'_> {
         let rule = self.rule(1, 0);
         // The starting list takes the place of the rule's own, and starts that too.
         if rule.true_list != NO_LIST {
-            items.push(Item { kind: item::LIST, a: rule.true_list, b: 0 });
+            items.push(Item::naming(item::LIST, rule.true_list));
         }
         let starting = self.draft.add_list(self.rng, self.owner, false, &items);
         self.draft.add_rule(Rule { true_list: starting, ..rule });
@@ -101,7 +101,7 @@ impl Leveler<'_> {
             return NO_LIST;
         }
         let (b, triggered) = (self.rng.within(0, 65535), self.rng.chance(50));
-        let call = Item { kind: item::OUTSIDE_CALL, a: 0, b };
+        let call = Item::call(b);
         self.draft.add_list(self.rng, self.owner, triggered, &[call])
     }
 

@@ -3,9 +3,11 @@
 
 pub mod cleared;
 pub mod draft;
+pub mod failing;
 pub mod heard;
 pub mod levels;
 pub mod numbers;
+pub mod outcomes;
 pub mod prng;
 pub mod refused;
 pub mod sequences;
@@ -17,9 +19,11 @@ pub mod wide;
 
 use cleared::clearing;
 use draft::{Draft, SEVEN};
+use failing::failing;
 use heard::hearing;
 use levels::leveling;
 use numbers::renumbered;
+use outcomes::{Lending, answer_with, some_edition, strew_aborts};
 use prng::Prng;
 use refused::Refused;
 use sequences::sequence;
@@ -41,6 +45,21 @@ pub struct Case {
     /// How many trace words are lent.
     pub room: usize,
     pub events: Vec<u32>,
+    /// The outcomes that each event's call lends; none are lent where there is no entry. Plays of
+    /// the events lend none.
+    pub outcomes: Vec<Vec<u32>>,
+}
+
+impl Case {
+    /// The outcomes lent to the event of this number.
+    pub fn lent(&self, number: usize) -> &[u32] {
+        self.outcomes.get(number).map_or(&[], Vec::as_slice)
+    }
+
+    /// The same events without any outcomes.
+    pub fn lending_none(&self) -> Case {
+        Case { outcomes: vec![], ..self.clone() }
+    }
 }
 
 /// What the making of a case says of it; None where it says nothing.
@@ -76,6 +95,7 @@ enum Shape {
     Cleared,
     Levels,
     Heard,
+    Failing,
     Reached,
     Unreached,
     SevenDeep,
@@ -92,14 +112,15 @@ enum Shape {
 }
 
 /// The shapes come round in this order, so that every seed meets all of them.
-const ROUND: [Shape; 50] = {
+const ROUND: [Shape; 54] = {
     use Shape::*;
     [
-        Small, Rich, Refused, Cleared, AnyState, Unfit, Heard, Refused, SevenDeep, Wide, Small,
-        Levels, Rich, TwoFaults, Small, BitsFlipped, Refused, Heard, AnyState, Unfit, Rich, Wide,
-        EightDeep, Unreached, Small, NamesTurned, Dearest, Cleared, Raw, Levels, Rich, Refused,
-        Unfit, Heard, Reached, Wide, AnyState, Hostile, Cleared, Refused, Limits, Rich, Small,
-        Brimful, NamesTurned, Unreached, Unfit, AnyState, Wide, Levels,
+        Small, Rich, Refused, Cleared, AnyState, Unfit, Heard, Failing, Refused, SevenDeep, Wide,
+        Small, Levels, Rich, TwoFaults, Small, BitsFlipped, Refused, Heard, AnyState, Unfit, Rich,
+        Failing, Wide, EightDeep, Unreached, Small, NamesTurned, Dearest, Cleared, Raw, Levels,
+        Rich, Refused, Unfit, Heard, Failing, Reached, Wide, AnyState, Hostile, Cleared, Refused,
+        Limits, Rich, Small, Brimful, NamesTurned, Unreached, Unfit, AnyState, Wide, Failing,
+        Levels,
     ]
 };
 
@@ -136,6 +157,7 @@ fn make(rng: &mut Prng, shape: Shape, round: usize) -> Made {
         Shape::Cleared => small_or_alone(rng, clearing),
         Shape::Levels => small_or_alone(rng, leveling),
         Shape::Heard => small_or_alone(rng, hearing),
+        Shape::Failing => failed(rng),
         Shape::Reached => reached(rng),
         Shape::Unreached => refused_case(rng, not_reached),
         Shape::SevenDeep => seven_deep(rng),
@@ -150,7 +172,8 @@ fn make(rng: &mut Prng, shape: Shape, round: usize) -> Made {
         }
         Shape::Unfit => unfit(rng),
         Shape::Refused => {
-            let reason = rng.within(1, 10);
+            // There are many ways to meet 5 and 6.
+            let reason = rng.pick(&[1, 2, 3, 4, 5, 5, 5, 6, 6, 7, 8, 9, 10]);
             refused_case(rng, |rng| Some(refused::refuse_some(rng, reason, any_draft)))
         }
         Shape::TwoFaults => refused_case(rng, |rng| {
@@ -193,26 +216,35 @@ fn room(rng: &mut Prng, b: usize) -> usize {
 /// A case on an accepted table from a state that fits.
 fn accepted(rng: &mut Prng, draft: &Draft, state: Vec<u32>, fresh: bool, length: usize) -> Made {
     let events = sequence(rng, draft, length, 6);
-    taking(rng, draft, state, fresh, events)
+    let lending = Lending::some(rng);
+    taking(rng, draft, state, fresh, events, lending)
 }
 
-/// The same with the events given, each with its answer; only two where the room is too small.
+/// The same with the events given, each with the answer that table and event alone give; only two
+/// where the room is too small.
 fn taking(
     rng: &mut Prng,
     draft: &Draft,
     state: Vec<u32>,
     fresh: bool,
     mut events: Vec<(u32, u32)>,
+    lending: Lending,
 ) -> Made {
     let b = draft.b();
     let room = room(rng, b);
     if room < b {
         events.truncate(2);
     }
-    let (events, answers): (Vec<u32>, Vec<u32>) = events.into_iter().unzip();
-    let answers = answers.into_iter().map(|answer| if room < b { 3 } else { answer }).collect();
+    let mut draft = draft.clone();
+    strew_aborts(rng, &mut draft);
+    let outcomes: Vec<Vec<u32>> = events.iter().map(|_| lending.lent(rng)).collect();
+    let answer = |((_, answer), lent): (&(u32, u32), &Vec<u32>)| {
+        if room < b { 3 } else { answer_with(lent, *answer) }
+    };
+    let answers = events.iter().zip(&outcomes).map(answer).collect();
+    let events = events.into_iter().map(|(event, _)| event).collect();
     Made {
-        case: Case { table: draft.words(), state, room, events },
+        case: Case { table: draft.words(), state, room, events, outcomes },
         known: Known {
             check: Some((0, 0)),
             b: Some(b),
@@ -278,6 +310,7 @@ fn dearest(rng: &mut Prng) -> Made {
 /// One event starts every list, and the trace fills all of B.
 fn brimful(rng: &mut Prng) -> Made {
     let mut draft = Draft {
+        edition: some_edition(rng),
         ports: vec![Port::default()],
         expressions: vec![Expression::of(0)],
         rules: vec![Rule { true_list: NO_LIST, false_list: NO_LIST, ..Default::default() }],
@@ -291,7 +324,8 @@ fn brimful(rng: &mut Prng) -> Made {
 fn wide(rng: &mut Prng) -> Made {
     let base = small(rng);
     let (draft, events) = widen(rng, base);
-    from_mostly_fresh(rng, &draft, events)
+    let lending = Lending::some(rng);
+    from_mostly_fresh(rng, &draft, events, lending)
 }
 
 /// What a request is tried with, on a small table or alone, mostly from a fresh state.
@@ -299,15 +333,38 @@ fn small_or_alone(
     rng: &mut Prng,
     with: impl Fn(&mut Prng, Draft) -> (Draft, Vec<(u32, u32)>),
 ) -> Made {
-    let base = if rng.chance(50) { small(rng) } else { Draft::default() };
+    let base = small_or_empty(rng);
     let (draft, events) = with(rng, base);
-    from_mostly_fresh(rng, &draft, events)
+    let lending = Lending::some(rng);
+    from_mostly_fresh(rng, &draft, events, lending)
 }
 
-fn from_mostly_fresh(rng: &mut Prng, draft: &Draft, events: Vec<(u32, u32)>) -> Made {
+fn small_or_empty(rng: &mut Prng) -> Draft {
+    let edition = some_edition(rng);
+    if rng.chance(50) { small(rng) } else { Draft { edition, ..Default::default() } }
+}
+
+/// Outside calls that fail, on a small table or alone, nearly always in edition 2.
+fn failed(rng: &mut Prng) -> Made {
+    let edition = if rng.chance(92) { edition::TWO } else { edition::ONE };
+    let mut base = Draft { edition, ..small_or_empty(rng) };
+    if edition == edition::ONE {
+        base.items.iter_mut().for_each(|item| item.abort = 0);
+    }
+    let (draft, events) = failing(rng, base);
+    let lending = Lending::often(rng);
+    from_mostly_fresh(rng, &draft, events, lending)
+}
+
+fn from_mostly_fresh(
+    rng: &mut Prng,
+    draft: &Draft,
+    events: Vec<(u32, u32)>,
+    lending: Lending,
+) -> Made {
     let fresh = rng.chance(80);
     let state = if fresh { fresh_state(draft) } else { fit_state(rng, draft) };
-    taking(rng, draft, state, fresh, events)
+    taking(rng, draft, state, fresh, events, lending)
 }
 
 fn unfit(rng: &mut Prng) -> Made {
@@ -339,10 +396,17 @@ fn refused_case(rng: &mut Prng, refuse: impl Fn(&mut Prng) -> Option<Refused>) -
     let state = vec![0; rng.below(20)];
     let Refused { words, reason, place, note } = refused;
     let check = Some((reason, place));
+    let outcomes = lent_to(rng, 2);
     Made {
-        case: Case { table: words, state, room: rng.below(8), events },
+        case: Case { table: words, state, room: rng.below(8), events, outcomes },
         known: Known { check, answers, note, ..Default::default() },
     }
+}
+
+/// Outcomes for so many events.
+fn lent_to(rng: &mut Prng, events: usize) -> Vec<Vec<u32>> {
+    let lending = Lending::some(rng);
+    (0..events).map(|_| lending.lent(rng)).collect()
 }
 
 fn hostile(rng: &mut Prng, round: usize) -> Made {
@@ -377,7 +441,7 @@ fn names_turned(rng: &mut Prng) -> Made {
                 let at = rng.below(draft.items.len());
                 let named = [(item::LIST, some_list), (item::RULE, rule)];
                 let (kind, a) = rng.pick(&named);
-                draft.items[at] = Item { kind, a: a as u32, b: 0 };
+                draft.items[at] = Item::naming(kind, a as u32);
             }
             4 if !draft.lists.is_empty() => draft.lists[some_list].owner = owner,
             _ => draft.ports[some_port].owner = owner,
@@ -388,7 +452,8 @@ fn names_turned(rng: &mut Prng) -> Made {
     let table = draft.words();
     // Cost may have no end here, so the room is asked of the check.
     let room = check(&table).b;
-    Made { case: Case { table, state, room, events }, known: Known::default() }
+    let outcomes = lent_to(rng, 6);
+    Made { case: Case { table, state, room, events, outcomes }, known: Known::default() }
 }
 
 /// A good case with a few bits turned in its table or its state.
@@ -409,9 +474,12 @@ fn raw(rng: &mut Prng) -> Made {
     let mut table: Vec<u32> = (0..rng.below(60)).map(|_| rng.word()).collect();
     if rng.chance(50) {
         table.resize(HEADER + 6, 0);
-        table[..HEADER].copy_from_slice(&[0x0101_0000, 0x0001_0001, 0x0001_0002]);
+        let head = rng.pick(&[0x0101_0000, 0x0201_0000]);
+        table[..HEADER].copy_from_slice(&[head, 0x0001_0001, 0x0001_0002]);
     }
     let state: Vec<u32> = (0..rng.below(4)).map(|_| rng.word()).collect();
     let events: Vec<u32> = (0..3).map(|_| rng.word()).collect();
-    Made { case: Case { table, state, room: rng.below(9), events }, known: Known::default() }
+    let outcomes = (0..3).map(|_| (0..rng.below(3)).map(|_| rng.word()).collect()).collect();
+    let room = rng.below(9);
+    Made { case: Case { table, state, room, events, outcomes }, known: Known::default() }
 }

@@ -3,6 +3,7 @@
 
 use super::draft::{Depth, Draft, SEVEN, conditions_on};
 use super::numbers::renumbered;
+use super::outcomes::some_edition;
 use super::prng::Prng;
 use super::tables::pad;
 use super::unreached::unreached;
@@ -54,7 +55,7 @@ pub fn refuse_some(rng: &mut Prng, reason: u32, draft: impl Fn(&mut Prng) -> Dra
 fn misshapen(rng: &mut Prng, mut words: Vec<u32>, reason: u32) -> Refused {
     match reason {
         1 => words.truncate(rng.below(HEADER)),
-        2 => words[0] ^= rng.within(1, 255) << 24,
+        2 => words[0] = Head { edition: no_edition(rng), ..Head::of(words[0]) }.word(),
         3 => break_limit(rng, &mut words),
         _ => match rng.below(3) {
             0 => words.push(rng.word()),
@@ -65,6 +66,12 @@ fn misshapen(rng: &mut Prng, mut words: Vec<u32>, reason: u32) -> Refused {
         },
     }
     Refused::of(words, reason, 0)
+}
+
+/// Mostly one next to those there are.
+fn no_edition(rng: &mut Prng) -> u32 {
+    let any = rng.within(edition::TWO + 1, 255);
+    rng.pick(&[0, edition::TWO + 1, 255, any])
 }
 
 fn break_limit(rng: &mut Prng, words: &mut [u32]) {
@@ -95,14 +102,17 @@ fn break_limit(rng: &mut Prng, words: &mut [u32]) {
 fn one_word(rng: &mut Prng, good: &Draft, reason: u32) -> Option<Refused> {
     let mut words = good.words();
     let table = Table::of(&words)?;
-    let place = match rng.pick_any(&levels(good)) {
-        // Seldom met among all words.
-        Some(level) if rng.chance(40) => table.place(Section::Expressions, level),
+    let kind = rng.within(item::CLEAR_EVENT, item::RULE);
+    let (level, item) = (rng.pick_any(&levels(good)), rng.pick_any(&items(good, kind)));
+    // Conditions at or above and items that name things are seldom met among all words.
+    let place = match (rng.weighed(&[3, 4, 3]), level, item) {
+        (0, Some(level), _) => table.place(Section::Expressions, level),
+        (1, _, Some(item)) => table.place(Section::Items, item),
         _ => HEADER + rng.below(words.len() - HEADER),
     };
     let (number, word) = table.words().nth(place - HEADER)?;
     words[place] = match reason {
-        5 => broken(rng, word),
+        5 => broken(rng, good.edition, word),
         _ => misnaming(rng, good, number, word)?,
     };
     Some(Refused::of(words, reason, place))
@@ -117,7 +127,11 @@ fn levels(good: &Draft) -> Vec<usize> {
     (0..good.expressions.len()).filter(|&number| level(&good.expressions[number])).collect()
 }
 
-fn broken(rng: &mut Prng, word: Word) -> u32 {
+fn items(good: &Draft, kind: u32) -> Vec<usize> {
+    (0..good.items.len()).filter(|&item| good.items[item].kind == kind).collect()
+}
+
+fn broken(rng: &mut Prng, edition: u32, word: Word) -> u32 {
     match word {
         Word::Port(port) => broken_port(rng, port),
         Word::Network(network) => Network { zero: rng.within(1, 0xFFF), ..network }.word(),
@@ -130,7 +144,7 @@ fn broken(rng: &mut Prng, word: Word) -> u32 {
         Word::Expression(expression) => broken_expression(rng, expression),
         Word::Rule(rule) => Rule { first: 3, ..rule }.word(),
         Word::List(list) => List { count: 0, ..list }.word(),
-        Word::Item(item) => broken_item(rng, item),
+        Word::Item(item) => broken_item(rng, edition, item).word(edition),
     }
 }
 
@@ -166,15 +180,23 @@ fn broken_port(rng: &mut Prng, port: Port) -> u32 {
     rng.pick(&[initial, reload, kind, special]).word()
 }
 
-fn broken_item(rng: &mut Prng, item: Item) -> u32 {
-    if rng.chance(30) {
-        return Item { kind: rng.within(item::RULE + 1, 15), ..item }.word();
-    }
+fn broken_item(rng: &mut Prng, edition: u32, item: Item) -> Item {
+    let (widest, calls) = (widest_a(edition), item.kind == item::OUTSIDE_CALL);
     match item.kind {
-        item::OUTSIDE_CALL => Item { a: rng.within(1, 4095), ..item }.word(),
-        item::NETWORK_REQUEST => Item { b: rng.within(3, 65535), ..item }.word(),
-        _ => Item { b: rng.within(1, 65535), ..item }.word(),
+        _ if rng.chance(20) => Item { kind: rng.within(item::RULE + 1, 15), ..item },
+        // "abort only in outside calls".
+        _ if edition == edition::TWO && !calls && rng.chance(75) => Item { abort: 1, ..item },
+        // The highest bit is abort's in edition 2, and a's in edition 1.
+        item::OUTSIDE_CALL if rng.chance(40) => Item { a: widest / 2 + 1, ..item },
+        item::OUTSIDE_CALL => Item { a: rng.within(1, widest), ..item },
+        item::NETWORK_REQUEST => Item { b: rng.within(3, 65535), ..item },
+        _ => Item { b: rng.within(1, 65535), ..item },
     }
+}
+
+/// The largest a that an item can have.
+fn widest_a(edition: u32) -> u32 {
+    if edition == edition::TWO { 2047 } else { 4095 }
 }
 
 /// The word with a name of an absent or wrong thing; None for one that names nothing.
@@ -204,7 +226,7 @@ fn misnaming(rng: &mut Prng, good: &Draft, number: usize, word: Word) -> Option<
             let first = good.items.len() as u32 + 1 - list.count;
             List { first, ..list }.word()
         }
-        Word::Item(item) => misnaming_item(rng, good, item)?.word(),
+        Word::Item(item) => misnaming_item(rng, good, item)?.word(good.edition),
     };
     Some(word)
 }
@@ -240,11 +262,15 @@ fn misnaming_rule(rng: &mut Prng, good: &Draft, rule: Rule) -> Option<Rule> {
 }
 
 fn misnaming_item(rng: &mut Prng, good: &Draft, item: Item) -> Option<Item> {
-    let absent = |rng: &mut Prng, count: usize| rng.within(count as u32, 4095);
+    let widest = widest_a(good.edition);
+    let absent = |rng: &mut Prng, count: usize| {
+        let any = rng.within(count as u32, widest);
+        rng.pick(&[any, any, any, widest])
+    };
     let a = match item.kind {
-        item::CLEAR_EVENT => wrong_port(rng, good, 4095, |port| port.kind == port::EVENT),
+        item::CLEAR_EVENT => wrong_port(rng, good, widest, |port| port.kind == port::EVENT),
         item::START_TIMER | item::STOP_TIMER => {
-            wrong_port(rng, good, 4095, |port| port.kind == port::TIMER)
+            wrong_port(rng, good, widest, |port| port.kind == port::TIMER)
         }
         item::NETWORK_REQUEST => absent(rng, good.networks.len()),
         item::LIST if rng.chance(30) => NO_LIST,
@@ -288,7 +314,7 @@ fn nested_too_deep(rng: &mut Prng, good: &Draft) -> Option<Refused> {
             }
             1 if !draft.lists.is_empty() => {
                 let (any, at) = (rng.below(draft.lists.len()), rng.below(draft.items.len()));
-                draft.items[at] = Item { kind: item::LIST, a: any as u32, b: 0 };
+                draft.items[at] = Item::naming(item::LIST, any as u32);
             }
             _ if !draft.lists.is_empty() => {
                 let (any, at) = (rng.below(draft.lists.len()), rng.below(draft.rules.len()));
@@ -335,13 +361,13 @@ fn add_row_of_lists(rng: &mut Prng, draft: &mut Draft, model: Rule, levels: usiz
         let deeper = draft.lists.len() as u32;
         let first = draft.items.len() as u32;
         let item = if level == 0 {
-            Item { kind: item::OUTSIDE_CALL, a: 0, b: 0xBEE }
+            Item::call(0xBEE)
         } else if rng.chance(50) {
-            Item { kind: item::LIST, a: deeper - 1, b: 0 }
+            Item::naming(item::LIST, deeper - 1)
         } else {
             let rule = Rule { nested_only: 1, true_list: deeper - 1, ..model };
             draft.rules.push(Rule { false_list: NO_LIST, ..rule });
-            Item { kind: item::RULE, a: draft.rules.len() as u32 - 1, b: 0 }
+            Item::naming(item::RULE, draft.rules.len() as u32 - 1)
         };
         draft.items.push(item);
         let (owner, triggered, priority) = (model.owner, rng.within(0, 1), rng.within(0, 9));
@@ -409,7 +435,7 @@ fn foreign_item(rng: &mut Prng, draft: &mut Draft) -> Option<usize> {
     let nests = [item::LIST, item::RULE].contains(&draft.items[number].kind);
     let candidates: Vec<(Item, u32)> = if nests && rng.chance(50) {
         let flat = (0..draft.lists.len()).filter(|&l| depths[l] == Depth::Levels(1));
-        flat.map(|l| (Item { kind: item::LIST, a: l as u32, b: 0 }, draft.lists[l].owner)).collect()
+        flat.map(|l| (Item::naming(item::LIST, l as u32), draft.lists[l].owner)).collect()
     } else {
         flat_items(draft)
     };
@@ -430,10 +456,10 @@ fn flat_items(draft: &Draft) -> Vec<(Item, u32)> {
             _ => &[],
         };
         let (a, owner) = (number as u32, port.owner);
-        kinds.iter().map(move |&kind| (Item { kind, a, b: 0 }, owner)).collect::<Vec<_>>()
+        kinds.iter().map(move |&kind| (Item::naming(kind, a), owner)).collect::<Vec<_>>()
     };
     let of_network = |(number, (network, _)): (usize, &(Network, Waits))| {
-        let item = Item { kind: item::NETWORK_REQUEST, a: number as u32, b: mode::FULL };
+        let item = Item::asking(number as u32, mode::FULL);
         (item, network.owner)
     };
     let ports = draft.ports.iter().enumerate().flat_map(of_port);
@@ -473,6 +499,7 @@ pub fn hostile(rng: &mut Prng, levels: usize, ringed: bool) -> Refused {
     let port = Port { kind: port::MODE, ..Default::default() };
     let rule = Rule { true_list: 0, false_list: NO_LIST, ..Default::default() };
     let mut draft = Draft {
+        edition: some_edition(rng),
         ports: vec![port],
         expressions: vec![Expression::of(0)],
         rules: vec![rule],
@@ -484,8 +511,8 @@ pub fn hostile(rng: &mut Prng, levels: usize, ringed: bool) -> Refused {
         draft.rules.push(Rule { nested_only: 1, true_list: next as u32, ..rule });
         let item = match (level + 1 == levels && !ringed, by_rules) {
             (true, _) => Item::default(),
-            (_, true) => Item { kind: item::RULE, a: level as u32 + 1, b: 0 },
-            (_, false) => Item { kind: item::LIST, a: next as u32, b: 0 },
+            (_, true) => Item::naming(item::RULE, level as u32 + 1),
+            (_, false) => Item::naming(item::LIST, next as u32),
         };
         draft.items.extend([item; 255]);
         draft.lists.push(List { first, count: 255, ..Default::default() });

@@ -3,6 +3,7 @@
 
 use super::draft::{Draft, PRIORITIES, SEVEN, conditions_on};
 use super::numbers::renumbered;
+use super::outcomes::{some_edition, strew_aborts};
 use super::prng::Prng;
 use crate::words::*;
 
@@ -100,7 +101,7 @@ struct Grower<'a> {
     spent: usize,
 }
 
-/// A table that the check accepts.
+/// A table that the check accepts, of either edition.
 pub fn grow(rng: &mut Prng, plan: Plan) -> Draft {
     let mut owners: Vec<u32> = (1..16).collect();
     rng.shuffle(&mut owners);
@@ -124,7 +125,9 @@ pub fn grow(rng: &mut Prng, plan: Plan) -> Draft {
     grower.find_ruling();
     grower.grow_rules_and_lists();
     grower.grow_starters();
-    let Grower { rng, draft, .. } = grower;
+    let Grower { rng, mut draft, .. } = grower;
+    draft.edition = some_edition(rng);
+    strew_aborts(rng, &mut draft);
     renumbered(rng, draft)
 }
 
@@ -383,7 +386,7 @@ impl Grower<'_> {
         };
         if named.is_empty() {
             let b = self.rng.within(0, 65535);
-            return (Item { kind: item::OUTSIDE_CALL, a: 0, b }, 0, 1);
+            return (Item::call(b), 0, 1);
         }
         self.naming_item(kind, &named)
     }
@@ -403,7 +406,7 @@ impl Grower<'_> {
             item::RULE => (self.rules[a].0, 1 + self.rules[a].1),
             _ => (0, 1),
         };
-        (Item { kind, a: a as u32, b }, depth, cost)
+        (Item { kind, abort: 0, a: a as u32, b }, depth, cost)
     }
 }
 
@@ -417,7 +420,7 @@ fn affordable(grown: &[(u32, usize)], left: usize, ours: impl Fn(usize) -> bool)
 /// cost exactly `left` more; each gets a rule of its own.
 pub fn pad(rng: &mut Prng, draft: &mut Draft, left: usize, at_least: usize) {
     let pool = draft.items.len() as u32;
-    let calls = (0..255).map(|b| Item { kind: item::OUTSIDE_CALL, a: 0, b });
+    let calls = (0..255).map(|b| Item::call(b));
     draft.items.extend(calls);
     let lists = at_least.max(left.div_ceil(256));
     for made in 0..lists {
@@ -448,9 +451,9 @@ pub fn fill_rules(rng: &mut Prng, draft: &mut Draft) {
 pub fn fill_items(rng: &mut Prng, draft: &mut Draft) {
     while draft.items.len() < Section::Items.limits().1 {
         let item = if rng.chance(50) {
-            Item { kind: item::LIST, a: rng.below(draft.lists.len()) as u32, b: 0 }
+            Item::naming(item::LIST, rng.below(draft.lists.len()) as u32)
         } else {
-            Item { kind: item::RULE, a: rng.below(draft.rules.len()) as u32, b: 0 }
+            Item::naming(item::RULE, rng.below(draft.rules.len()) as u32)
         };
         draft.items.push(item);
     }

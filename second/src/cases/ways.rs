@@ -77,7 +77,7 @@ pub fn with_ring(rng: &mut Prng, good: &Draft) -> Draft {
     let way = add_way(rng, &mut draft);
     let (first, last) = (way.lists[0], way.lists[way.lists.len() - 1]);
     let closing = draft.lists[last].items().start;
-    draft.items[closing] = Item { kind: item::LIST, a: first as u32, b: 0 };
+    draft.items[closing] = Item::naming(item::LIST, first as u32);
     renumbered(rng, draft)
 }
 
@@ -92,7 +92,7 @@ fn in_any_order(rng: &mut Prng, draft: &Draft, lists: &[usize]) -> (Draft, usize
 }
 
 fn call(rng: &mut Prng) -> Item {
-    Item { kind: item::OUTSIDE_CALL, a: 0, b: rng.within(0, 65535) }
+    Item::call(rng.within(0, 65535))
 }
 
 /// Lists of one owner, made from the last up to the first, which nothing starts yet.
@@ -103,8 +103,8 @@ fn add_way(rng: &mut Prng, draft: &mut Draft) -> Way {
     for _ in 1..rng.within(1, SEVEN) {
         let rule = rng.chance(50).then(|| add_rule(rng, draft, 1, &way, 0));
         let naming = match rule {
-            Some(rule) => Item { kind: item::RULE, a: rule as u32, b: 0 },
-            None => Item { kind: item::LIST, a: way.lists[0] as u32, b: 0 },
+            Some(rule) => Item::naming(item::RULE, rule as u32),
+            None => Item::naming(item::LIST, way.lists[0] as u32),
         };
         let before = rng.below(3);
         let mut items: Vec<Item> = (0..before).map(|_| call(rng)).collect();
@@ -169,10 +169,10 @@ fn leave_unstarted(rng: &mut Prng, draft: &mut Draft, way: &Way) {
             add_rule(rng, draft, 1, way, 0);
         }
         // The last item is in no list.
-        2 => draft.items.push(Item { kind: item::LIST, a: way.lists[0] as u32, b: 0 }),
+        2 => draft.items.push(Item::naming(item::LIST, way.lists[0] as u32)),
         _ => {
             let rule = add_rule(rng, draft, 1, way, 0);
-            draft.items.push(Item { kind: item::RULE, a: rule as u32, b: 0 });
+            draft.items.push(Item::naming(item::RULE, rule as u32));
         }
     }
 }

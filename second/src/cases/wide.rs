@@ -252,14 +252,14 @@ impl Weaver<'_> {
             return NO_LIST;
         }
         let b = self.rng.within(0, 65535);
-        let call = Item { kind: item::OUTSIDE_CALL, a: 0, b };
+        let call = Item::call(b);
         let triggered = self.rng.chance(25);
         self.draft.add_list(self.rng, self.owner, triggered, &[call])
     }
 
     /// A rule that `go` makes true, whatever the scene, with a list of rule items.
     fn add_starter(&mut self, rules: &[u32]) {
-        let rule_item = |&a: &u32| Item { kind: item::RULE, a, b: 0 };
+        let rule_item = |&a: &u32| Item::naming(item::RULE, a);
         let named = rules.iter().filter(|&&rule| {
             self.draft.rules[rule as usize].nested_only == 1 || self.rng.chance(25)
         });

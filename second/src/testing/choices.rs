@@ -2,10 +2,9 @@
 
 use std::collections::BTreeSet;
 
-use super::log::{Entry, hold};
+use super::log::Entry;
 use super::ports::{Ports, arbitrated, expires, undefined};
 use super::skipping::gives;
-use super::traces::{items_run, started};
 use crate::cases::draft::Draft;
 use crate::words::*;
 
@@ -29,40 +28,26 @@ impl<'a> Choices<'a> {
 
     /// The lists chosen, had just these ports been arbitrated.
     pub fn chosen(&self, arbitrated: Ports) -> BTreeSet<usize> {
-        (0..self.mentions.len()).filter_map(|rule| self.chosen_by(rule, arbitrated)).collect()
+        let results = self.results(arbitrated);
+        results.filter_map(|(rule, result)| self.chosen_by(rule, result)).collect()
     }
 
-    fn chosen_by(&self, number: usize, arbitrated: Ports) -> Option<usize> {
-        let (rule, mentions) = (self.draft.rules[number], self.mentions[number]);
-        if rule.nested_only == 1 || mentions & arbitrated == 0 || mentions & self.undefined != 0 {
-            return None;
-        }
-        let result = gives(self.draft, &self.read, rule.expression);
-        let list = rule.list_for(result)?;
+    /// The rules evaluated before any list runs, each with its result.
+    pub fn results(&self, arbitrated: Ports) -> impl Iterator<Item = (usize, bool)> {
+        let concerned = move |&number: &usize| {
+            let (rule, mentions) = (self.draft.rules[number], self.mentions[number]);
+            rule.nested_only == 0 && mentions & arbitrated != 0 && mentions & self.undefined == 0
+        };
+        let gives = |number: usize| {
+            (number, gives(self.draft, &self.read, self.draft.rules[number].expression))
+        };
+        (0..self.mentions.len()).filter(concerned).map(gives)
+    }
+
+    fn chosen_by(&self, number: usize, result: bool) -> Option<usize> {
+        let list = self.draft.rules[number].list_for(result)?;
         let last = RuleState::of(self.entry.before[self.draft.ports.len() + number]).last;
         (self.draft.lists[list].triggered == 0 || last != result as u32).then_some(list)
-    }
-
-    /// Every list chosen has started, and nothing has that was neither chosen
-    /// nor named.
-    pub fn hold(&self) -> Result<(), String> {
-        let (chosen, starts) = (self.chosen(self.arbitrated), started(self.entry));
-        let run = items_run(self.draft, self.entry);
-        let named_by = |item: &&Item| match item.kind {
-            item::LIST => vec![item.a as usize],
-            item::RULE => self.draft.rules[item.a as usize].lists().collect(),
-            _ => vec![],
-        };
-        let named: Vec<usize> = run.iter().flat_map(named_by).collect();
-        let missed = chosen.iter().find(|list| !starts.contains(list));
-        hold(missed.is_none(), || format!("list {missed:?} chosen and not started"))?;
-        let stray = starts.iter().find(|list| !chosen.contains(list) && !named.contains(list));
-        hold(stray.is_none(), || format!("list {stray:?} started, but not chosen or named"))?;
-        // A rule item may run its list or not; without one the count is certain.
-        let certain = run.iter().all(|item| item.kind != item::RULE);
-        hold(!certain || starts.len() == chosen.len() + named.len(), || {
-            format!("{starts:?} started where {chosen:?} are chosen and {named:?} named")
-        })
     }
 }
 

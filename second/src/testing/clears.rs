@@ -11,7 +11,6 @@ use crate::words::*;
 /// Follows a case's events that are done.
 pub struct Clears<'a> {
     draft: &'a Draft,
-    mentions: &'a [Ports],
     events: Ports,
     /// Marked by a clear, and by nothing else.
     by_clear: Ports,
@@ -20,16 +19,19 @@ pub struct Clears<'a> {
 }
 
 impl<'a> Clears<'a> {
-    pub fn over(draft: &'a Draft, mentions: &'a [Ports]) -> Self {
+    pub fn over(draft: &'a Draft) -> Self {
         let events = ports_where(draft, |port| draft.ports[port].kind == port::EVENT);
-        Clears { draft, mentions, events, by_clear: 0, taken_away: 0 }
+        Clears { draft, events, by_clear: 0, taken_away: 0 }
     }
 
-    pub fn follow(&mut self, entry: &Entry, met: &mut Met) -> Result<(), String> {
-        let choices = Choices::of(self.draft, self.mentions, entry);
-        choices.hold()?;
+    pub fn follow(
+        &mut self,
+        entry: &Entry,
+        choices: &Choices,
+        met: &mut Met,
+    ) -> Result<(), String> {
         if entry.is_tick() {
-            self.meet_tick(&choices, met);
+            self.meet_tick(choices, met);
         }
         let cleared = cleared(entry);
         for port in members(self.events) {

@@ -4,6 +4,7 @@ use std::cmp::Ordering;
 use std::collections::{BTreeMap, BTreeSet};
 use std::fmt;
 
+use super::failing_rows::{self, Failing};
 use super::heard::{self, Heard};
 use super::{names, play_rows, played};
 use crate::cases::refused::{COST_4097, DEPTH_8_EXPRESSION, DEPTH_8_LIST, RING};
@@ -34,6 +35,7 @@ pub enum Row {
     NetworkTurn(u32, u32),
     BusOffIgnored(u32),
     Heard(Heard),
+    Failing(Failing),
     SourceTurn(u32, u32),
     Unfit(usize),
     Limit(usize),
@@ -179,7 +181,7 @@ const SOURCE_TURNS: [(u32, u32); 9] = {
     ]
 };
 
-const EVENTS: [&str; 8] = [
+pub const EVENTS: [&str; 8] = [
     "tick",
     "mode request",
     "event request",
@@ -189,7 +191,7 @@ const EVENTS: [&str; 8] = [
     "wakeup clear",
     "heard",
 ];
-const ITEMS: [&str; 7] =
+pub const ITEMS: [&str; 7] =
     ["outside call", "clear event", "start timer", "stop timer", "network request", "list", "rule"];
 const EXPRESSIONS: [&str; 10] =
     ["equal", "not equal", "set", "cleared", "AND", "OR", "XOR", "NAND", "NOT", "at or above"];
@@ -243,6 +245,7 @@ impl fmt::Display for Row {
                 format!("bus-off ignored in {}", NETWORK_STATES[state as usize])
             }
             Row::Heard(heard) => heard.to_string(),
+            Row::Failing(failing) => failing.to_string(),
             Row::SourceTurn(from, to) => format!("source: {}", turn(&STATUSES, from, to)),
             Row::Unfit(misfit) => format!("state unfit: {:?}", MISFITS[misfit]),
             Row::Limit(section) => {
@@ -275,7 +278,7 @@ impl Coverage {
         let ignoring = [network::NONE, network::SILENT, network::RECOVER];
         let rows = (0..=10)
             .map(Row::Reason)
-            .chain((0..=6).map(Row::Answer))
+            .chain((0..=6).chain([8]).map(Row::Answer))
             .chain((event::TICK..=event::HEARD).map(Row::EventTaken))
             .chain((0..=6).map(Row::ItemRun))
             .chain((expression::EQUAL..=expression::AT_OR_ABOVE).map(Row::Evaluated))
@@ -290,12 +293,14 @@ impl Coverage {
             .chain(NETWORK_TURNS.map(|(from, to)| Row::NetworkTurn(from, to)))
             .chain(ignoring.map(Row::BusOffIgnored))
             .chain(heard::rows().map(Row::Heard))
+            .chain(failing_rows::rows().map(Row::Failing))
             .chain(SOURCE_TURNS.map(|(from, to)| Row::SourceTurn(from, to)))
             .chain(MISFITS.map(Row::unfit))
             .chain(SECTIONS.map(Row::limit))
             .chain(SPECIAL.map(Row::Special))
             .chain(names::ROWS.map(Row::Special))
             .chain(heard::ROWS.map(Row::Special))
+            .chain(failing_rows::ROWS.map(Row::Special))
             .chain(play_rows::ROWS.map(Row::Special))
             .chain(played::ROWS.map(Row::Special));
         Coverage(rows.map(|row| (row, 0)).collect())

@@ -1,9 +1,10 @@
 //! Demand 3 on a run from a fresh state: nobody waits longer because of a stranger.
 
 use super::coverage::{self, Met, Row};
+use super::failing_rows::{STRUCK_OUT_FAILED, STRUCK_OUT_MOVED};
 use super::heard::takes_heard;
 use super::log::{Entry, hold, run};
-use super::traces::modes_asked;
+use super::traces::{callers, modes_asked};
 use crate::cases::Case;
 use crate::cases::draft::Draft;
 use crate::words::*;
@@ -169,7 +170,8 @@ fn follow_source(
 }
 
 /// For each operator, and for the platform: with the strangers' events struck
-/// out, its words and the platform's are the same after every event kept.
+/// out, its words and the platform's are the same after every event kept, where
+/// its calls and the platform's meet the same outcomes.
 pub fn try_struck_out(
     case: &Case,
     draft: &Draft,
@@ -179,10 +181,12 @@ pub fn try_struck_out(
     for side in &sides(draft) {
         let (kept, struck): (Vec<&Entry>, Vec<&Entry>) =
             log.iter().partition(|entry| side.has(entry.event.owner));
-        let events = kept.iter().map(|entry| entry.event.word()).collect();
-        let alone = run(&Case { events, ..case.clone() });
+        let alone = side.run_kept(case, &kept);
         side.try_same(&kept, &alone.iter().collect::<Vec<&Entry>>())?;
         side.meet(&kept, &struck, met);
+        if struck.iter().any(|entry| entry.answer == 0) {
+            side.meet_failed(&kept, &alone, met);
+        }
     }
     Ok(())
 }
@@ -237,6 +241,78 @@ impl Side<'_> {
         };
         let by_tick = ticks.enumerate().map(|(tick, entry)| (tick, taking(entry)));
         by_tick.flat_map(|(tick, networks)| networks.into_iter().map(move |n| (tick, n))).collect()
+    }
+
+    /// The outcomes that its calls met in a taken event, in order.
+    fn outcomes_met(&self, entry: &Entry) -> Vec<u32> {
+        let lent = entry.outcomes.iter().copied().chain(std::iter::repeat(outcome::GOOD));
+        let met = callers(&entry.trace).into_iter().zip(lent);
+        met.filter(|(owner, _)| self.has(*owner)).map(|(_, outcome)| outcome).collect()
+    }
+
+    /// The kept events alone, from the case's state.
+    fn run_kept(&self, case: &Case, kept: &[&Entry]) -> Vec<Entry> {
+        let mut log: Vec<Entry> = vec![];
+        for entry in kept {
+            let state = log.last().map_or(&case.state, |last| &last.after).clone();
+            let (events, outcomes) = (vec![entry.event.word()], vec![entry.outcomes.clone()]);
+            let alone = Case { state, events, outcomes, ..case.clone() };
+            let rereads = entry.answer == 0 && self.draft.edition == edition::TWO;
+            let next = if rereads { self.run_alike(&alone, entry) } else { run(&alone).remove(0) };
+            log.push(next);
+        }
+        log
+    }
+
+    /// One event, lent outcomes so that its own calls meet what they met before. Each call's
+    /// outcome is found before the calls behind it, for which of them run depends on it. The
+    /// strangers' first calls are good and failed by turns, whatever they were.
+    fn run_alike(&self, alone: &Case, with: &Entry) -> Entry {
+        let due = self.outcomes_met(with);
+        let mut lent: Vec<u32> = vec![];
+        loop {
+            let entry = run(&Case { outcomes: vec![lent.clone()], ..alone.clone() }).remove(0);
+            let callers = callers(&entry.trace);
+            if callers.len() <= lent.len() {
+                return entry;
+            }
+            let mut own = callers[..lent.len()].iter().filter(|&&owner| self.has(owner)).count();
+            for (number, &owner) in callers.iter().enumerate().skip(lent.len()) {
+                let next = match self.has(owner) {
+                    true => due.get(own).copied().unwrap_or(outcome::GOOD),
+                    false => (number < 8 && number % 2 == 0) as u32,
+                };
+                own += self.has(owner) as usize;
+                lent.push(next);
+                if next == outcome::FAILED {
+                    break;
+                }
+            }
+        }
+    }
+
+    /// The failed calls of its own, by their numbers among all calls of the event.
+    fn failed_calls(&self, entry: &Entry) -> Vec<usize> {
+        let calls = callers(&entry.trace).into_iter().zip(&entry.outcomes).enumerate();
+        let failed = |(number, (owner, lent)): (usize, (u32, &u32))| {
+            (self.has(owner) && *lent == outcome::FAILED).then_some(number)
+        };
+        calls.filter_map(failed).collect()
+    }
+
+    fn meet_failed(&self, with: &[&Entry], without: &[Entry], met: &mut Met) {
+        if self.draft.edition == edition::ONE {
+            return;
+        }
+        for (with, without) in with.iter().zip(without).filter(|(with, _)| with.answer == 0) {
+            let (one, other) = (self.failed_calls(with), self.failed_calls(without));
+            if !one.is_empty() {
+                met.insert(Row::Special(STRUCK_OUT_FAILED));
+            }
+            if one != other {
+                met.insert(Row::Special(STRUCK_OUT_MOVED));
+            }
+        }
     }
 
     fn try_same(&self, with: &[&Entry], without: &[&Entry]) -> Result<(), String> {

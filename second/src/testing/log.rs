@@ -6,8 +6,11 @@ use crate::stream::TRACE_FILL;
 use crate::words::{Event, event};
 
 /// One event with the state before and after it.
+#[derive(Clone)]
 pub struct Entry {
     pub event: Event,
+    /// The outcomes lent.
+    pub outcomes: Vec<u32>,
     pub answer: u32,
     pub before: Vec<u32>,
     pub after: Vec<u32>,
@@ -34,15 +37,16 @@ pub fn hold(holds: bool, what: impl FnOnce() -> String) -> Result<(), String> {
 /// Every event in turn, the state passed on.
 pub fn run(case: &Case) -> Vec<Entry> {
     let mut state = case.state.clone();
-    let one = |&event: &u32| {
+    let one = |(number, &event): (usize, &u32)| {
         let (before, mut trace) = (state.clone(), vec![TRACE_FILL; case.room]);
-        let outcome = step(&case.table, &mut state, &mut trace, event);
+        let outcomes = case.lent(number).to_vec();
+        let stepped = step(&case.table, &mut state, &mut trace, event, &outcomes);
         // A count past the room would show as a short trace and fail below.
-        let written = outcome.count.min(case.room);
+        let written = stepped.count.min(case.room);
         let untouched = trace[written..].iter().all(|&word| word == TRACE_FILL);
-        let answer = if untouched { outcome.answer } else { u32::MAX };
+        let answer = if untouched { stepped.answer } else { u32::MAX };
         trace.truncate(written);
-        Entry { event: Event::of(event), answer, before, after: state.clone(), trace }
+        Entry { event: Event::of(event), outcomes, answer, before, after: state.clone(), trace }
     };
-    case.events.iter().map(one).collect()
+    case.events.iter().enumerate().map(one).collect()
 }

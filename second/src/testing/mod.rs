@@ -4,6 +4,8 @@ mod choices;
 mod clears;
 pub mod coverage;
 mod demand3;
+mod failing;
+mod failing_rows;
 mod fixed;
 mod heard;
 mod levels;
@@ -18,6 +20,7 @@ mod reach;
 mod recorded;
 mod skipping;
 mod traces;
+mod walk;
 
 use std::panic::catch_unwind;
 
@@ -26,7 +29,7 @@ use coverage::Coverage;
 
 /// Each seed's first cases are run.
 const SEEDS: [u64; 4] = [1, 2026, 0xC0FFEE, 0x5EED_5EED_5EED_5EED];
-const CASES_EACH: usize = 5000;
+const CASES_EACH: usize = 5400;
 
 #[derive(Default)]
 struct Tally {

@@ -21,7 +21,8 @@ const TIGHT: usize = 16;
 /// "Trace full".
 const FULL: u32 = 3;
 
-/// Tries plays of every kind on a case, whose events `log` has one by one.
+/// Tries plays of every kind on a case, whose events `log` has one by one. Q-9: "In play all calls
+/// are good", so the case lends no outcomes.
 pub fn try_plays(case: &Case, b: usize, log: &[Entry], met: &mut Met) -> Result<(), String> {
     match check_state(&case.table, &case.state) {
         0 if case.room < b => {
@@ -201,13 +202,14 @@ impl Singles<'_> {
         let mut lent = self.lend(0, room);
         for &event in &self.case.events[..first] {
             let Lent { state, trace, played } = &mut lent;
-            let outcome = step(&self.case.table, state, &mut trace[played.count..], event);
-            played.answer = outcome.answer;
-            if outcome.answer != 0 {
+            let free = &mut trace[played.count..];
+            let stepped = step(&self.case.table, state, free, event, &[]);
+            played.answer = stepped.answer;
+            if stepped.answer != 0 {
                 break;
             }
             played.taken += 1;
-            played.count += outcome.count;
+            played.count += stepped.count;
         }
         let told = self.told(0..first, room);
         self.held(0, &lent, &told).map_err(|what| format!("single calls: {what}"))

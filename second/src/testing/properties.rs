@@ -1,19 +1,24 @@
 //! What must hold of every generated case, and what it met.
 
+use super::choices::Choices;
 use super::clears::Clears;
 use super::coverage::{self, Met, Row};
 use super::heard::{self, Heards};
 use super::levels::{self, Levels};
 use super::log::{Entry, hold, run};
 use super::skipping::Skipping;
-use super::traces::{self, evaluated, items_run, started};
-use super::{demand3, play, played, ports, reach};
+use super::traces::evaluated;
+use super::walk::{By, Walk};
+use super::{demand3, failing, play, played, ports, reach};
 use crate::cases::draft::{Depth, Draft, SEVEN};
 use crate::cases::states::fresh_state;
 use crate::cases::{Case, Known, Made};
 use crate::stream::STATE_FILL;
 use crate::words::*;
 use crate::{check, check_state, fresh, state};
+
+/// The answers there are; 7 is one that nobody can get.
+const ANSWERS: [u32; 8] = [0, 1, 2, 3, 4, 5, 6, 8];
 
 /// Tries everything on one case; gives what it met.
 pub fn try_case(made: &Made) -> Result<Met, String> {
@@ -37,15 +42,43 @@ pub fn try_case(made: &Made) -> Result<Met, String> {
         })?;
         met.insert(Row::Answer(entry.answer));
     }
+    failing::try_answers(case, checked, &log, &mut met)?;
     levels::meet_refused(&case.table, checked, &mut met)?;
     reach::try_reach(&case.table, checked, &mut met)?;
-    play::try_plays(case, checked.b, &log, &mut met)?;
+    let (good, calls_good) = with_good_calls(case, &log);
+    play::try_plays(&good, checked.b, &calls_good, &mut met)?;
     if checked.reason == 0 {
         try_accepted(made, checked.b, &log, &mut met)?;
+        failing::try_good(&read(&case.table), &good, &log, &calls_good, &mut met)?;
+        try_days(made, &good, checked.b, &calls_good, &mut met)?;
     } else {
         played::try_reason(case, checked, &mut met)?;
     }
     Ok(met)
+}
+
+/// The case without outcomes and its log, as plays have it: all calls are good.
+fn with_good_calls(case: &Case, log: &[Entry]) -> (Case, Vec<Entry>) {
+    let good = case.lending_none();
+    let lends = log.iter().any(|entry| !entry.outcomes.is_empty());
+    let calls_good = if lends { run(&good) } else { log.to_vec() };
+    (good, calls_good)
+}
+
+/// Plays from a fresh state, on a table that stands.
+fn try_days(
+    made: &Made,
+    good: &Case,
+    b: usize,
+    log: &[Entry],
+    met: &mut Met,
+) -> Result<(), String> {
+    if !made.known.fresh || good.room < b {
+        return Ok(());
+    }
+    let draft = read(&good.table);
+    play::try_struck_out(good, &draft, b, log, met)?;
+    played::try_day(good, &draft, log, met)
 }
 
 /// A case whose table stands.
@@ -60,8 +93,6 @@ fn try_accepted(made: &Made, b: usize, log: &[Entry], met: &mut Met) -> Result<(
     if known.fresh && case.room >= b {
         demand3::try_countdowns(&draft, log, met)?;
         demand3::try_struck_out(case, &draft, log, met)?;
-        play::try_struck_out(case, &draft, b, log, met)?;
-        played::try_day(case, &draft, log, met)?;
     }
     Ok(())
 }
@@ -138,10 +169,12 @@ fn try_log(
     let mentions = &ports::mentions(draft);
     let skipping = Skipping { draft, mentions };
     let levels = Levels::of(draft, mentions);
-    let mut clears = Clears::over(draft, mentions);
+    let mut clears = Clears::over(draft);
     let mut heards = Heards::over(draft);
     for (number, entry) in log.iter().enumerate() {
-        hold(entry.answer <= 6, || format!("event {number} answered {}", entry.answer))?;
+        hold(ANSWERS.contains(&entry.answer), || {
+            format!("event {number} answered {}", entry.answer)
+        })?;
         if entry.answer != 0 {
             let unchanged = entry.before == entry.after && entry.trace.is_empty();
             hold(unchanged, || format!("refused event {number} changed something"))?;
@@ -152,24 +185,28 @@ fn try_log(
         hold(check_state(&case.table, &entry.after) == 0, || {
             format!("event {number} left a state that does not fit: {:X?}", entry.after)
         })?;
-        let tried = traces::try_trace(draft, entry).and_then(|()| reach::try_started(draft, entry));
-        tried.map_err(|what| format!("event {number}: {what}"))?;
-        meet(draft, entry, b, met);
+        let choices = Choices::of(draft, mentions, entry);
+        let walk = Walk::over(draft, &choices, entry);
+        let walk = walk.map_err(|what| format!("event {number}: {what}"))?;
+        failing::meet(draft, entry, &walk, met);
+        meet(draft, entry, &walk, b, met);
         levels.meet(entry, met);
-        let tried = skipping.meet(entry, met).and_then(|()| clears.follow(entry, met));
-        let tried = tried.and_then(|()| heards.follow(entry, met));
+        let tried = reach::try_started(draft, entry)
+            .and_then(|()| skipping.meet(entry, met))
+            .and_then(|()| clears.follow(entry, &choices, met))
+            .and_then(|()| heards.follow(entry, met));
         tried.map_err(|what| format!("event {number}: {what}"))?;
     }
     Ok(())
 }
 
 /// What a taken event met, read off its words.
-fn meet(draft: &Draft, entry: &Entry, b: usize, met: &mut Met) {
+fn meet(draft: &Draft, entry: &Entry, walk: &Walk, b: usize, met: &mut Met) {
     met.insert(Row::EventTaken(entry.event.kind));
     if b == 4096 && entry.trace.len() == b {
         met.insert(Row::Special(coverage::TRACE_FULL));
     }
-    meet_lists(draft, entry, met);
+    meet_lists(walk, met);
     for word in entry.trace.iter().map(|&word| TraceWord::of(word)) {
         let owner = |network: u32| draft.networks[network as usize].0.owner;
         let special = match (word.kind, word.b) {
@@ -189,20 +226,17 @@ fn meet(draft: &Draft, entry: &Entry, b: usize, met: &mut Met) {
     meet_turns(draft, entry, met);
 }
 
-fn meet_lists(draft: &Draft, entry: &Entry, met: &mut Met) {
-    let (starts, run) = (started(entry), items_run(draft, entry));
-    met.extend(run.iter().map(|item| Row::ItemRun(item.kind)));
-    // Without rule items, what was not named was chosen.
-    if run.iter().any(|item| item.kind == item::RULE) {
-        return;
-    }
-    let named: Vec<usize> =
-        run.iter().filter(|i| i.kind == item::LIST).map(|i| i.a as usize).collect();
-    if starts.len() >= named.len() + 2 {
+fn meet_lists(walk: &Walk, met: &mut Met) {
+    met.extend(walk.items.iter().map(|ran| Row::ItemRun(ran.item.kind)));
+    let by = |wanted: By| {
+        let lists = walk.lists.iter().filter(move |ran| ran.by == wanted);
+        lists.map(|ran| ran.list).collect::<Vec<usize>>()
+    };
+    let (chosen, named) = (by(By::Choice), by(By::Name));
+    if chosen.len() >= 2 {
         met.insert(Row::Special(coverage::TWO_CHOSEN));
     }
-    let times = |lists: &[usize], list: usize| lists.iter().filter(|&&l| l == list).count();
-    if named.iter().any(|&list| times(&starts, list) > times(&named, list)) {
+    if named.iter().any(|list| chosen.contains(list)) {
         met.insert(Row::Special(coverage::CHOSEN_AND_NAMED));
     }
 }

@@ -7,7 +7,7 @@ use crate::cases::Case;
 use crate::check::{Check, accept};
 use crate::play::Played;
 use crate::state::state_length;
-use crate::step::Outcome;
+use crate::step::Stepped;
 use crate::{program, stream};
 
 thread_local! {
@@ -21,7 +21,11 @@ pub fn asked() -> Vec<Case> {
 
 fn note(table: &[u32], state: &[u32], room: usize, events: &[u32]) {
     let (table, state, events) = (table.to_vec(), state.to_vec(), events.to_vec());
-    ASKED.with_borrow_mut(|asked| asked.push(Case { table, state, room, events }));
+    note_case(Case { table, state, room, events, outcomes: vec![] });
+}
+
+fn note_case(case: Case) {
+    ASKED.with_borrow_mut(|asked| asked.push(case));
 }
 
 pub fn check(table: &[u32]) -> Check {
@@ -39,9 +43,21 @@ pub fn check_state(table: &[u32], state: &[u32]) -> u32 {
     crate::check_state(table, state)
 }
 
-pub fn step(table: &[u32], state: &mut [u32], trace: &mut [u32], event: u32) -> Outcome {
-    note(table, state, trace.len(), &[event]);
-    crate::step(table, state, trace, event)
+pub fn step(
+    table: &[u32],
+    state: &mut [u32],
+    trace: &mut [u32],
+    event: u32,
+    outcomes: &[u32],
+) -> Stepped {
+    note_case(Case {
+        table: table.to_vec(),
+        state: state.to_vec(),
+        room: trace.len(),
+        events: vec![event],
+        outcomes: vec![outcomes.to_vec()],
+    });
+    crate::step(table, state, trace, event, outcomes)
 }
 
 /// Noted like an event's call; its plays are asked for with every case's.
@@ -50,28 +66,37 @@ pub fn play(table: &[u32], state: &mut [u32], trace: &mut [u32], events: &[u32])
     crate::play(table, state, trace, events)
 }
 
-/// A program's run: from a fresh state, with B trace words lent.
-fn note_files(table: &[u8], events: &[u8]) {
-    let (words, sent) = (program::words(table), program::words(events));
+/// A program's run: from a fresh state, with B trace words lent and, by `outcomes`, to each event
+/// its outcomes.
+fn note_files(table: &[u8], events: &[u8], outcomes: Vec<Vec<u32>>) {
+    let (words, events) = (program::words(table), program::words(events));
     let (mut state, mut room) = (vec![], 0);
     if let Ok((shape, b)) = accept(&words) {
         (state, room) = (vec![0; state_length(&shape)], b);
         crate::fresh(&words, &mut state);
     }
-    note(&words, &state, room, &sent);
+    note_case(Case { table: words, state, room, events, outcomes });
 }
 
 pub fn printed(table: &[u8], events: &[u8]) -> String {
-    note_files(table, events);
+    note_files(table, events, vec![]);
     program::printed(table, events)
 }
 
+/// The outcomes' file is the bytes of one list of words for each event, each behind its length.
+pub fn printed_with(table: &[u8], events: &[u8], outcomes: &[&[u32]]) -> String {
+    note_files(table, events, outcomes.iter().map(|lent| lent.to_vec()).collect());
+    let counted = outcomes.iter().flat_map(|lent| [&[lent.len() as u32][..], lent].concat());
+    let file: Vec<u8> = counted.flat_map(u32::to_be_bytes).collect();
+    program::printed_with(table, events, &file)
+}
+
 pub fn played(table: &[u8], events: &[u8]) -> String {
-    note_files(table, events);
+    note_files(table, events, vec![]);
     program::played(table, events)
 }
 
 pub fn result_words(case: &Case) -> Vec<u32> {
-    note(&case.table, &case.state, case.room, &case.events);
+    note_case(case.clone());
     stream::result_words(case)
 }

@@ -3,7 +3,7 @@
 use super::marked::MARKED;
 use super::shape::{BASE, LEAST};
 use super::*;
-use crate::Outcome;
+use crate::Stepped;
 
 /// Port 0 as given; rule 0, true where it is 5 (a mode port) or set, starts
 /// conditional list 0, which calls 7.
@@ -24,7 +24,7 @@ fixed_cases! {
     /// Everything is wrong at first, and is mended from the first check on.
     fn answers_come_in_order() {
         let step = |table: &[u32], length: usize, room: usize, event: u32| {
-            step(table, &mut vec![0; length], &mut vec![0; room], event).answer
+            step(table, &mut vec![0; length], &mut vec![0; room], event, &[]).answer
         };
         assert_eq!(step(&MARKED[..11], 3, 0, 0xF200_00FF), 1);
         assert_eq!(step(&MARKED, 3, 0, 0xF200_00FF), 2);
@@ -36,14 +36,15 @@ fixed_cases! {
     }
 
     fn any_input_at_all_is_answered() {
-        assert_eq!(step(&[], &mut [], &mut [], TICK).answer, 1);
-        assert_eq!(step(&[0xFFFF_FFFF; 40], &mut [0xFFFF_FFFF; 3], &mut [], 0xFFFF_FFFF).answer, 1);
-        assert_eq!(step(&BASE, &mut [0xFFFF_FFFF; 9], &mut [0; 13], 0xFFFF_FFFF).answer, 2);
-        assert_eq!(step(&BASE, &mut [], &mut [0; 13], TICK).answer, 2);
+        assert_eq!(step(&[], &mut [], &mut [], TICK, &[]).answer, 1);
+        let most = 0xFFFF_FFFF;
+        assert_eq!(step(&[most; 40], &mut [most; 3], &mut [], most, &[most]).answer, 1);
+        assert_eq!(step(&BASE, &mut [0xFFFF_FFFF; 9], &mut [0; 13], 0xFFFF_FFFF, &[]).answer, 2);
+        assert_eq!(step(&BASE, &mut [], &mut [0; 13], TICK, &[]).answer, 2);
     }
 
     fn no_room_is_enough_where_b_is_0() {
-        assert_eq!(step(&LEAST, &mut [0, 0], &mut [], TICK), Outcome { answer: 0, count: 0 });
+        assert_eq!(step(&LEAST, &mut [0, 0], &mut [], TICK, &[]), Stepped { answer: 0, count: 0 });
     }
 
     fn tick_with_any_other_bit_is_4() {

@@ -87,21 +87,21 @@ fixed_cases! {
 
     fn marked_two_words_of_room_is_3() {
         let (mut state, mut trace) = ([0; 4], [0x5555_5555; 2]);
-        let outcome = step(&MARKED, &mut state, &mut trace, REQUEST);
-        assert_eq!((outcome.answer, outcome.count), (3, 0));
+        let stepped = step(&MARKED, &mut state, &mut trace, REQUEST, &[]);
+        assert_eq!((stepped.answer, stepped.count), (3, 0));
         assert_eq!((state, trace), ([0; 4], [0x5555_5555; 2]));
     }
 
     /// Room is asked for whatever the event would write.
     fn marked_two_words_of_room_is_3_for_a_tick_too() {
         let (mut state, mut trace) = ([0; 4], [0; 2]);
-        assert_eq!(step(&MARKED, &mut state, &mut trace, TICK).answer, 3);
+        assert_eq!(step(&MARKED, &mut state, &mut trace, TICK, &[]).answer, 3);
     }
 
     fn marked_more_room_leaves_later_words() {
         let (mut state, mut trace) = ([0; 4], [0x5555_5555; 5]);
-        let outcome = step(&MARKED, &mut state, &mut trace, REQUEST);
-        assert_eq!((outcome.answer, outcome.count), (0, 3));
+        let stepped = step(&MARKED, &mut state, &mut trace, REQUEST, &[]);
+        assert_eq!((stepped.answer, stepped.count), (0, 3));
         assert_eq!(trace[3..], [0x5555_5555; 2]);
     }
 }

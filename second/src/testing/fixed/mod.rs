@@ -1,6 +1,6 @@
 //! Fixed cases: each a few words long, its outcome worked out by hand from
-//! documents 01 and 02 and named after the sentence or reading it
-//! tells apart.
+//! documents 01 and 02 and named after the sentence or reading
+//! it tells apart.
 //!
 //! Expected words stand in hex, so that no layout is judged by itself:
 //! - port state: 80000000 defined, 40000000 marked, value times 00400000, remaining;
@@ -22,8 +22,11 @@ macro_rules! fixed_cases {
 mod arbitration;
 mod clears;
 mod demand3;
+mod editions;
+mod eights;
 mod events;
 mod expressions;
+mod failing;
 mod heard;
 mod levels;
 mod levels_checked;
@@ -68,6 +71,9 @@ pub fn all() -> Vec<(&'static str, fn())> {
         levels::CASES,
         lists::CASES,
         clears::CASES,
+        editions::CASES,
+        failing::CASES,
+        eights::CASES,
         play::CASES,
         program::CASES,
         played::CASES,
@@ -170,16 +176,16 @@ fn priority(priority: u32, list: u32) -> u32 {
 }
 
 fn call(code: u32) -> u32 {
-    Item { kind: item::OUTSIDE_CALL, a: 0, b: code }.word()
+    Item::call(code).word(edition::ONE)
 }
 
 /// An item of kinds 1, 2, 3, 5 and 6.
 fn item(kind: u32, a: u32) -> u32 {
-    Item { kind, a, b: 0 }.word()
+    Item::naming(kind, a).word(edition::ONE)
 }
 
 fn ask(network: u32, mode: u32) -> u32 {
-    Item { kind: item::NETWORK_REQUEST, a: network, b: mode }.word()
+    Item::asking(network, mode).word(edition::ONE)
 }
 
 fn request(owner: u32, index: u32, value: u32) -> u32 {
@@ -201,13 +207,14 @@ fn table(
 ) -> Vec<u32> {
     let networks = networks.iter().map(|&[first, waits]| (Network::of(first), Waits::of(waits)));
     let draft = Draft {
+        edition: edition::ONE,
         ports: ports.iter().copied().map(Port::of).collect(),
         networks: networks.collect(),
         sources: sources.iter().copied().map(Source::of).collect(),
         expressions: expressions.iter().copied().map(Expression::of).collect(),
         rules: rules.iter().copied().map(Rule::of).collect(),
         lists: lists.iter().copied().map(List::of).collect(),
-        items: items.iter().copied().map(Item::of).collect(),
+        items: items.iter().map(|&word| Item::of(edition::ONE, word)).collect(),
     };
     draft.words()
 }
@@ -264,23 +271,35 @@ impl Play {
     /// Sends an event that is done; gives the trace words that were written.
     #[track_caller]
     fn take(&mut self, event: u32) -> Vec<u32> {
+        self.take_with(event, &[])
+    }
+
+    /// The same with outcomes lent.
+    #[track_caller]
+    fn take_with(&mut self, event: u32, outcomes: &[u32]) -> Vec<u32> {
         let mut trace = vec![0x5555_5555; check(&self.table).b];
-        let outcome = step(&self.table, &mut self.state, &mut trace, event);
-        assert_eq!(outcome.answer, 0, "answer to {event:08X}");
-        assert!(trace[outcome.count..].iter().all(|&word| word == 0x5555_5555));
-        trace.truncate(outcome.count);
+        let stepped = step(&self.table, &mut self.state, &mut trace, event, outcomes);
+        assert_eq!(stepped.answer, 0, "answer to {event:08X}");
+        assert!(trace[stepped.count..].iter().all(|&word| word == 0x5555_5555));
+        trace.truncate(stepped.count);
         trace
     }
 
     /// Sends an event that is refused and changes nothing; gives the answer.
     #[track_caller]
     fn answer(&mut self, event: u32) -> u32 {
+        self.answer_with(event, &[])
+    }
+
+    /// The same with outcomes lent.
+    #[track_caller]
+    fn answer_with(&mut self, event: u32, outcomes: &[u32]) -> u32 {
         let mut trace = vec![0x5555_5555; check(&self.table).b];
         let before = (self.state.clone(), trace.clone());
-        let outcome = step(&self.table, &mut self.state, &mut trace, event);
-        assert_eq!(outcome.count, 0);
+        let stepped = step(&self.table, &mut self.state, &mut trace, event, outcomes);
+        assert_eq!(stepped.count, 0);
         assert_eq!((self.state.clone(), trace), before);
-        outcome.answer
+        stepped.answer
     }
 
     /// Ticks that write no trace.

@@ -2,6 +2,7 @@
 
 use std::time::{Duration, Instant};
 
+use super::editions::edition_2;
 use super::marked::MARKED;
 use super::*;
 use crate::play::Played;
@@ -100,6 +101,36 @@ fn writing_more_when_struck_out() -> Vec<u32> {
 }
 
 fixed_cases! {
+    /// "In play all calls are good."
+    fn play_of_edition_2_aborts_nothing() {
+        let mut table = edition_2(&two_lists());
+        let first_item = table.len() - 3;
+        table[first_item..].iter_mut().for_each(|item| *item |= 0x0800_0000);
+        let words: [&[u32]; 3] = [&FIVE_WORDS, &SIX_WORDS, &FIVE_WORDS];
+        let told = told(3, 0, &AFTER_FIVE, &words, 20);
+        assert_eq!(day(&table, &[0; 3], 20, &[FIVE, SIX, FIVE]), told);
+        // Where single calls fail, lists are aborted.
+        let mut single = Play::fresh(&table);
+        assert_eq!(single.take_with(FIVE, &[1]), FIVE_WORDS);
+        assert_eq!(single.take_with(SIX, &[1]), SIX_WORDS[..2]);
+        // "Trace full" is by B as ever.
+        let full = day(&table, &[0; 3], 6, &[FIVE, SIX]);
+        assert_eq!((full.taken, full.answer), (1, 3));
+    }
+
+    fn play_is_the_same_in_both_editions() {
+        let events = [FIVE, SIX, SEVEN, FIVE, SIX];
+        for room in 0..20 {
+            let one = day(&two_lists(), &[0; 3], room, &events);
+            assert_eq!(day(&edition_2(&two_lists()), &[0; 3], room, &events), one);
+        }
+    }
+
+    fn play_of_a_bad_edition_or_of_abort_in_a_wrong_place_is_1() {
+        stops_at_once(&with(&MARKED, 0, 0x0302_0100), &[0; 4], 9, &[FIVE], 1);
+        stops_at_once(&with(&edition_2(&MARKED), 10, 0x4800_0002), &[0; 4], 9, &[], 1);
+    }
+
     /// "table and state checked once, even with no events".
     fn play_checks_the_table_even_with_no_events() {
         stops_at_once(&with(&MARKED, 6, 0), &[0; 4], 3, &[], 1);

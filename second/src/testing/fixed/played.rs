@@ -1,5 +1,6 @@
 //! `play TABLE EVENTS`, by what it prints, and once more as it is started.
 
+use super::editions::edition_2;
 use super::marked::MARKED;
 use super::program::{bytes, file, start};
 use super::*;
@@ -123,6 +124,16 @@ fixed_cases! {
             assert_eq!(played_with(spare, &MARKED, &turns), done);
             assert_eq!(played_with(spare, &MARKED, &stopped), refused);
         }
+    }
+
+    fn played_edition_2_with_abort_prints_the_same_for_all_calls_are_good() {
+        let table = with(&edition_2(&MARKED), 11, 0x0800_1234);
+        assert_eq!(played(&bytes(&table), &bytes(&[0x1100_0500])), marked_request());
+        // The call before the request, which runs behind it all the same.
+        let table = with(&with(&edition_2(&MARKED), 10, 0x0800_1234), 11, 0x4000_0002);
+        let lines = played(&bytes(&table), &bytes(&[0x1100_0500]));
+        assert!(lines.starts_with("trace F1000000\ntrace 01001234\ntrace 41000002\n"));
+        assert_eq!(played(&bytes(&with(&table, 0, 0x0302_0100)), &[]), "2\n0\n");
     }
 
     /// More trace words than one call is lent: 20 times 4,096.

@@ -2,10 +2,11 @@
 
 use std::process::{Command, Output};
 
+use super::editions::edition_2;
 use super::marked::MARKED;
 use super::*;
 use crate::program::run;
-use crate::testing::recorded::printed;
+use crate::testing::recorded::{printed, printed_with};
 
 pub fn bytes(words: &[u32]) -> Vec<u8> {
     words.iter().flat_map(|word| word.to_be_bytes()).collect()
@@ -25,9 +26,25 @@ pub fn file(name: &str, bytes: &[u8]) -> String {
 
 /// Starts this very program, as `run TABLE EVENTS` for one.
 pub fn start(command: &str, table: &str, events: &str) -> Output {
-    let program = std::env::current_exe().expect("the program's own path");
-    Command::new(program).args([command, table, events]).output().expect("the program starts")
+    start_with(&[command, table, events])
 }
+
+fn start_with(arguments: &[&str]) -> Output {
+    let program = std::env::current_exe().expect("the program's own path");
+    Command::new(program).args(arguments).output().expect("the program starts")
+}
+
+/// The marked table in edition 2, its call before its request, and with abort.
+fn call_first() -> Vec<u32> {
+    with(&with(&edition_2(&MARKED), 10, 0x0800_1234), 11, 0x4000_0002)
+}
+
+/// What a request of 5 prints on it where the call fails, where it is good, and with an outcome
+/// above 1; and, between, a request of 6.
+const FAILED_LINES: &str = "0\n81400000\n00000000\n40000000\n00000000\nF1000000\n01001234\n";
+const GOOD_LINES: &str =
+    "0\n81400000\n00000000\n40000000\n80000000\nF1000000\n01001234\n41000002\n";
+const SIX_LINES: &str = "0\n81800000\n00000000\n00000000\n00000000\n";
 
 fixed_cases! {
     fn program_prints_the_marked_eight_lines() {
@@ -101,11 +118,53 @@ fixed_cases! {
         assert_eq!(lines.lines().count(), 1 + 17 + 4096);
     }
 
+    fn program_lends_each_event_its_outcomes() {
+        let events = bytes(&[0x1100_0500, 0x1100_0600, 0x1100_0500]);
+        let table = bytes(&call_first());
+        let lines = |outcomes: &[&[u32]]| printed_with(&table, &events, outcomes);
+        let all = format!("{FAILED_LINES}{SIX_LINES}{GOOD_LINES}");
+        assert_eq!(lines(&[&[1], &[], &[0]]), all);
+        assert_eq!(lines(&[&[1, 0], &[1, 1, 1], &[]]), all);
+        // A file that ends early lends no more.
+        assert_eq!(lines(&[&[1]]), all);
+        let good = lines(&[]);
+        assert_eq!(good, printed(&table, &events));
+        assert!(good.starts_with(GOOD_LINES) && good.ends_with(GOOD_LINES));
+    }
+
+    fn program_prints_8_and_the_unchanged_state_and_goes_on() {
+        let (table, events) = (bytes(&call_first()), bytes(&[0x1100_0500, 0x1100_0500, 0]));
+        let lines = printed_with(&table, &events, &[&[0, 2], &[1], &[2]]);
+        let last = FAILED_LINES.replacen('0', "8", 1);
+        let state = last.split_inclusive('\n').take(5).collect::<String>();
+        assert_eq!(lines, format!("8\n{FRESH_LINES}{FAILED_LINES}{state}"));
+        let one = printed_with(&bytes(&MARKED), &events[..4], &[&[2]]);
+        assert_eq!(one, format!("8\n{FRESH_LINES}"));
+    }
+
+    fn program_started_with_a_file_of_outcomes() {
+        let (table, events) =
+            (file("failing", &bytes(&call_first())), file("sent", &bytes(&[0x1100_0500; 2])));
+        // A number and so many words for each event; bytes past the last whole word.
+        let lent = [bytes(&[2, 1, 0, 1, 0]), vec![0, 0, 1]].concat();
+        let outcomes = file("outcomes", &lent);
+        let output = start_with(&["run", &table, &events, &outcomes]);
+        let missing = start_with(&["run", &table, &events, &format!("{outcomes}-missing")]);
+        for path in [table, events, outcomes] {
+            std::fs::remove_file(path).expect("the file goes");
+        }
+        // The list is triggered: it runs once.
+        let again = "0\n81400000\n00000000\n40000000\n00000000\n";
+        assert_eq!(String::from_utf8_lossy(&output.stdout), format!("{FAILED_LINES}{again}"));
+        assert!(output.status.success() && output.stderr.is_empty());
+        assert!(missing.stdout.is_empty() && missing.status.code() == Some(2));
+    }
+
     fn program_says_on_standard_error_what_it_cannot_read() {
         let table = file("readable", &bytes(&MARKED[..11]));
         let missing = format!("{table}-missing");
         for (table, events) in [(&table, &missing), (&missing, &table)] {
-            assert!(run(table, events).unwrap_err().contains(&missing));
+            assert!(run(table, events, None).unwrap_err().contains(&missing));
             let output = start("run", table, events);
             assert!(output.stdout.is_empty() && !output.status.success());
             assert!(String::from_utf8_lossy(&output.stderr).contains(&missing));

@@ -62,9 +62,10 @@ fixed_cases! {
         refused(&[0x0101_0000, 0x0001_0001], 1, 0);
     }
 
-    fn reason_2_edition_is_not_1() {
+    fn reason_2_edition_is_not_1_or_2() {
         refused(&with(&BASE, 0, 0x0005_0101), 2, 0);
-        refused(&with(&BASE, 0, 0x0205_0101), 2, 0);
+        refused(&with(&BASE, 0, 0x0305_0101), 2, 0);
+        refused(&with(&BASE, 0, 0xFF05_0101), 2, 0);
         // Before the limits and the length.
         refused(&[0xFFFF_FFFF, 0xFFFF_FFFF, 0xFFFF_FFFF], 2, 0);
     }

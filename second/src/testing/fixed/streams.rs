@@ -1,5 +1,6 @@
 //! The streams that other programs are compared by.
 
+use super::editions::edition_2;
 use super::marked::MARKED;
 use super::*;
 use crate::cases::Case;
@@ -9,13 +10,19 @@ use crate::testing::recorded::result_words;
 const AFTER: [u32; 4] = [0x8140_0000, 0, 0x4000_0000, 0x8000_0000];
 
 fn marked_case(room: usize) -> Case {
-    Case { table: MARKED.to_vec(), state: vec![0; 4], room, events: vec![0x1100_0500] }
+    let (table, state, events) = (MARKED.to_vec(), vec![0; 4], vec![0x1100_0500]);
+    Case { table, state, room, events, outcomes: vec![] }
 }
 
 fixed_cases! {
     fn stream_of_a_case() {
-        let expected = [&[12][..], &MARKED, &[4, 0, 0, 0, 0, 3, 1, 0x1100_0500]].concat();
-        assert_eq!(case_words(&marked_case(3)), expected);
+        let one = [4, 0, 0, 0, 0, 3, 1, 0x1100_0500, 0];
+        assert_eq!(case_words(&marked_case(3)), [&[12][..], &MARKED, &one].concat());
+        // Behind each event the number of its outcomes, and then these.
+        let two = [4, 0, 0, 0, 0, 3, 2, 0x1100_0500, 3, 1, 0, 2, 0, 0];
+        let (events, outcomes) = (vec![0x1100_0500, TICK], vec![vec![1, 0, 2], vec![]]);
+        let case = Case { events, outcomes, ..marked_case(3) };
+        assert_eq!(case_words(&case), [&[12][..], &MARKED, &two].concat());
     }
 
     fn stream_of_its_results() {
@@ -28,6 +35,29 @@ fixed_cases! {
         let full = [&[2, 0, 0, 3][..], &[0; 4], &[0x5555_5555; 2]].concat();
         let expected = [single, vec![3], own, least, full].concat();
         assert_eq!(result_words(&marked_case(4)), expected);
+    }
+
+    /// The call stands before the request, with abort: single, it fails; played, it is good.
+    fn stream_of_results_with_outcomes() {
+        let table = with(&with(&edition_2(&MARKED), 10, 0x0800_1234), 11, 0x4000_0002);
+        let case = |lent: &[u32]| Case {
+            table: table.clone(),
+            outcomes: vec![lent.to_vec()],
+            ..marked_case(3)
+        };
+        let good = [0xF100_0000, 0x0100_1234, 0x4100_0002];
+        let failed = [0x8140_0000, 0, 0x4000_0000, 0, 0xF100_0000, 0x0100_1234, 0x5555_5555];
+        let before = [0, 0, 3, 0, 0, 0, 0, 0, 0];
+        let own = [&[3, 1, 3, 0][..], &AFTER, &good].concat();
+        let full = [&[2, 0, 0, 3][..], &[0; 4], &[0x5555_5555; 2]].concat();
+        let plays = [&[2][..], &own, &full].concat();
+        let expected = [&before[..], &[0, 2], &failed, &plays].concat();
+        assert_eq!(result_words(&case(&[1])), expected);
+        let expected = [&before[..], &[0, 3], &AFTER, &good, &plays].concat();
+        assert_eq!(result_words(&case(&[0, 1])), expected);
+        let unwritten = [0, 0, 0, 0, 0x5555_5555, 0x5555_5555, 0x5555_5555];
+        let expected = [&before[..], &[8, 0], &unwritten, &plays].concat();
+        assert_eq!(result_words(&case(&[0, 2])), expected);
     }
 
     fn stream_of_refusals() {
@@ -80,19 +110,26 @@ fixed_cases! {
         let table =
             plain(&[mode(0)], &[equal(0, 5)], &rules, &[list(0, 0, 255); 16], &[call(0); 255]);
         let events = vec![0x1000_0500; 12];
-        let case = Case { table, state: vec![0; 17], room: 30_000, events };
+        let case = Case { table, state: vec![0; 17], room: 30_000, events, outcomes: vec![] };
         // The fourth event is the last that could be lent its 16,384 words; the third is half way.
         assert_eq!(play_rooms(&case), [20_000, 16_384, 16_383, 12_287]);
     }
 
     fn stream_is_read_as_it_was_written() {
+        let events = vec![0x1100_0500, TICK, TICK];
+        let outcomes = vec![vec![], vec![0, 1, 0xFFFF_FFFF], vec![1]];
+        let lending = |room: usize| Case {
+            events: events.clone(),
+            outcomes: outcomes.clone(),
+            ..marked_case(room)
+        };
         let mut bytes = vec![];
         for room in [3, 2] {
-            write_words(&mut bytes, &case_words(&marked_case(room))).expect("memory takes it");
+            write_words(&mut bytes, &case_words(&lending(room))).expect("memory takes it");
         }
         let mut input = &bytes[..];
         for room in [3, 2] {
-            assert_eq!(read_case(&mut input).expect("a whole case"), Some(marked_case(room)));
+            assert_eq!(read_case(&mut input).expect("a whole case"), Some(lending(room)));
         }
         assert_eq!(read_case(&mut input).expect("the end"), None);
         assert!(read_case(&mut &bytes[..20]).is_err());

@@ -130,7 +130,7 @@ fixed_cases! {
 
     fn reasons_2_to_4_come_before_10() {
         let table = left_over();
-        refused(&with(&table, 0, 0x0201_0000), 2, 0);
+        refused(&with(&table, 0, 0x0301_0000), 2, 0);
         refused(&with(&table, 1, 0x0001_0101), 3, 0);
         refused(&table[..9], 4, 0);
     }
@@ -141,8 +141,8 @@ fixed_cases! {
             // A state that would fit, one that would not, one too short.
             for state in [&[0, 0][..], &[0xFFFF_FFFF; 2], &[0]] {
                 let (mut after, mut trace) = (state.to_vec(), [0x5555_5555; 4]);
-                let outcome = step(&left_over(), &mut after, &mut trace, event);
-                assert_eq!((outcome.answer, outcome.count), (1, 0));
+                let stepped = step(&left_over(), &mut after, &mut trace, event, &[]);
+                assert_eq!((stepped.answer, stepped.count), (1, 0));
                 assert_eq!((&after[..], trace), (state, [0x5555_5555; 4]));
                 assert_eq!(Play::of(&left_over(), state).answer(event), 1);
             }
