@@ -10,7 +10,8 @@ MODES = ["none", "silent", "full"]
 NETWORK_STATES = ["none", "silent", "check", "full", "recover"]
 STATUSES = ["none", "pending", "validated", "expired"]
 RESULTS = ["false", "true", "undefined"]
-ANSWERS = {0: "done", 4: "malformed", 5: "no such thing, or not to be asked so", 6: "not the owner's"}
+ANSWERS = {0: "done", 4: "malformed", 5: "no such thing, or not to be asked so", 6: "not the owner's",
+           8: "an outcome above 1"}
 
 
 signal.signal(signal.SIGPIPE, signal.SIG_DFL)  # the scripts end quietly in a closed pipe
@@ -110,7 +111,7 @@ def trace_says(word, title):
 
 
 def titles(path):
-    """From truck.txt or spring.txt: a thing's section and number to its number and name; and what each event says."""
-    table, events = path.read_text().split("\n\n")
+    """From truck.txt and its like: a thing's section and number to its number and name; and what each event says."""
+    table, events, *_ = path.read_text().split("\n\n")
     found = re.findall(r"^ *\d+ [0-9A-F]{8}  ((port|network|source|rule|list) (\d+) [^,:]+)", table, re.M)
     return {(section, int(number)): title for title, section, number in found}, events.splitlines()[1:]

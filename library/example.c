@@ -1,5 +1,5 @@
-/* Runs document 01's marked table through the library, prints what each call gives and holds it against the document.
- * Leaves with status 1 at the first difference. */
+/* Runs document 01's marked table through the library, and the same in edition 2 with a call that fails; prints what each
+ * call gives and holds it against the documents. Leaves with status 1 at the first difference. */
 #include "herringcart.h"
 
 #include <inttypes.h>
@@ -23,7 +23,7 @@ static uint32_t state[STATE_WORDS];
 static void expect(const char *what, uint64_t given, uint64_t expected)
 {
     if (given != expected) {
-        printf("DIFFERS: %s is %" PRIX64 ", document 01 has %" PRIX64 "\n", what, given, expected);
+        printf("DIFFERS: %s is %" PRIX64 ", the documents have %" PRIX64 "\n", what, given, expected);
         exit(1);
     }
 }
@@ -53,7 +53,8 @@ static void take(const struct expected *e)
 {
     uint32_t trace[BOUND] = {UNTOUCHED, UNTOUCHED, UNTOUCHED};
     size_t count = 99;
-    uint32_t answer = herringcart_take_event(table, TABLE_WORDS, state, STATE_WORDS, trace, e->room, e->event, &count);
+    /* no outcomes: the length is 0, and the address any but null */
+    uint32_t answer = herringcart_take_event(table, TABLE_WORDS, state, STATE_WORDS, trace, e->room, table, 0, e->event, &count);
     printf("%s, event %08" PRIX32 ": answer %" PRIu32 ", count %zu\n", e->what, e->event, answer, count);
     expect("answer", answer, e->answer);
     expect("count", count, e->count);
@@ -112,7 +113,7 @@ static void events(void)
         uint32_t trace[BOUND] = {0}, word = herringcart_event(large[i][0], large[i][1], large[i][2], large[i][3]);
         size_t count = 99;
         expect("a field too large", word, 0xFFFFFFFF);
-        expect("its answer", herringcart_take_event(table, TABLE_WORDS, state, STATE_WORDS, trace, BOUND, word, &count),
+        expect("its answer", herringcart_take_event(table, TABLE_WORDS, state, STATE_WORDS, trace, BOUND, table, 0, word, &count),
                HERRINGCART_MALFORMED_EVENT);
     }
 }
@@ -150,6 +151,60 @@ static void play(void)
     }
 }
 
+/* What is lent with the marked request, the answer, and how many of its four trace words are written. */
+struct lent {
+    const char *what;
+    uint32_t outcomes[3];
+    size_t words;
+    uint32_t answer;
+    size_t count;
+};
+
+/* The marked table in edition 2 with one more call; the first of the two has abort. */
+static void outcomes(void)
+{
+    enum { WORDS = TABLE_WORDS + 1, ROOM = BOUND + 1 };
+    static const uint32_t failing[WORDS] = {
+        0x02020100, 0x00010001, 0x00010003, 0x01000000, 0x21000000, 0x10102000, 0x030A0005,
+        0x00005000, 0x100000FF, 0x18380003, 0x40000002, 0x08001234, 0x00001235,
+    };
+    static const uint32_t words[ROOM] = {0xF1000000, 0x41000002, 0x01001234, 0x01001235};
+    static const uint32_t done[STATE_WORDS] = {0x81400000, 0, 0x40000000, 0x80000000}, fresh[STATE_WORDS];
+    static const struct lent all[] = {
+        {"none lent", {0}, 0, HERRINGCART_DONE, 4},
+        {"both good", {HERRINGCART_GOOD, HERRINGCART_GOOD}, 2, HERRINGCART_DONE, 4},
+        {"the one with abort failed", {HERRINGCART_FAILED}, 1, HERRINGCART_DONE, 3},
+        {"the one without abort failed", {HERRINGCART_GOOD, HERRINGCART_FAILED}, 2, HERRINGCART_DONE, 4},
+        {"a word above 1", {2}, 1, HERRINGCART_BAD_OUTCOME, 0},
+        {"a word above 1 that no call reads", {HERRINGCART_FAILED, HERRINGCART_FAILED, 2}, 3, HERRINGCART_BAD_OUTCOME, 0},
+    };
+    for (size_t i = 0; i < sizeof all / sizeof *all; i++) {
+        const struct lent *e = &all[i];
+        uint32_t trace[ROOM] = {UNTOUCHED, UNTOUCHED, UNTOUCHED, UNTOUCHED};
+        size_t count = 99;
+        expect("fresh", herringcart_make_fresh(failing, WORDS, state, STATE_WORDS), 0);
+        uint32_t answer = herringcart_take_event(failing, WORDS, state, STATE_WORDS, trace, ROOM, e->outcomes, e->words, 0x11000500, &count);
+        printf("outcomes, %s: answer %" PRIu32 ", count %zu\n", e->what, answer, count);
+        expect("answer", answer, e->answer);
+        expect("count", count, e->count);
+        expect_words("state", state, e->answer ? fresh : done, STATE_WORDS);
+        expect_words("trace", trace, words, e->count);
+        for (size_t w = e->count; w < ROOM; w++)
+            expect("a trace word past the count", trace[w], UNTOUCHED);
+    }
+}
+
+/* Another archive than this header's may take other arguments: nothing is called with it. */
+static void version(void)
+{
+    printf("version: header %d.%d, archive %" PRIu32 ".%" PRIu32 "\n", HERRINGCART_VERSION_MAJOR, HERRINGCART_VERSION_MINOR,
+           herringcart_version() >> 16, herringcart_version() & 0xFFFF);
+    if (herringcart_version() != HERRINGCART_VERSION_NUMBER) {
+        printf("the archive is not of this header's version\n");
+        exit(1);
+    }
+}
+
 int main(void)
 {
     static const struct expected refused[] = {
@@ -171,6 +226,7 @@ int main(void)
         {"tick 7", 0, BOUND, 0, {0x81400000, 0x80800000, 0x40000000, 0x90080001}, 0, {0}},
         {"tick 8, settled", 0, BOUND, 0, {0x81400000, 0x80800000, 0x40000000, 0x98000000}, 0, {0}},
     };
+    version();
     check();
     fresh();
     events();
@@ -179,6 +235,7 @@ int main(void)
     for (size_t i = 0; i < sizeof run / sizeof *run; i++)
         take(&run[i]);
     play();
-    printf("as document 01 has it\n");
+    outcomes();
+    printf("as the documents have it\n");
     return 0;
 }

@@ -1,20 +1,43 @@
 /* Herringcart: the proved mode manager's calls for C and C++.
  *
- * Tables, states and traces are lent as arrays of 32-bit words, each by a pointer and its length in words.
+ * Tables, states, traces and outcomes are lent as arrays of 32-bit words, each by a pointer and its length in words.
  * docs/TABLES.md has the layout of every word, and what to do about each reason and answer. Every call takes any
  * words: it checks them for itself, and a refusal leaves every word of state and trace as it was.
+ *
+ * What version 4.0 changes for a caller:
+ *
+ *   - herringcart_take_event lends outcomes, behind the trace: how each outside call of this event ends. A caller that has
+ *     none gives a length of 0, and any address that is not null:
+ *
+ *         3.2  herringcart_take_event(table, words, state, n, trace, room, event, &count)
+ *         4.0  herringcart_take_event(table, words, state, n, trace, room, outcomes, calls, event, &count)
+ *         4.0  herringcart_take_event(table, words, state, n, trace, room, table, 0, event, &count)      with none
+ *
+ *     With none, a table of edition 1 gives what it gave in 3.2, answer, state and trace.
+ *   - Answer 8, HERRINGCART_BAD_OUTCOME: an outcome word above 1.
+ *   - A table may be of edition 2, where an outside call may have abort: if it fails, the list that holds it stops there.
+ *     Tables of edition 1 are as they were. Reason 2 is now an edition other than 1 or 2.
+ *   - herringcart_version is new. All other calls are as they were; in herringcart_play every call is good.
+ *
+ * The linker does not look at arguments. A program that was compiled with the header of another version may link with this
+ * archive, and its event calls then hand over the wrong words: compile it anew. So that this is found, a program compares
+ * the two versions at its start, the header's and the archive's:
+ *
+ *         if (herringcart_version() != HERRINGCART_VERSION_NUMBER) ...do not go on...
+ *
+ * Archives before 4.0 have no such call, and with them a program that makes it does not link.
  *
  * What is proved is the calls' results and every lent word afterwards, under these conditions on the pointers, which
  * no call can check for itself:
  *
  *   - No pointer is null, for a length of 0 neither: any aligned address other than null will do there.
  *   - uint32_t pointers are aligned for uint32_t, size_t pointers for size_t.
- *   - Each array is valid for its whole length for as long as the call runs: table, events and a `const` state to read,
- *     state and trace to read and write. All words of state and trace must have been written once before they are lent,
+ *   - Each array is valid for its whole length for as long as the call runs: table, events, outcomes and a `const` state to
+ *     read, state and trace to read and write. All words of state and trace must have been written once before they are lent,
  *     with whatever values: the trace's too, for the call may read it.
  *   - An array is at most PTRDIFF_MAX bytes long.
  *   - What a call writes (state, trace, *place, *bound, *count, *taken) overlaps nothing else lent in the same call.
- *     Table, events and a `const` state may overlap.
+ *     Table, events, outcomes and a `const` state may overlap.
  *   - While the call runs, no other thread, interrupt or device writes what is lent, and none reads what the call
  *     writes. The table may stand in read-only memory, and any number of calls may read it at the same time.
  *
@@ -23,11 +46,11 @@
  *
  * That each call ends and what it gives is proved of the Rattle functions. The compiler and its back end are trusted.
  * A call takes at most HERRINGCART_STACK_BYTES of stack. That is measured, not proved: stack.c, run by the gate, makes
- * the calls go as deep as a table can. The deepest took 11 KiB, for lists and expressions nest at most seven deep and
+ * the calls go as deep as a table can. The deepest took 9.1 KiB, for lists and expressions nest at most seven deep and
  * the local arrays have 1 KiB each.
  *
- * What a call costs: all but herringcart_state_words check the whole table each time, for nothing is kept. Measured
- * on an Arm Neoverse N1 an event takes some 30 ns for each word of the table (docs/BENCHMARKS.md): 0.4 us with 12 words,
+ * What a call costs: all but herringcart_state_words and herringcart_version check the whole table each time, for nothing is
+ * kept. Measured on an Arm Neoverse N1 an event takes some 30 ns for each word of the table (docs/BENCHMARKS.md): 0.4 us with 12 words,
  * 86 us with 2,892. Tables made to be slow to check take up to 1.4 ms a call. The slowest that are known run 4,080 rule items
  * in one event: 3.5 ms, and 5.2 ms while a port is undefined. herringcart_play checks table and state once for all its events, and then
  * an event costs what it does alone. Whoever has a deadline measures with the table that is to be deployed.
@@ -42,10 +65,12 @@
 #include <stddef.h>
 #include <stdint.h>
 
-/* The version of this header and of the archive beside it. docs/CHANGES.md says what each version changes. */
-#define HERRINGCART_VERSION "3.2"
-#define HERRINGCART_VERSION_MAJOR 3
-#define HERRINGCART_VERSION_MINOR 2
+/* The version of this header and of the archive beside it. docs/CHANGES.md says what each version changes. The number is
+ * what herringcart_version of that archive gives. */
+#define HERRINGCART_VERSION "4.0"
+#define HERRINGCART_VERSION_MAJOR 4
+#define HERRINGCART_VERSION_MINOR 0
+#define HERRINGCART_VERSION_NUMBER (UINT32_C(65536) * HERRINGCART_VERSION_MAJOR + HERRINGCART_VERSION_MINOR)
 
 #ifdef __cplusplus
 extern "C" {
@@ -63,7 +88,7 @@ extern "C" {
 enum herringcart_reason {
     HERRINGCART_ACCEPTED = 0,
     HERRINGCART_TOO_SHORT = 1,     /* fewer than 3 words */
-    HERRINGCART_WRONG_EDITION = 2, /* edition is not 1 */
+    HERRINGCART_WRONG_EDITION = 2, /* edition is neither 1 nor 2 */
     HERRINGCART_WRONG_COUNTS = 3,  /* a count is outside its limits */
     HERRINGCART_WRONG_LENGTH = 4,  /* length differs from what the header asks for */
     HERRINGCART_MISFIT = 5,        /* a word breaks its own field rules */
@@ -74,7 +99,8 @@ enum herringcart_reason {
     HERRINGCART_TOO_DEAR = 9       /* all lists' cost is above 4,096 */
 };
 
-/* What the other calls answer. Answer 7 of document 01 is never given: that the table check excludes it is proved. */
+/* What the other calls answer, in the order in which the answers are tried: 8 stands between 4 and 5. Answer 7 of document
+ * 01 is never given: that the table check excludes it is proved. */
 enum herringcart_answer {
     HERRINGCART_DONE = 0,
     HERRINGCART_BAD_TABLE = 1,          /* the table has a reason */
@@ -83,6 +109,7 @@ enum herringcart_answer {
     HERRINGCART_SHORT_TRACE = 3,        /* trace_words is less than B */
     HERRINGCART_TRACE_FULL = 3,         /* the same number, of herringcart_play: fewer than B trace words are free */
     HERRINGCART_MALFORMED_EVENT = 4,    /* a field that must be 0 is not, or the kind is above 7 */
+    HERRINGCART_BAD_OUTCOME = 8,        /* an outcome word is above 1, whether a call would read it or not */
     HERRINGCART_NO_SUCH_THING = 5,      /* no such port, source or network, or not one for this kind */
     HERRINGCART_OTHER_OWNER = 6         /* the thing is not the owner's */
 };
@@ -97,6 +124,12 @@ enum herringcart_kind {
     HERRINGCART_BUS_OFF = 5,       /* of a network */
     HERRINGCART_WAKEUP_CLEAR = 6,  /* of a source */
     HERRINGCART_HEARD = 7          /* of a network: traffic was sent or received */
+};
+
+/* How an outside call ends, as an outcome word says it. */
+enum herringcart_outcome {
+    HERRINGCART_GOOD = 0,
+    HERRINGCART_FAILED = 1
 };
 
 /* The modes that a network is asked for, and what its port shows: these three, or that it recovers. */
@@ -119,6 +152,9 @@ static inline uint32_t herringcart_event(uint32_t kind, uint32_t owner, uint32_t
     return kind << 28 | owner << 24 | index << 16 | value << 8;
 }
 
+/* Gives the archive's version, major * 65536 + minor: HERRINGCART_VERSION_NUMBER of the header that belongs to it. */
+uint32_t herringcart_version(void);
+
 /* Checks a table. Gives HERRINGCART_ACCEPTED, or the first of the reasons that holds, in their order.
  *
  * Always writes *place, the number from 0 of the lowest word that breaks the rule, 0 for reasons 0 to 4 and 9;
@@ -136,18 +172,26 @@ uint32_t herringcart_make_fresh(const uint32_t *table, size_t table_words, uint3
 /* Checks a state. Gives 0 if it fits the table, 1 if the table has a reason, 2 if it does not fit. */
 uint32_t herringcart_check_state(const uint32_t *table, size_t table_words, const uint32_t *state, size_t state_words);
 
-/* Takes one event. Gives the first answer from 1 to 6 that holds, in their order, or else 0: the event is done, the
+/* Takes one event. Gives the first answer from 1 to 8 that holds, in their order, or else 0: the event is done, the
  * state is the next one, and the first *count words of the trace are what was done; the later ones are unchanged.
- * Always writes *count, 0 for a refused event. */
+ * Always writes *count, 0 for a refused event.
+ *
+ * outcomes says how the outside calls of this event end, each word HERRINGCART_GOOD or HERRINGCART_FAILED. In a table of
+ * edition 2 every outside call that runs, with abort or without, takes the next word, in the order in which the calls run
+ * over all lists of the event; past the last word every call is good. A failed call with abort stops the list that holds it:
+ * its own trace word is the last of that list, what the list did before it stands, and an outer list goes on behind the item
+ * that ran it. A table of edition 1 takes none. An event runs fewer than B outside calls, so more than B words are of no
+ * use; but a word above 1 anywhere among them is HERRINGCART_BAD_OUTCOME, of a tick and in edition 1 too. */
 uint32_t herringcart_take_event(const uint32_t *table, size_t table_words, uint32_t *state, size_t state_words,
-                                uint32_t *trace, size_t trace_words, uint32_t event, size_t *count);
+                                uint32_t *trace, size_t trace_words, const uint32_t *outcomes, size_t outcome_words,
+                                uint32_t event, size_t *count);
 
 /* Plays recorded events one after the other, as herringcart_take_event would take them one by one, each with what the ones before it
- * left of the trace; table and state are checked once. Gives what ended it: 0 if every event was taken; 1 or 2 if table or state is not in
- * order, also where there are no events; or, before an event, HERRINGCART_TRACE_FULL if fewer than B trace words are free, else 4, 5 or 6
- * if that event is refused. Always writes *taken, how many events were taken: the event that ended it is events[*taken]; and *count,
- * how many words they wrote together. These stand at the front of the trace, and the later ones are unchanged; the state is the one
- * after the last event taken.
+ * left of the trace and with no outcomes, so that every outside call is good; table and state are checked once. Gives what ended it: 0
+ * if every event was taken; 1 or 2 if table or state is not in order, also where there are no events; or, before an event,
+ * HERRINGCART_TRACE_FULL if fewer than B trace words are free, else 4, 5 or 6 if that event is refused. Always writes *taken, how many
+ * events were taken: the event that ended it is events[*taken]; and *count, how many words they wrote together. These stand at the
+ * front of the trace, and the later ones are unchanged; the state is the one after the last event taken.
  *
  * A play that ends with HERRINGCART_TRACE_FULL is resumed from that event: call again with events + *taken, the state as it stands and the
  * trace to be written anew. With at least B words lent, each call takes an event or ends otherwise. */

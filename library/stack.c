@@ -1,6 +1,8 @@
-/* Measures how much stack the calls take, on a table that makes them go as deep as a table can: lists nested seven deep
- * by rule items, each rule's expression nested seven deep. Each call runs on a stack that was filled with one byte
- * before; the lowest byte that changed tells. Leaves with status 1 if a call takes more than the header says. */
+/* Measures how much stack the calls take, on tables of both editions that make them go as deep as a table can: lists nested
+ * seven deep by rule items, each rule's expression nested seven deep, and in the deepest list an outside call, which fails;
+ * and beside them as many rules and lists as there can be, all started, so that what a call notes of each is written to its
+ * end. Each call runs on a stack that was filled with one byte just before; the lowest byte that it changed tells. Leaves
+ * with status 1 if a call takes more than the header says. */
 #define _XOPEN_SOURCE 700
 #include "herringcart.h"
 
@@ -11,9 +13,12 @@
 
 #define STACK (256 * 1024)
 #define FILL 0xC5
+#define NEAR 512 /* bytes below a frame that memset itself may need */
 #define LEVELS 7
-#define RULES (LEVELS + 1)
-#define TABLE_WORDS (3 + 1 + LEVELS + RULES + LEVELS + LEVELS)
+#define RULES 256
+#define LISTS 255
+#define ITEMS (LEVELS + 2)
+#define TABLE_WORDS (3 + 1 + LEVELS + RULES + LISTS + ITEMS)
 #define STATE_WORDS (1 + RULES)
 
 static uint32_t table[TABLE_WORDS];
@@ -22,107 +27,131 @@ static uint32_t trace[HERRINGCART_TRACE_WORDS];
 static size_t place, count;
 static uint32_t bound;
 
-static void make_table(void)
+static void make_table(uint32_t edition)
 {
     uint32_t *word = table;
-    *word++ = 0x01010000;                       /* one port */
+    *word++ = edition << 24 | 0x00010000;       /* one port */
     *word++ = LEVELS << 16 | RULES;             /* expressions, rules */
-    *word++ = LEVELS << 16 | LEVELS;            /* lists, items */
+    *word++ = LISTS << 16 | ITEMS;              /* lists, items */
     *word++ = 0x10000000;                       /* a mode port with an initial value */
     *word++ = 0x00005000;                       /* it equals 5 */
     for (uint32_t e = 1; e < LEVELS; e++)       /* XOR of the one before with itself: every visit is made */
         *word++ = 0x60000000 | (e - 1) << 14 | (e - 1);
     *word++ = 0x00000000;                       /* starts list 0 by either result */
-    for (uint32_t r = 1; r < RULES; r++) {      /* nested-only, on the deepest expression, starts list r */
+    for (uint32_t r = 1; r <= LEVELS; r++) {    /* nested-only, on the deepest expression, starts list r */
         uint32_t list = r < LEVELS ? r : 255;
         *word++ = 0x02000000 | (LEVELS - 1) << 16 | list << 8 | list;
     }
-    for (uint32_t l = 0; l < LEVELS; l++)       /* one item each */
-        *word++ = l << 8 | 1;
+    for (uint32_t r = LEVELS + 1; r < RULES; r++) /* starts a list beside, by either result */
+        *word++ = (r - 1) << 8 | (r - 1);
+    for (uint32_t l = 0; l < LEVELS; l++)       /* one item each, and all that are left in the last */
+        *word++ = l << 8 | (l + 1 < LEVELS ? 1 : ITEMS - l);
+    for (uint32_t l = LEVELS; l < LISTS; l++)   /* the last item alone */
+        *word++ = (ITEMS - 1) << 8 | 1;
     for (uint32_t i = 0; i < LEVELS; i++)       /* the next rule */
         *word++ = 0x60000000 | (i + 1) << 16;
+    *word++ = edition == 2 ? 0x08001234 : 0x00001234; /* a call, in edition 2 with abort, and one behind it */
+    *word++ = 0x00001235;
 }
 
-static void *nothing(void *given)
+static uint32_t check_table(void)
 {
-    return given;
+    return herringcart_check_table(table, TABLE_WORDS, &place, &bound);
 }
 
-static void *check_table(void *given)
+static uint32_t make_fresh(void)
 {
-    *(uint32_t *)given = herringcart_check_table(table, TABLE_WORDS, &place, &bound);
-    return given;
+    return herringcart_make_fresh(table, TABLE_WORDS, state, STATE_WORDS);
 }
 
-static void *make_fresh(void *given)
+static uint32_t check_state(void)
 {
-    *(uint32_t *)given = herringcart_make_fresh(table, TABLE_WORDS, state, STATE_WORDS);
-    return given;
+    return herringcart_check_state(table, TABLE_WORDS, state, STATE_WORDS);
 }
 
-static void *check_state(void *given)
-{
-    *(uint32_t *)given = herringcart_check_state(table, TABLE_WORDS, state, STATE_WORDS);
-    return given;
-}
-
-static void *take_event(void *given)
-{
-    *(uint32_t *)given = herringcart_take_event(table, TABLE_WORDS, state, STATE_WORDS, trace, bound, 0x10000500, &count);
-    return given;
-}
-
-static void *play(void *given)
+static uint32_t play(void)
 {
     static const uint32_t day[] = {0x10000500};
-    size_t taken;
-    *(uint32_t *)given = herringcart_play(table, TABLE_WORDS, state, STATE_WORDS, trace, bound, day, 1, &taken, &count);
-    return given;
+    static size_t taken;
+    return herringcart_play(table, TABLE_WORDS, state, STATE_WORDS, trace, bound, day, 1, &taken, &count);
 }
 
-/* The bytes of stack that a thread takes for this call, itself included. */
-static size_t taken(void *(*call)(void *))
+static uint32_t take_event(void)
 {
-    static _Alignas(65536) unsigned char stack[STACK];
-    uint32_t answer = 0;
+    static const uint32_t outcomes[] = {HERRINGCART_FAILED};
+    return herringcart_take_event(table, TABLE_WORDS, state, STATE_WORDS, trace, bound, outcomes, 1, 0x10000500, &count);
+}
+
+static _Alignas(65536) unsigned char stack[STACK];
+
+struct measured {
+    uint32_t (*call)(void);
+    uint32_t answer;
+    size_t bytes;
+};
+
+/* Fills what lies below this thread's own frame, makes the call, and finds the lowest byte that it changed: before the
+ * thread's end, which goes deep itself, can change one. */
+static void *measure_here(void *given)
+{
+    struct measured *m = given;
+    unsigned char *volatile here = (unsigned char *)&m;
+    size_t below = (size_t)(here - stack);
+    memset(stack, FILL, below - NEAR);
+    m->answer = m->call();
+    size_t untouched = 0;
+    while (stack[untouched] == FILL)
+        untouched++;
+    m->bytes = below - untouched;
+    return NULL;
+}
+
+/* The bytes of stack that a call takes, on a stack of its own. */
+static size_t taken(uint32_t (*call)(void))
+{
+    struct measured m = {call, 0, 0};
     pthread_t thread;
     pthread_attr_t how;
-    memset(stack, FILL, STACK);
     pthread_attr_init(&how);
-    if (pthread_attr_setstack(&how, stack, STACK) != 0 || pthread_create(&thread, &how, call, &answer) != 0
-        || pthread_join(thread, NULL) != 0 || answer != 0) {
-        printf("no thread, or answer %u\n", (unsigned)answer);
+    if (pthread_attr_setstack(&how, stack, STACK) != 0 || pthread_create(&thread, &how, measure_here, &m) != 0
+        || pthread_join(thread, NULL) != 0 || m.answer != 0) {
+        printf("no thread, or answer %u\n", (unsigned)m.answer);
         exit(1);
     }
-    size_t untouched = 0;
-    while (untouched < STACK && stack[untouched] == FILL)
-        untouched++;
-    return STACK - untouched;
+    return m.bytes;
+}
+
+/* Measures every call on a table of this edition; gives 1 if one takes more than the header says. */
+static int measure(uint32_t edition)
+{
+    static const struct {
+        const char *name;
+        uint32_t (*call)(void);
+    } calls[] = {
+        {"check_table", check_table}, {"make_fresh", make_fresh}, {"check_state", check_state}, {"play", play},
+        {"take_event", take_event},
+    };
+    int more = 0;
+    make_table(edition);
+    for (size_t i = 0; i < sizeof calls / sizeof *calls; i++) {
+        size_t bytes = taken(calls[i].call);
+        printf("edition %u, herringcart_%s: %zu bytes of stack\n", (unsigned)edition, calls[i].name, bytes);
+        if (bytes > HERRINGCART_STACK_BYTES)
+            more = 1;
+    }
+    /* In the last call every list started and every rule item ran; of the deepest list's two outside calls edition 2 leaves
+     * out the second. */
+    size_t expected = 2 * LEVELS + (edition == 2 ? 1 : 2) + 2 * (LISTS - LEVELS);
+    if (count != expected) {
+        printf("%zu trace words, not %zu\n", count, expected);
+        exit(1);
+    }
+    return more;
 }
 
 int main(void)
 {
-    static const struct {
-        const char *name;
-        void *(*call)(void *);
-    } calls[] = {
-        {"check_table", check_table}, {"make_fresh", make_fresh}, {"check_state", check_state}, {"take_event", take_event},
-        {"play", play},
-    };
-    int status = 0;
-    make_table();
-    size_t empty = taken(nothing);
-    for (size_t i = 0; i < sizeof calls / sizeof *calls; i++) {
-        size_t bytes = taken(calls[i].call) - empty;
-        printf("herringcart_%s: %zu bytes of stack\n", calls[i].name, bytes);
-        if (bytes > HERRINGCART_STACK_BYTES)
-            status = 1;
-    }
-    /* Every list started and every rule item ran. */
-    if (count != 2 * LEVELS) {
-        printf("%zu trace words\n", count);
-        status = 1;
-    }
+    int status = measure(1) | measure(2);
     printf(status ? "MORE than the header's %d\n" : "the header says at most %d\n", HERRINGCART_STACK_BYTES);
     return status;
 }

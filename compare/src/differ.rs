@@ -95,7 +95,9 @@ pub fn compare(subject: &impl Subject, case: &Case) -> Result<(), Difference> {
     let mut states = [Lent::of(&case.state), Lent::of(&case.state)];
     for (number, &event) in case.events.iter().enumerate() {
         let what = |part: &str| format!("event {number} ({event:08X}), {part}");
-        compare_event(subject, table.words(), case.room, event, &mut states, &what)?;
+        let (room, outcomes) = (case.room, case.lent(number));
+        let called = Called { table: table.words(), room, outcomes, event };
+        compare_event(subject, called, &mut states, &what)?;
         same_lent(&|| what("table"), &table, &untouched)?;
     }
     plays::compare_plays(subject, table.words(), case)?;
@@ -132,24 +134,33 @@ fn compare_fit(subject: &impl Subject, table: &[u32], state: &[u32]) -> Result<(
     same_lent(&|| "state check, state".into(), &lent, &untouched)
 }
 
+/// What an event's call is made with.
+struct Called<'a> {
+    table: &'a [u32],
+    room: usize,
+    outcomes: &'a [u32],
+    event: u32,
+}
+
 /// One event; the states, the proved side's first, are passed on.
 fn compare_event(
     subject: &impl Subject,
-    table: &[u32],
-    room: usize,
-    event: u32,
+    Called { table, room, outcomes, event }: Called,
     [state, judged]: &mut [Lent; 2],
     what: &dyn Fn(&str) -> String,
 ) -> Result<(), Difference> {
     let mut trace = Lent::filled(room, TRACE_FILL);
     let mut expected = trace.clone();
-    let proved = subject.step(table, state.words(), trace.words(), event);
-    let second = second::step(table, judged.words(), expected.words(), event);
+    let untouched = Lent::of(outcomes);
+    let mut lent = untouched.clone();
+    let proved = subject.step(table, state.words(), trace.words(), lent.words(), event);
+    let second = second::step(table, judged.words(), expected.words(), event, outcomes);
     same(
         || what("answer, count"),
         &[proved.number, as_word(proved.count)],
         &[second.answer, as_word(second.count)],
     )?;
     same_lent(&|| what("state"), state, judged)?;
-    same_lent(&|| what("trace"), &trace, &expected)
+    same_lent(&|| what("trace"), &trace, &expected)?;
+    same_lent(&|| what("outcomes"), &lent, &untouched)
 }

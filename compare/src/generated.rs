@@ -39,11 +39,21 @@ pub fn cases(pairs: &[&str]) -> Result<(), String> {
 /// A case that differs, made as small as it goes, with what each side says.
 pub fn told(name: &str, case: &Case) -> String {
     let (case, difference) = smallest_difference(&Proved, case);
-    let Case { table, state, room, events } = &case;
+    let Case { table, state, room, events, .. } = &case;
     format!(
-        "{name}, made smaller:\ntable: {}\nstate: {}\nroom: {room}\nevents: {}\n{difference}",
+        "{name}, made smaller:\ntable: {}\nstate: {}\nroom: {room}\nevents: {}\noutcomes: {}\n{difference}",
         Words(table),
         Words(state),
-        Words(events)
+        Words(events),
+        outcomes(&case)
     )
+}
+
+/// The outcomes that each event lends, event after event.
+fn outcomes(case: &Case) -> String {
+    let lent = (0..case.events.len()).map(|number| match case.lent(number) {
+        [] => "none".into(),
+        words => Words(words).to_string(),
+    });
+    lent.collect::<Vec<_>>().join("; ")
 }

@@ -82,7 +82,7 @@ fn moves(table: &[u32], events: &[u32]) -> Result<(), String> {
     let mut moving = 0;
     for &event in events {
         let before = state.clone();
-        second::step(table, &mut state, &mut trace, event);
+        second::step(table, &mut state, &mut trace, event, &[]);
         moving += usize::from(state != before);
     }
     if 2 * moving < events.len() {
@@ -109,7 +109,8 @@ fn taken(table: &[u32], events: &[u32]) -> Vec<u32> {
     let mut state = vec![0; herringcart::state_words(table)];
     let mut trace = vec![0; second::check(table).b];
     second::fresh(table, &mut state);
-    let mut good = |event: &u32| second::step(table, &mut state, &mut trace, *event).answer == 0;
+    let mut good =
+        |event: &u32| second::step(table, &mut state, &mut trace, *event, &[]).answer == 0;
     let good: Vec<u32> = events.iter().copied().filter(|event| good(event)).collect();
     let length = events.len().max(2 * BLOCK + 1);
     good.iter().copied().cycle().take(length).collect()

@@ -16,7 +16,7 @@ use std::process::ExitCode;
 const USAGE: &str = "usage: compare cases SEED COUNT [SEED COUNT ...]
        compare fixed
        compare hunt SECONDS
-       compare run TABLE EVENTS
+       compare run TABLE EVENTS [OUTCOMES]
        compare play TABLE EVENTS
        compare programs run|play DIR COUNT SEED PROGRAM...
        compare long run|play DIR PROGRAM...
@@ -45,7 +45,8 @@ fn main() -> ExitCode {
         ["cases", ref pairs @ ..] if !pairs.is_empty() => generated::cases(pairs),
         ["fixed"] => found::fixed(),
         ["hunt", seconds] => hunt::hunt(seconds),
-        ["run", table, events] => programs::run(table, events),
+        ["run", table, events] => programs::run(table, events, None),
+        ["run", table, events, outcomes] => programs::run(table, events, Some(outcomes)),
         ["play", table, events] => programs::play(table, events),
         ["programs", kind, folder, count, seed, ref program @ ..] if !program.is_empty() => {
             programs::programs(kind, folder, count, seed, program)

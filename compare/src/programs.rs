@@ -18,15 +18,20 @@ use crate::shrink::smallest;
 /// How long a case is made smaller; each try starts the program.
 const LIMIT: Duration = Duration::from_secs(60);
 
-/// Document 01's program over the proved library, in this process.
-pub fn run(table: &str, events: &str) -> Result<(), String> {
-    let read = |path: &str| fs::read(path).map_err(|why| format!("cannot read {path}: {why}"));
-    let (table, events) = (words(&read(table)?), words(&read(events)?));
-    let lines = by_library(&table, &events);
+/// A file's whole words.
+fn read(path: &str) -> Result<Vec<u32>, String> {
+    fs::read(path).map(|bytes| words(&bytes)).map_err(|why| format!("cannot read {path}: {why}"))
+}
+
+/// Document 01's program over the proved library, in this process; and what the second program's fixed cases ask of it besides: a
+/// file that has for each event the number of outcomes it lends, and then these.
+pub fn run(table: &str, events: &str, outcomes: Option<&str>) -> Result<(), String> {
+    let (table, events) = (read(table)?, read(events)?);
+    let lines = by_library(&table, &events, &outcomes.map_or(Ok(vec![]), read)?);
     io::stdout().lock().write_all(lines.as_bytes()).map_err(|why| format!("cannot print: {why}"))
 }
 
-fn by_library(table: &[u32], events: &[u32]) -> String {
+fn by_library(table: &[u32], events: &[u32], mut outcomes: &[u32]) -> String {
     let check = herringcart::check_table(table);
     if !check.accepted() {
         return format!("{}\n{}\n", check.reason, check.place);
@@ -36,7 +41,12 @@ fn by_library(table: &[u32], events: &[u32]) -> String {
     herringcart::make_fresh(table, &mut state);
     let mut lines = String::new();
     for &event in events {
-        let answer = herringcart::take_event(table, &mut state, &mut trace, event);
+        let lent;
+        (lent, outcomes) = match outcomes {
+            [] => outcomes.split_at(0),
+            [count, rest @ ..] => rest.split_at(rest.len().min(*count as usize)),
+        };
+        let answer = herringcart::take_event(table, &mut state, &mut trace, lent, event);
         let _ = writeln!(lines, "{}", answer.number);
         for word in state.iter().chain(&trace[..answer.count]) {
             let _ = writeln!(lines, "{word:08X}");
@@ -47,9 +57,7 @@ fn by_library(table: &[u32], events: &[u32]) -> String {
 
 /// `play` over the proved library, in this process.
 pub fn play(table: &str, events: &str) -> Result<(), String> {
-    let read = |path: &str| fs::read(path).map_err(|why| format!("cannot read {path}: {why}"));
-    let (table, events) = (words(&read(table)?), words(&read(events)?));
-    let lines = played_by_library(&table, &events);
+    let lines = played_by_library(&read(table)?, &read(events)?);
     io::stdout().lock().write_all(lines.as_bytes()).map_err(|why| format!("cannot print: {why}"))
 }
 
@@ -174,8 +182,8 @@ pub fn programs(
         let compare = |case: &Case| {
             program.compare(&bytes(&case.table, past), &bytes(&case.events, 3 - past))
         };
-        // The program makes its own state and lends B.
-        let case = Case { state: vec![], room: 0, ..made.case };
+        // The program makes its own state, and lends B and no outcomes.
+        let case = Case { state: vec![], room: 0, ..made.case.lending_none() };
         if let Err(what) = compare(&case) {
             let case = smallest(&case, |case| compare(case).is_err(), LIMIT);
             let what = compare(&case).err().unwrap_or(what);

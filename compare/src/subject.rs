@@ -20,8 +20,15 @@ pub trait Subject {
         herringcart::check_state(table, state)
     }
 
-    fn step(&self, table: &[u32], state: &mut [u32], trace: &mut [u32], event: u32) -> Answer {
-        herringcart::take_event(table, state, trace, event)
+    fn step(
+        &self,
+        table: &[u32],
+        state: &mut [u32],
+        trace: &mut [u32],
+        outcomes: &[u32],
+        event: u32,
+    ) -> Answer {
+        herringcart::take_event(table, state, trace, outcomes, event)
     }
 
     fn play(&self, table: &[u32], state: &mut [u32], trace: &mut [u32], events: &[u32]) -> Played {

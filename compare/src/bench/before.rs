@@ -1,5 +1,6 @@
 //! The proved code of another commit, where `tools/bench COMMIT` has it linked:
-//! the same five calls as today's, by other names.
+//! the same five calls as today's, by other names. Up to version 3.2 the event
+//! call takes no outcomes.
 
 use crate::subject::Subject;
 
@@ -21,7 +22,7 @@ impl Subject for Before {}
 #[cfg(before)]
 mod c {
     // As library/herringcart.h declares them, which `tools/bench` has seen to
-    // declare the same in both commits.
+    // declare the same in both commits, but for the event call's outcomes.
     unsafe extern "C" {
         pub fn before_herringcart_check_table(
             table: *const u32,
@@ -42,6 +43,21 @@ mod c {
             state: *const u32,
             state_words: usize,
         ) -> u32;
+        #[cfg(before_takes_outcomes)]
+        pub fn before_herringcart_take_event(
+            table: *const u32,
+            table_words: usize,
+            state: *mut u32,
+            state_words: usize,
+            trace: *mut u32,
+            trace_words: usize,
+            outcomes: *const u32,
+            outcome_words: usize,
+            event: u32,
+            count: *mut usize,
+        ) -> u32;
+        // Up to version 3.2.
+        #[cfg(not(before_takes_outcomes))]
         pub fn before_herringcart_take_event(
             table: *const u32,
             table_words: usize,
@@ -90,22 +106,26 @@ impl Subject for Before {
         table: &[u32],
         state: &mut [u32],
         trace: &mut [u32],
+        outcomes: &[u32],
         event: u32,
     ) -> herringcart::Answer {
         let mut count = usize::MAX;
+        let (t, s, r) = (table.as_ptr(), state.as_mut_ptr(), trace.as_mut_ptr());
+        let [tl, sl, rl] = [table.len(), state.len(), trace.len()];
+        #[cfg(before_takes_outcomes)]
+        let (o, ol) = (outcomes.as_ptr(), outcomes.len());
         // SAFETY: see above.
+        #[cfg(before_takes_outcomes)]
         let number = unsafe {
-            c::before_herringcart_take_event(
-                table.as_ptr(),
-                table.len(),
-                state.as_mut_ptr(),
-                state.len(),
-                trace.as_mut_ptr(),
-                trace.len(),
-                event,
-                &mut count,
-            )
+            c::before_herringcart_take_event(t, tl, s, sl, r, rl, o, ol, event, &mut count)
         };
+        // It does not see what is lent. Whether that matters shows before anything is timed.
+        #[cfg(not(before_takes_outcomes))]
+        let _ = outcomes;
+        // SAFETY: see above.
+        #[cfg(not(before_takes_outcomes))]
+        let number =
+            unsafe { c::before_herringcart_take_event(t, tl, s, sl, r, rl, event, &mut count) };
         herringcart::Answer { number, count }
     }
 }

@@ -6,7 +6,7 @@ use herringcart::{Answer, Check};
 use crate::subject::Subject;
 use crate::yardstick;
 
-/// A fresh state is not timed and stays the proved one.
+/// A fresh state is not timed and stays the proved one. The base's calls are all good.
 pub struct Clock;
 
 impl Subject for Clock {
@@ -21,7 +21,14 @@ impl Subject for Clock {
         yardstick::check_state(table, state)
     }
 
-    fn step(&self, table: &[u32], state: &mut [u32], trace: &mut [u32], event: u32) -> Answer {
+    fn step(
+        &self,
+        table: &[u32],
+        state: &mut [u32],
+        trace: &mut [u32],
+        _outcomes: &[u32],
+        event: u32,
+    ) -> Answer {
         match yardstick::take_event(table, state, trace, event) {
             Ok(count) => Answer { number: 0, count },
             Err(number) => Answer { number, count: 0 },

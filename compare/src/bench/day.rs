@@ -25,7 +25,7 @@ fn recorded(times: usize) -> Result<[Vec<u32>; 2], String> {
     second::fresh(&table, &mut state);
     let mut sent: Vec<u32> = vec![];
     for event in run.into_iter().filter(|&event| event != 0) {
-        if second::step(&table, &mut state, &mut trace, event).answer == 0 {
+        if second::step(&table, &mut state, &mut trace, event, &[]).answer == 0 {
             sent.push(event);
         }
     }

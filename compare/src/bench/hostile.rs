@@ -130,7 +130,7 @@ fn unreached(draft: Draft) -> Draft {
 }
 
 fn list_item(a: u32) -> Item {
-    Item { kind: item::LIST, a, b: 0 }
+    Item::naming(item::LIST, a)
 }
 
 /// An item naming a rule with these two lists: one there is, or a new one.
@@ -141,7 +141,7 @@ fn rule_item(draft: &mut Draft, true_list: u32, false_list: u32) -> Item {
     if a == draft.rules.len() {
         draft.rules.push(wanted);
     }
-    Item { kind: item::RULE, a: a as u32, b: 0 }
+    Item::naming(item::RULE, a as u32)
 }
 
 /// A row of seven lists, so that a search level by level needs all its rounds,
@@ -187,7 +187,7 @@ fn stranger() -> Draft {
     draft.ports.iter_mut().take(2).for_each(|port| port.owner = 1);
     draft.rules.iter_mut().for_each(|rule| rule.owner = 1);
     draft.lists.iter_mut().for_each(|list| list.owner = 1);
-    draft.items[FULL - 1] = Item { kind: item::CLEAR_EVENT, a: 2, b: 0 };
+    draft.items[FULL - 1] = Item::naming(item::CLEAR_EVENT, 2);
     // Only the last list reaches that item.
     let last = draft.lists.len() - 1;
     draft.lists[..last].iter_mut().filter(|l| l.first == 0).for_each(|list| list.count = 254);
@@ -286,7 +286,7 @@ fn same_rules(mut draft: Draft) -> Draft {
 fn rule_items(mut draft: Draft) -> Draft {
     const LISTS: u32 = 16;
     // The first rules start the lists, the others are in the lists' items.
-    let item = |i| Item { kind: item::RULE, a: LISTS + i % (256 - LISTS), b: 0 };
+    let item = |i| Item::naming(item::RULE, LISTS + i % (256 - LISTS));
     draft.items = (0..FULL as u32).map(item).collect();
     draft.lists = vec![List { first: 0, count: 255, ..Default::default() }; LISTS as usize];
     for (list, rule) in (0..LISTS).zip(&mut draft.rules) {

@@ -5,6 +5,7 @@
 mod before;
 mod clock;
 mod day;
+mod editions;
 mod hostile;
 mod programs;
 mod sized;
@@ -62,40 +63,44 @@ pub fn bench() -> Result<(), String> {
         "{:<44}{:>6}{:>6}{:>8}{:>10}{:>10}{:>10}{:>10}{:>7}{:>7}{:>7}",
         "", "words", "B", "trace", "before", "proved", "yardstick", "second", "p/b", "p/y", "p/s"
     );
-    row("marked table, its run", &MARKED, &marked_run())?;
+    row("marked table, its run", &MARKED, &marked_run(), &[])?;
     match example("truck") {
-        Some([table, events]) => row("truck, its run", &table, &events)?,
+        Some([table, events]) => row("truck, its run", &table, &events, &[])?,
         None => println!("truck: missing (examples/truck.table, examples/truck.events)"),
     }
     let large = sized::sized(68).words();
-    row("large table, mixed events", &large, &sized::events())?;
-    row("large table, request that starts 68 lists", &large, &sized::events()[..1])?;
-    row("large table, tick with nothing marked", &large, &[0])?;
+    row("large table, mixed events", &large, &sized::events(), &[])?;
+    row("large table, request that starts 68 lists", &large, &sized::events()[..1], &[])?;
+    row("large table, tick with nothing marked", &large, &[0], &[])?;
     println!("growth: lists and expressions three deep, mixed events");
     for blocks in [3, 9, 29, 85] {
-        row(&format!("{blocks} blocks"), &sized::sized(blocks).words(), &sized::events())?;
+        row(&format!("{blocks} blocks"), &sized::sized(blocks).words(), &sized::events(), &[])?;
+    }
+    println!("editions: edition 2 beside edition 1, outcomes lent with each event");
+    for editions::Lending { name, draft, events, outcomes } in editions::all() {
+        row(&name, &draft.words(), &events, &outcomes)?;
     }
     println!("a rule on 64 conditions joined seven deep, and a request that has it evaluated");
     for wide in wide::ALL {
         let draft = wide.draft();
         let name = format!("64 conditions, {}", wide.name);
-        row(&name, &draft.words(), &[wide::request(&draft)])?;
+        row(&name, &draft.words(), &[wide::request(&draft)], &[])?;
     }
     hostile_tables()
 }
 
-fn times(name: &str, table: &[u32], events: &[u32]) -> Result<Times, String> {
-    Times::of(before::LINKED.as_ref(), &Clock, table, events)
+fn times(name: &str, table: &[u32], events: &[u32], outcomes: &[u32]) -> Result<Times, String> {
+    Times::of(before::LINKED.as_ref(), &Clock, table, events, outcomes)
         .map_err(|what| format!("{name}: {what}"))
 }
 
-/// One line of an accepted table.
-fn row(name: &str, table: &[u32], events: &[u32]) -> Result<(), String> {
+/// One line of an accepted table, the outcomes lent with each event.
+fn row(name: &str, table: &[u32], events: &[u32], outcomes: &[u32]) -> Result<(), String> {
     let check = second::check(table);
     if check.reason != 0 {
         return Err(format!("{name}: {check:?}"));
     }
-    let times = times(name, table, events)?;
+    let times = times(name, table, events, outcomes)?;
     let [before, by_before, why] = times.beside(&times.before, 1.0, 0);
     let [yardstick, by_yardstick, why_too] = times.beside(&times.yardstick, 1.0, 0);
     let Times { proved, second, written, .. } = times;
@@ -132,7 +137,7 @@ fn hostile_tables() -> Result<(), String> {
 /// check and event.
 fn hostile_row(hostile: &Hostile) -> Result<(u32, f64), String> {
     let (name, words) = (&hostile.name, hostile.draft.words());
-    let times = times(name, &words, &[hostile.event])?;
+    let times = times(name, &words, &[hostile.event], &[])?;
     let mut check: Work = Box::new(|| {
         black_box(herringcart::check_table(black_box(&words)));
         1

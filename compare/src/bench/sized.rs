@@ -76,18 +76,16 @@ fn block(draft: &mut Draft) {
         };
         draft.lists.push(List { triggered: (place == 2) as u32, ..list });
         let asks = !draft.networks.is_empty();
-        draft.items.extend(items(asks).into_iter().chain([Item { kind, a, b: 0 }]));
+        draft.items.extend(items(asks).into_iter().chain([Item::naming(kind, a)]));
     }
 }
 
 /// Six items of every kind that names no list.
 fn items(asks: bool) -> [Item; 6] {
-    let call = |b| Item { kind: item::OUTSIDE_CALL, a: 0, b };
-    let ask = Item { kind: item::NETWORK_REQUEST, a: 0, b: mode::FULL };
-    let clear = Item { kind: item::CLEAR_EVENT, a: PRESSED, b: 0 };
-    let turn = |kind| Item { kind, a: CLOCK, b: 0 };
-    let ask = if asks { ask } else { call(3) };
-    [call(1), clear, ask, turn(item::STOP_TIMER), turn(item::START_TIMER), call(2)]
+    let ask = if asks { Item::asking(0, mode::FULL) } else { Item::call(3) };
+    let clear = Item::naming(item::CLEAR_EVENT, PRESSED);
+    let turn = |kind| Item::naming(kind, CLOCK);
+    [Item::call(1), clear, ask, turn(item::STOP_TIMER), turn(item::START_TIMER), Item::call(2)]
 }
 
 /// Requests that start every first list and ones that start none, an event, a

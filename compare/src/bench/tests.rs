@@ -18,8 +18,15 @@ impl Subject for Other {
         if check.accepted() { check } else { Check { place: check.place + 1, ..check } }
     }
 
-    fn step(&self, table: &[u32], state: &mut [u32], trace: &mut [u32], event: u32) -> Answer {
-        let answer = Proved.step(table, state, trace, event);
+    fn step(
+        &self,
+        table: &[u32],
+        state: &mut [u32],
+        trace: &mut [u32],
+        outcomes: &[u32],
+        event: u32,
+    ) -> Answer {
+        let answer = Proved.step(table, state, trace, outcomes, event);
         if event >> 28 == 5 { Answer { number: 6, ..answer } } else { answer }
     }
 }
@@ -27,7 +34,8 @@ impl Subject for Other {
 /// What is said where there is no time, else nothing: of the yardstick, and of
 /// the code before in the same words.
 fn said(table: &[u32], events: &[u32]) -> String {
-    let times = Times::of(Some(&Other), &Other, table, events).expect("the proved code is right");
+    let times =
+        Times::of(Some(&Other), &Other, table, events, &[]).expect("the proved code is right");
     let [time, ratio, why] = times.beside(&times.yardstick, 1.0, 0);
     assert_eq!((time == "-", ratio == "-"), (!why.is_empty(), !why.is_empty()));
     let before = times.beside(&times.before, 1.0, 0);
@@ -54,20 +62,24 @@ fn a_clock_that_refuses_a_table_otherwise_has_no_time() {
 
 #[test]
 fn without_a_commit_there_is_no_time_before_and_nothing_is_said() {
-    let times = Times::of(None::<&Proved>, &Proved, &MARKED, &marked_run()).expect("right");
+    let times = Times::of(None::<&Proved>, &Proved, &MARKED, &marked_run(), &[]).expect("right");
     assert_eq!(times.beside(&times.before, 1.0, 0), ["-", "-", ""]);
     assert!(times.yardstick.is_ok());
 }
 
 /// The state and trace after an event on a fresh state of an accepted table.
 fn after(draft: &Draft, event: u32) -> (Vec<u32>, Vec<u32>) {
+    after_lending(draft, event, &[])
+}
+
+fn after_lending(draft: &Draft, event: u32, outcomes: &[u32]) -> (Vec<u32>, Vec<u32>) {
     let words = draft.words();
     let check = herringcart::check_table(&words);
     assert!(check.accepted(), "{check:?}");
     let mut state = vec![0; herringcart::state_words(&words)];
     assert_eq!(herringcart::make_fresh(&words, &mut state), 0);
     let mut trace = vec![0; check.bound as usize];
-    let answer = herringcart::take_event(&words, &mut state, &mut trace, event);
+    let answer = herringcart::take_event(&words, &mut state, &mut trace, outcomes, event);
     assert!(answer.done(), "{answer:?}");
     trace.truncate(answer.count);
     (state, trace)
@@ -122,7 +134,7 @@ fn a_wide_row_s_event_turns_nothing() {
         let event = wide::request(&draft);
         let (mut state, _) = after(&draft, event);
         let first = state.clone();
-        assert!(Proved.step(&draft.words(), &mut state, &mut [], event).done());
+        assert!(Proved.step(&draft.words(), &mut state, &mut [], &[], event).done());
         assert_eq!(state, first, "{}", wide.name);
         let value = |port: usize| PortState::of(state[port]).value;
         assert!((0..draft.ports.len()).all(|port| value(port) == draft.ports[port].initial));
@@ -199,6 +211,25 @@ fn the_undefined_port_stays_so_and_no_rule_mentions_it() {
         let mentioned = |rule: &Rule| draft.mentioned(rule.expression as usize);
         assert!(!draft.rules.iter().flat_map(mentioned).any(|port| port == 63), "{name}");
     }
+}
+
+#[test]
+fn a_row_of_edition_2_runs_the_calls_that_it_lends_outcomes_for() {
+    let [marked, one, two, failing] = editions::all();
+    assert_eq!(marked.draft.words()[1..11], MARKED[1..11]);
+    let (_, stopped) = after_lending(&marked.draft, marked.events[0], &marked.outcomes);
+    assert_eq!(stopped, [0xF100_0000, 0x4100_0002, 0x0100_1234]);
+    let calls = |trace: &[u32]| trace.iter().filter(|&&word| word >> 28 == 0).count();
+    let [first, second, third] = [one, two, failing].map(|row| {
+        assert_eq!(row.events.len(), 1, "{}", row.name);
+        let (_, trace) = after_lending(&row.draft, row.events[0], &row.outcomes);
+        (row.draft.edition, row.outcomes, trace)
+    });
+    assert_eq!([first.0, second.0, third.0], [edition::ONE, edition::TWO, edition::TWO]);
+    assert_eq!((first.1.len(), second.1.len()), (0, 0));
+    assert_eq!(third.1, vec![outcome::FAILED; calls(&third.2)]);
+    // All run, so the trace is the same.
+    assert!(first.2 == second.2 && first.2 == third.2 && calls(&first.2) > 500);
 }
 
 #[test]

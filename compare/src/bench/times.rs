@@ -23,19 +23,20 @@ pub struct Times {
 }
 
 impl Times {
-    /// Of a run from a fresh state, again and again. The proved code, the one
-    /// before and the clock are first held against the second program on this
-    /// very run.
+    /// Of a run from a fresh state, again and again, each event with the same
+    /// outcomes. The proved code, the one before and the clock are first held
+    /// against the second program on this very run.
     pub fn of(
         before: Option<&impl Subject>,
         clock: &impl Subject,
         table: &[u32],
         events: &[u32],
+        outcomes: &[u32],
     ) -> Result<Self, Difference> {
-        let run = Run::fresh(table, events);
+        let run = Run::fresh(table, events, outcomes);
         compare(&Proved, &run.case)?;
-        let mut proved = run.by(|t, s, r, e| Proved.step(t, s, r, e).count);
-        let mut second = run.by(|t, s, r, e| second::step(t, s, r, e).count);
+        let mut proved = run.by(|t, s, r, o, e| Proved.step(t, s, r, o, e).count);
+        let mut second = run.by(|t, s, r, o, e| second::step(t, s, r, e, o).count);
         let mut before = before.ok_or_else(String::new).and_then(|side| run.held("before", side));
         let mut clock = run.held("yardstick", clock);
         let times =
@@ -70,25 +71,26 @@ struct Run {
 }
 
 impl Run {
-    fn fresh(table: &[u32], events: &[u32]) -> Self {
+    fn fresh(table: &[u32], events: &[u32], outcomes: &[u32]) -> Self {
         let mut state = vec![0; herringcart::state_words(table)];
         second::fresh(table, &mut state);
         let (room, table, events) = (second::check(table).b, table.to_vec(), events.to_vec());
         let state_and_trace = RefCell::new([state.clone(), vec![0; room]]);
-        Run { case: Case { table, state, room, events }, state_and_trace }
+        let outcomes = vec![outcomes.to_vec(); events.len()];
+        Run { case: Case { table, state, room, events, outcomes }, state_and_trace }
     }
 
     /// The run by a call that gives its count.
     fn by<'a>(
         &'a self,
-        call: impl Fn(&[u32], &mut [u32], &mut [u32], u32) -> usize + 'a,
+        call: impl Fn(&[u32], &mut [u32], &mut [u32], &[u32], u32) -> usize + 'a,
     ) -> Work<'a> {
         Box::new(move || {
             let [state, trace] = &mut *self.state_and_trace.borrow_mut();
             state.copy_from_slice(&self.case.state);
             let table = black_box(&self.case.table[..]);
-            for &event in &self.case.events {
-                black_box(call(table, state, trace, event));
+            for (&event, outcomes) in self.case.events.iter().zip(&self.case.outcomes) {
+                black_box(call(table, state, trace, outcomes, event));
             }
             self.case.events.len()
         })
@@ -99,13 +101,16 @@ impl Run {
         compare(side, &self.case).map_err(|difference| {
             format!("\n  {name}: no time, it computes something else: {}", difference.what)
         })?;
-        Ok(self.by(|t, s, r, e| side.step(t, s, r, e).count))
+        Ok(self.by(|t, s, r, o, e| side.step(t, s, r, o, e).count))
     }
 
     fn written(&self) -> usize {
         let [state, trace] = &mut *self.state_and_trace.borrow_mut();
         state.copy_from_slice(&self.case.state);
-        let events = self.case.events.iter();
-        events.map(|&event| second::step(&self.case.table, state, trace, event).count).sum()
+        let calls = self.case.events.iter().zip(&self.case.outcomes);
+        let step = |(&event, outcomes): (&u32, &Vec<u32>)| {
+            second::step(&self.case.table, state, trace, event, outcomes).count
+        };
+        calls.map(step).sum()
     }
 }

@@ -9,7 +9,7 @@ use std::time::{Duration, Instant};
 
 use second::cases::Case;
 use second::stream::TRACE_FILL;
-use second::words::SECTIONS;
+use second::words::{SECTIONS, Section};
 
 use crate::differ::{Difference, compare};
 use crate::subject::Subject;
@@ -55,10 +55,16 @@ impl Shrinking<'_> {
         self.cut_events();
         self.begin_later();
         self.cut_events();
+        self.take(self.case.lending_none());
+        self.cut(|case| case.outcomes.concat().len(), |case, at| Some(without_outcome(case, at)));
+        if let Some(first) = things::in_edition_1(&self.case) {
+            self.take(first);
+        }
         for section in SECTIONS.into_iter().rev() {
             let count = |case: &Case| things::count(case, section);
             self.cut(count, |case, at| things::without(case, section, at));
         }
+        self.cut_calls();
         self.cut(
             |case| case.table.len(),
             |case, at| Some(without_word(case, |c| &mut c.table, at)),
@@ -75,6 +81,9 @@ impl Shrinking<'_> {
         self.clear(|case| &mut case.table);
         self.clear(|case| &mut case.state);
         self.clear(|case| &mut case.events);
+        for number in 0..self.case.outcomes.len() {
+            self.clear(|case| &mut case.outcomes[number]);
+        }
         self.less_room();
     }
 
@@ -89,7 +98,17 @@ impl Shrinking<'_> {
 
     fn cut_events(&mut self) {
         let count = |case: &Case| case.events.len();
-        self.cut(count, |case, at| Some(without_word(case, |c| &mut c.events, at)));
+        self.cut(count, |case, at| Some(without_event(case, at)));
+    }
+
+    /// Takes an item out together with an outcome: without a call alone, the calls
+    /// behind it would meet other outcomes than before.
+    fn cut_calls(&mut self) {
+        for at in (0..things::count(&self.case, Section::Items)).rev() {
+            let Some(less) = things::without(&self.case, Section::Items, at) else { return };
+            let mut outcomes = 0..less.outcomes.concat().len();
+            outcomes.any(|outcome| self.take(without_outcome(&less, outcome)));
+        }
     }
 
     /// Takes things out, by halves, quarters and so on down to one at a time,
@@ -117,9 +136,10 @@ impl Shrinking<'_> {
     /// Begins with the state that the first event leaves, without that event.
     fn begin_later(&mut self) {
         while self.case.events.len() > 1 {
-            let mut later = self.case.clone();
-            let (event, mut trace) = (later.events.remove(0), vec![TRACE_FILL; later.room]);
-            second::step(&later.table, &mut later.state, &mut trace, event);
+            let mut later = without_event(&self.case, 0);
+            let (event, outcomes) = (self.case.events[0], self.case.lent(0));
+            let mut trace = vec![TRACE_FILL; later.room];
+            second::step(&later.table, &mut later.state, &mut trace, event, outcomes);
             if !self.take(later) {
                 break;
             }
@@ -152,6 +172,28 @@ impl Shrinking<'_> {
             && self.take(Case { room: self.case.room - 1, ..self.case.clone() })
         {}
     }
+}
+
+/// Without an event and the outcomes that it lends.
+fn without_event(case: &Case, at: usize) -> Case {
+    let mut less = without_word(case, |c| &mut c.events, at);
+    if at < less.outcomes.len() {
+        less.outcomes.remove(at);
+    }
+    less
+}
+
+/// Without one outcome word, counted over all events.
+fn without_outcome(case: &Case, mut at: usize) -> Case {
+    let mut less = case.clone();
+    for lent in &mut less.outcomes {
+        if at < lent.len() {
+            lent.remove(at);
+            break;
+        }
+        at -= lent.len();
+    }
+    less
 }
 
 fn without_word(case: &Case, words: impl Fn(&mut Case) -> &mut Vec<u32>, at: usize) -> Case {

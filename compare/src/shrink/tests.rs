@@ -4,7 +4,7 @@ use herringcart::{Answer, End, Played};
 use second::cases::{Case, Cases};
 use second::words::*;
 
-use super::smallest_difference;
+use super::{LIMIT, smallest, smallest_difference};
 use crate::differ::compare;
 use crate::subject::{Proved, Subject};
 
@@ -22,9 +22,16 @@ fn found(wrong: &impl Subject) -> Case {
 struct Undefines;
 
 impl Subject for Undefines {
-    fn step(&self, table: &[u32], state: &mut [u32], trace: &mut [u32], event: u32) -> Answer {
+    fn step(
+        &self,
+        table: &[u32],
+        state: &mut [u32],
+        trace: &mut [u32],
+        outcomes: &[u32],
+        event: u32,
+    ) -> Answer {
         let before = state.to_vec();
-        let answer = herringcart::take_event(table, state, trace, event);
+        let answer = herringcart::take_event(table, state, trace, outcomes, event);
         for (old, new) in before.iter().zip(state) {
             let (was, is) = (PortState::of(*old), PortState::of(*new));
             if (was.value, is.value, was.remaining) == (timer::STARTED, timer::EXPIRED, 1) {
@@ -47,8 +54,15 @@ fn wrong_bit_in_an_expiring_timer_is_found_and_its_case_made_small() {
 struct WritesPast;
 
 impl Subject for WritesPast {
-    fn step(&self, table: &[u32], state: &mut [u32], trace: &mut [u32], event: u32) -> Answer {
-        let answer = herringcart::take_event(table, state, trace, event);
+    fn step(
+        &self,
+        table: &[u32],
+        state: &mut [u32],
+        trace: &mut [u32],
+        outcomes: &[u32],
+        event: u32,
+    ) -> Answer {
+        let answer = herringcart::take_event(table, state, trace, outcomes, event);
         let asks = |word: &u32| TraceWord::of(*word).kind == item::NETWORK_REQUEST;
         if trace[..answer.count].iter().any(asks) {
             // SAFETY: the comparison lends its words out of a larger buffer.
@@ -64,6 +78,70 @@ fn word_written_past_the_trace_is_found_and_its_case_made_small() {
     assert_eq!((small.events.len(), small.room), (1, 2));
     // Two ports, a network, an expression, a rule, a list, an item.
     assert!(small.table.len() <= 11, "{small:X?}");
+}
+
+/// Takes every call for good.
+struct AllGood;
+
+impl Subject for AllGood {
+    fn step(
+        &self,
+        table: &[u32],
+        state: &mut [u32],
+        trace: &mut [u32],
+        outcomes: &[u32],
+        event: u32,
+    ) -> Answer {
+        let good: Vec<u32> = outcomes.iter().map(|&word| word & !outcome::FAILED).collect();
+        herringcart::take_event(table, state, trace, &good, event)
+    }
+}
+
+#[test]
+fn failed_call_taken_for_good_is_found_and_its_case_made_small() {
+    let small = found(&AllGood);
+    assert_eq!((small.events.len(), small.outcomes.concat()), (1, vec![outcome::FAILED]));
+    // A port, an expression, a rule, a list, the call with abort and an item behind it.
+    assert_eq!(small.table.len(), 9, "{small:X?}");
+    assert_eq!(Table::of(&small.table).expect("a header").item(0).abort, 1);
+}
+
+#[test]
+fn outcomes_that_nothing_asks_for_are_dropped_or_good() {
+    let outcomes = vec![vec![1, 0, 1], vec![1, 1, u32::MAX]];
+    let case = Case { events: vec![0; 2], outcomes, ..Default::default() };
+    let second_failed = |case: &Case| case.lent(1).get(1) == Some(&outcome::FAILED);
+    assert_eq!(smallest(&case, second_failed, LIMIT).outcomes, [vec![], vec![0, 1]]);
+    let any_above_1 = |case: &Case| case.outcomes.concat().iter().any(|&word| word > 1);
+    let small = smallest(&case, any_above_1, LIMIT).outcomes.concat();
+    assert_eq!((small.len(), small[0].count_ones()), (1, 1));
+}
+
+/// Reads 2 as failed.
+struct TakesTwo;
+
+impl Subject for TakesTwo {
+    fn step(
+        &self,
+        table: &[u32],
+        state: &mut [u32],
+        trace: &mut [u32],
+        outcomes: &[u32],
+        event: u32,
+    ) -> Answer {
+        let read = |&word: &u32| if word == 2 { outcome::FAILED } else { word };
+        let outcomes: Vec<u32> = outcomes.iter().map(read).collect();
+        herringcart::take_event(table, state, trace, &outcomes, event)
+    }
+}
+
+#[test]
+fn outcome_above_1_taken_for_failed_is_found_and_its_case_made_small() {
+    let small = found(&TakesTwo);
+    assert_eq!((small.events.len(), small.outcomes.concat()), (1, vec![2]));
+    // A port, an expression and a rule: no call has to run.
+    assert_eq!(small.table.len(), 6, "{small:X?}");
+    assert_eq!(Table::of(&small.table).expect("a header").edition, edition::ONE);
 }
 
 #[test]

@@ -10,8 +10,8 @@ use second::words::*;
 /// smaller word by word only.
 fn shaped(case: &Case) -> Option<Table<'_>> {
     let table = Table::of(&case.table)?;
-    let edition = Head::of(case.table[0]).edition;
-    (edition == EDITION && table.stated_length() == case.table.len()).then_some(table)
+    let known = [edition::ONE, edition::TWO].contains(&table.edition);
+    (known && table.stated_length() == case.table.len()).then_some(table)
 }
 
 pub fn count(case: &Case, section: Section) -> usize {
@@ -29,8 +29,20 @@ pub fn without(case: &Case, section: Section, at: usize) -> Option<Case> {
     let mut draft = Draft::of(&table);
     remove(&mut draft, section, at);
     less.table = draft.words();
-    less.events = case.events.iter().filter_map(|&e| moved_event(e, section, at)).collect();
+    let events = (0..case.events.len()).filter_map(|number| {
+        let moved = moved_event(case.events[number], section, at)?;
+        Some((moved, case.lent(number).to_vec()))
+    });
+    (less.events, less.outcomes) = events.unzip();
     Some(less)
+}
+
+/// The case of edition 1, which has no abort; None where it is so already.
+pub fn in_edition_1(case: &Case) -> Option<Case> {
+    let table = shaped(case).filter(|table| table.edition != edition::ONE)?;
+    let mut draft = Draft { edition: edition::ONE, ..Draft::of(&table) };
+    draft.items.iter_mut().for_each(|item| item.abort = 0);
+    Some(Case { table: draft.words(), ..case.clone() })
 }
 
 fn remove(draft: &mut Draft, section: Section, at: usize) {

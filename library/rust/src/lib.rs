@@ -1,12 +1,14 @@
-//! The proved mode manager for Rust. Tables, states and traces are slices of
-//! 32-bit words; `docs/TABLES.md` has the layout of each and what to do about
-//! each reason and answer. Answers are document 01's numbers.
+//! The proved mode manager for Rust. Tables, states, traces and outcomes are
+//! slices of 32-bit words; `docs/TABLES.md` has the layout of each and what to do
+//! about each reason and answer. Answers are the documents' numbers.
 //!
 //! Every call takes any words: it checks them for itself, and a refusal leaves
 //! every lent word as it was. Nothing is kept between calls, no heap is used,
 //! and calls on different states may run at the same time.
 //!
 //! ```
+//! // An archive of another version may take other arguments.
+//! assert_eq!(herringcart::version(), herringcart::VERSION);
 //! // Document 01's marked table.
 //! let table = [
 //!     0x0102_0100, 0x0001_0001, 0x0001_0002, 0x0100_0000, 0x2100_0000, 0x1010_2000,
@@ -17,7 +19,7 @@
 //! let mut state = vec![0; herringcart::state_words(&table)];
 //! let mut trace = vec![0; check.bound as usize];
 //! assert_eq!(herringcart::make_fresh(&table, &mut state), 0);
-//! let answer = herringcart::take_event(&table, &mut state, &mut trace, 0x1100_0500);
+//! let answer = herringcart::take_event(&table, &mut state, &mut trace, &[], 0x1100_0500);
 //! assert_eq!(answer.number, 0);
 //! assert_eq!(trace[..answer.count], [0xF100_0000, 0x4100_0002, 0x0100_1234]);
 //! ```
@@ -45,8 +47,9 @@ impl Check {
 #[derive(Clone, Copy, PartialEq, Eq, Debug)]
 pub struct Answer {
     /// 0 done; 1 the table has a reason; 2 the state does not fit; 3 the trace
-    /// is shorter than B; 4 the event word is malformed; 5 no such thing; 6 the
-    /// thing has another owner.
+    /// is shorter than B; 4 the event word is malformed; then, tried before 5,
+    /// 8 an outcome word is above 1; 5 no such thing; 6 the thing has another
+    /// owner.
     pub number: u32,
     /// How many words were written at the front of the trace; 0 if refused.
     pub count: usize,
@@ -99,6 +102,7 @@ mod c {
     // As library/herringcart.h declares them. A slice is lent as its pointer
     // and its length in words.
     unsafe extern "C" {
+        pub safe fn herringcart_version() -> u32;
         pub fn herringcart_check_table(
             table: *const u32,
             table_words: usize,
@@ -125,6 +129,8 @@ mod c {
             state_words: usize,
             trace: *mut u32,
             trace_words: usize,
+            outcomes: *const u32,
+            outcome_words: usize,
             event: u32,
             count: *mut usize,
         ) -> u32;
@@ -149,6 +155,24 @@ mod c {
 
 // The calls always write these; were one not to, no 0 may hide it.
 const UNWRITTEN: (usize, u32) = (usize::MAX, u32::MAX);
+
+/// The version that this wrapper's declarations are of, as `version` gives the
+/// archive's.
+pub const VERSION: u32 =
+    65536 * number(env!("CARGO_PKG_VERSION_MAJOR")) + number(env!("CARGO_PKG_VERSION_MINOR"));
+
+const fn number(text: &str) -> u32 {
+    match u32::from_str_radix(text, 10) {
+        Ok(number) => number,
+        Err(_) => panic!("cargo gives a version in decimal"),
+    }
+}
+
+/// The version of the archive that is linked, major * 65536 + minor. Where it is
+/// not `VERSION`, the calls may take other arguments: make none.
+pub fn version() -> u32 {
+    c::herringcart_version()
+}
 
 /// Checks a table: its first reason and place, or 0 and B.
 pub fn check_table(table: &[u32]) -> Check {
@@ -183,7 +207,18 @@ pub fn check_state(table: &[u32], state: &[u32]) -> u32 {
 
 /// Takes one event. Done, the state is the next one and the trace's first
 /// `count` words are new; refused, no word has changed.
-pub fn take_event(table: &[u32], state: &mut [u32], trace: &mut [u32], event: u32) -> Answer {
+///
+/// `outcomes` says how its outside calls end, 0 good and 1 failed. In a table of
+/// edition 2 every outside call takes the next word, in the order in which they
+/// run, and past the last word is good; a failed call with abort stops the list
+/// that holds it, and an outer list goes on. A table of edition 1 takes none.
+pub fn take_event(
+    table: &[u32],
+    state: &mut [u32],
+    trace: &mut [u32],
+    outcomes: &[u32],
+    event: u32,
+) -> Answer {
     let (mut count, _) = UNWRITTEN;
     // SAFETY: see above; count is a local of its own.
     let number = unsafe {
@@ -194,6 +229,8 @@ pub fn take_event(table: &[u32], state: &mut [u32], trace: &mut [u32], event: u3
             state.len(),
             trace.as_mut_ptr(),
             trace.len(),
+            outcomes.as_ptr(),
+            outcomes.len(),
             event,
             &mut count,
         )
@@ -202,9 +239,10 @@ pub fn take_event(table: &[u32], state: &mut [u32], trace: &mut [u32], event: u3
 }
 
 /// Plays events one after the other, table and state checked once, until none
-/// is left, one is refused, or fewer than B trace words are free. What was
-/// taken stands in state and trace; the event that ended it changed nothing.
-/// A play that ends with `TraceFull` is resumed with `&events[taken..]`.
+/// is left, one is refused, or fewer than B trace words are free. No outcomes
+/// are lent: every outside call is good. What was taken stands in state and
+/// trace; the event that ended it changed nothing. A play that ends with
+/// `TraceFull` is resumed with `&events[taken..]`.
 pub fn play(table: &[u32], state: &mut [u32], trace: &mut [u32], events: &[u32]) -> Played {
     let (mut taken, mut count) = (UNWRITTEN.0, UNWRITTEN.0);
     // SAFETY: see above; taken and count are locals of their own.

@@ -17,7 +17,7 @@ const UNTOUCHED: u32 = 0x5555_5555;
 /// Takes one event with B trace words lent; gives the answer and the trace.
 fn take(state: &mut [u32], event: u32) -> (Answer, [u32; 3]) {
     let mut trace = [UNTOUCHED; 3];
-    (take_event(&TABLE, state, &mut trace, event), trace)
+    (take_event(&TABLE, state, &mut trace, &[], event), trace)
 }
 
 fn quiet(state: &mut [u32], events: &[u32]) {
@@ -65,10 +65,10 @@ fn the_marked_refusals_change_nothing() {
         assert_eq!(take(&mut state, event), (Answer { number, count: 0 }, [UNTOUCHED; 3]));
     }
     let mut short = [UNTOUCHED; 2];
-    let answer = take_event(&TABLE, &mut state, &mut short, REQUEST);
+    let answer = take_event(&TABLE, &mut state, &mut short, &[], REQUEST);
     assert_eq!((answer, short), (Answer { number: 3, count: 0 }, [UNTOUCHED; 2]));
-    assert_eq!(take_event(&TABLE[..11], &mut state, &mut short, REQUEST).number, 1);
-    assert_eq!(take_event(&TABLE, &mut state[..3], &mut short, REQUEST).number, 2);
+    assert_eq!(take_event(&TABLE[..11], &mut state, &mut short, &[], REQUEST).number, 1);
+    assert_eq!(take_event(&TABLE, &mut state[..3], &mut short, &[], REQUEST).number, 2);
     assert_eq!(state, [0; 4]);
 }
 
