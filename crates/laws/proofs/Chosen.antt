@@ -11,8 +11,8 @@ use borrow.Author.Tests.{ltb-true, ltb-false, eqb-true, eqb-false, eq-eqb, ne-eq
 use Rattle.rulebook.specs.Words.{until}
 use Rattle.rulebook.specs.Table.{rules, lists, deferred, nestedOnly, ruleExpression, listOwner, firstItem, itemCount, triggered, noList}
 use Rattle.rulebook.specs.Expressions.{deepest, mentions}
-use Rattle.rulebook.specs.Lists.{Run, start, emit, resultIn, previousIn, listFor, choice, choiceIn, stops, runItem, runItems, runList}
-use Rattle.rulebook.specs.Arbitration.{unmarkPorts, storeResults, evaluated, chooses, chosen, order, runChosen, decide, arbitrate}
+use Rattle.rulebook.specs.Lists.{Run, start, emit, visit, resultIn, previousIn, listFor, choice, choiceIn, stops, runItem, runItems, runList}
+use Rattle.rulebook.specs.Arbitration.{unmarkPorts, storeResults, ruleVisits, evaluated, chooses, chosen, order, runChosen, decide, arbitrate}
 use Rattle.rulebook.specs.Events.{eventKind, eventIndex, eventValue, eventTick, eventMode, eventRequest, eventWakeup, request, arbitrateMarked, tick, happen}
 use Rattle.laws.specs.Facts.{Facts}
 use Rattle.laws.specs.Sequence.{Before, Each, InOrder, times}
@@ -23,7 +23,7 @@ use Rattle.laws.proofs.Walks.{any-at, any-some}
 use Rattle.laws.proofs.Fields.{digit-small}
 use Rattle.laws.proofs.Cases.{if-chosen, if-not}
 use Rattle.laws.proofs.Order.{order-there, once, in-order}
-use Rattle.laws.proofs.Frame.{afresh, framed-words, framed-until, item-framed, list-framed}
+use Rattle.laws.proofs.Frame.{afresh, over, framed-words, framed-until, item-framed, list-framed, chosen-framed}
 use Rattle.laws.proofs.Happen.{happen-cases}
 
 -- Those members of a list that c holds of, in its order.
@@ -157,10 +157,12 @@ module _ (t : List ℕ) (f : Facts t) (q : ℕ → Bool) (os s : List ℕ) where
       let c = chosen t q u in
       let x = start os (storeResults t q u) in
       let ls = kept c (order t) in
-      let is : runChosen t c (order t) x ≡ runAll t ls x = runs-kept t c (order t) x in
+      -- what the rules' evaluations have visited changes neither state nor words
+      let is : arbitrate t q os s ≡ over (visit (ruleVisits t q u) x) (runAll t ls x) =
+      chosen-framed t c (order t) (visit (ruleVisits t q u) x) ∙ ap (over (visit (ruleVisits t q u) x)) (runs-kept t c (order t) x) in
       let one : (l : ℕ) → Chosen t q u l → times l ls ≡ 1 = λ l h. kept-times c l (order t) (chosen-test t f q u l h) ∙ once t l (h .list) in
       let b = behind t ls x in
-      let ws : WrittenBy t ls (runChosen t c (order t) x .words) = rw (ap (λ (y : Run). y .words) is, b .words) (b .written) in
+      let ws : WrittenBy t ls (arbitrate t q os s .words) = rw (ap (λ (y : Run). y .words) is, b .words) (b .written) in
       record {
         ran = ls;
         ordered = kept-in-order t c (order t) (in-order t);

@@ -3,13 +3,14 @@
 use mathlib.Core.Path.{_≡_, refl, sym, _∙_, ap}
 use mathlib.Core.Bool.{Bool, true, false, _||_, or-false, or-true, or-assoc}
 use mathlib.Core.List.{List, [], _∷_, _++_, append-nil, append-assoc}
-use Prim.Native.Nat.{ℕ, zero, suc}
+use Prim.Native.Nat.{ℕ, zero, suc, _+_}
+use native.Mathlib.Nat.{zero-add, add-zero, add-assoc}
 use lib.Dec.{eqb}
 use Rattle.rulebook.specs.Words.{until}
 use Rattle.rulebook.specs.Table.{noList, listOwner, firstItem, itemCount, itemKind, itemA, itemRule}
 use Rattle.rulebook.specs.State.{undefinedResult}
-use Rattle.rulebook.specs.Lists.{Run, start, become, emit, tooDeep, leave, traceWord, traceListStart, effect, unread, act, stops, unready, resultIn}
-use Rattle.rulebook.specs.Lists.{choiceIn, setResult, judge}
+use Rattle.rulebook.specs.Lists.{Run, start, become, emit, tooDeep, leave, visit, traceWord, traceListStart, effect, unread, act, stops, unready, resultIn}
+use Rattle.rulebook.specs.Lists.{visitsIn, choiceIn, setResult, judge}
 use Rattle.rulebook.specs.Lists.{runChoice, runRule, runItem, runItems, runList}
 use Rattle.rulebook.specs.Arbitration.{runIf, runChosen}
 use Rattle.laws.proofs.Tests.{split}
@@ -22,7 +23,8 @@ afresh x = start (x .outcomes) (x .state)
 
 -- run y, with what x has written in front
 abbrev pub over : Run → Run → Run
-over x y = record { state = y .state; words = x .words ++ y .words; deep = x .deep || y .deep; outcomes = y .outcomes }
+over x y =
+    record { state = y .state; words = x .words ++ y .words; deep = x .deep || y .deep; outcomes = y .outcomes; visits = x .visits + y .visits }
 
 abbrev pub Framed : (Run → Run) → Type 0
 Framed f = (x : Run) → f x ≡ over x (f (afresh x))
@@ -33,19 +35,23 @@ framed-words h x = ap (λ (y : Run). y .words) (h x)
 -- nothing done, a word written with the state and the outcomes changed by what they are, a list too deep
 
 pub framed-none : Framed (λ x. x)
-framed-none x = rw (append-nil, or-false)
+framed-none x = rw (append-nil, or-false, add-zero)
 
 pub framed-put : (e : List ℕ → List ℕ) (w : List ℕ → ℕ) (u : List ℕ → List ℕ)
     → Framed (λ x. leave (u (x .outcomes)) (become (e (x .state)) (emit (w (x .state)) x)))
-framed-put e w u x = rw or-false
+framed-put e w u x = rw (or-false, add-zero)
+
+-- a word written and a number of visits made, both by what the state is, which is changed
+framed-judged : (e : List ℕ → List ℕ) (w n : List ℕ → ℕ) → Framed (λ x. visit (n (x .state)) (become (e (x .state)) (emit (w (x .state)) x)))
+framed-judged e w n x = rw (or-false, zero-add)
 
 framed-deep : Framed tooDeep
-framed-deep x = rw (append-nil, or-true)
+framed-deep x = rw (append-nil, or-true, add-zero)
 
 -- one after the other
 
 over-over : (x y z : Run) → over (over x y) z ≡ over x (over y z)
-over-over x y z = rw (append-assoc, or-assoc)
+over-over x y z = rw (append-assoc, or-assoc, add-assoc)
 
 pub framed-then : (f g : Run → Run) → Framed f → Framed g → Framed (λ x. g (f x))
 framed-then f g a b x =
@@ -83,7 +89,7 @@ module _ (t : List ℕ) (below : ℕ → Run → Run) (h : (l : ℕ) → Framed 
 
   judge-framed : (r : ℕ) → Framed (judge t o r)
   unfolding judge
-  judge-framed r = framed-put (λ s. setResult t r (resultIn t s r) s) (λ s. traceWord itemRule o r (resultIn t s r)) (λ os. os)
+  judge-framed r = framed-judged (λ s. setResult t r (resultIn t s r) s) (λ s. traceWord itemRule o r (resultIn t s r)) (λ s. visitsIn t s r)
 
   pub choice-framed : (l : ℕ) → Framed (runChoice below l)
   choice-framed l =

@@ -20,6 +20,7 @@ pub mod Happen
 pub mod FitEvents
 pub mod Steps
 pub mod Play
+pub mod Visits
 pub mod Chains
 pub mod Chosen
 pub mod Marks

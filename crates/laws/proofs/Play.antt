@@ -64,11 +64,11 @@ module _ (t s : List ℕ) (n : refusedState t s ≡ 0 → ⊥) where
 
 -- Nothing in front of a play, and two parts in front of it.
 
-pub onto-none : (p : Play) → onto 0 [] p ≡ p
-onto-none p = rw zero-add
+pub onto-none : (p : Play) → onto 0 [] 0 p ≡ p
+onto-none p = rw (zero-add (p .taken), zero-add (p .visits))
 
-pub onto-onto : (a b : ℕ) (xs ys : List ℕ) (p : Play) → onto a xs (onto b ys p) ≡ onto (a + b) (xs ++ ys) p
-onto-onto a b xs ys p = rw (append-assoc, add-assoc)
+pub onto-onto : (a b : ℕ) (xs ys : List ℕ) (v w : ℕ) (p : Play) → onto a xs v (onto b ys w p) ≡ onto (a + b) (xs ++ ys) (v + w) p
+onto-onto a b xs ys v w p = rw (append-assoc, add-assoc a b (p .taken), add-assoc v w (p .visits))
 
 -- A single call, with table and state in order: full, refused or done.
 
@@ -132,7 +132,8 @@ module _ (t : List ℕ) (ok : accepted t ≡ true) where
   unfolding playOn goesOn
   plays-refused e es s room fit h n = rw (step-refused t s room [] e ok fit h n, ne-eqb _ 0 n)
 
-  pub plays-taken : (e : ℕ) (es s : List ℕ) (room : ℕ) → Taken e s room → playOn t (e ∷ es) s room ≡ onto 1 (happen t e [] s .words) (later e es s room)
+  pub plays-taken : (e : ℕ) (es s : List ℕ) (room : ℕ) → Taken e s room
+      → playOn t (e ∷ es) s room ≡ onto 1 (happen t e [] s .words) (happen t e [] s .visits) (later e es s room)
   unfolding playOn goesOn
   plays-taken e es s room k = rw (step-done t s room [] e ok (k .state) (k .enough) (k .event), none-heeded t)
 
@@ -144,7 +145,7 @@ module _ (t : List ℕ) (ok : accepted t ≡ true) where
       → P (e ∷ es) s room (ending (refusedEvent t [] e) s))
       → ((e : ℕ) (es s : List ℕ) (room : ℕ) → Taken e s room
       → P es (happen t e [] s .state) (room - length (happen t e [] s .words)) (later e es s room)
-      → P (e ∷ es) s room (onto 1 (happen t e [] s .words) (later e es s room)))
+      → P (e ∷ es) s room (onto 1 (happen t e [] s .words) (happen t e [] s .visits) (later e es s room)))
       → (es s : List ℕ) (room : ℕ) → fits t s ≡ true → P es s room (playOn t es s room)
   play-cases P none full refused taken [] s room fit = rw plays-none (none s room fit)
   play-cases P none full refused taken (e ∷ es) s room fit =
@@ -236,10 +237,11 @@ module _ (t : List ℕ) (ok : accepted t ≡ true) where
 
   plays-more : (e : ℕ) (es s : List ℕ) (room more : ℕ) → Taken e s room
       → playOn t (e ∷ es) s (room + more)
-      ≡ onto 1 (happen t e [] s .words) (playOn t es (happen t e [] s .state) (room - length (happen t e [] s .words) + more))
+      ≡ onto 1 (happen t e [] s .words) (happen t e [] s .visits)
+      (playOn t es (happen t e [] s .state) (room - length (happen t e [] s .words) + more))
   plays-more e es s room more k =
       plays-taken e es s (room + more) (takes e s (room + more) (k .state) (let h = k .enough in omega arith) (k .event))
-      ∙ ap (onto 1 (happen t e [] s .words)) (later-more e es s room more k)
+      ∙ ap (onto 1 (happen t e [] s .words) (happen t e [] s .visits)) (later-more e es s room more k)
 
   pub roomier : (more : ℕ) (es s : List ℕ) (room : ℕ) → fits t s ≡ true → (playOn t es s room .answer ≡ 3 → ⊥)
       → playOn t es s (room + more) ≡ playOn t es s room
@@ -248,25 +250,25 @@ module _ (t : List ℕ) (ok : accepted t ≡ true) where
       (λ s room f n. plays-none s (room + more))
       (λ e es s room f h n. absurd (n refl))
       (λ e es s room f h n a b m. plays-refused e es s (room + more) f (omega arith) n)
-      (λ e es s room k i n. plays-more e es s room more k ∙ ap (onto 1 (happen t e [] s .words)) (i n))
+      (λ e es s room k i n. plays-more e es s room more k ∙ ap (onto 1 (happen t e [] s .words) (happen t e [] s .visits)) (i n))
 
   -- what is left of es behind play p, from its state on, in so much room
   abbrev pub rest : List ℕ → Play → ℕ → Play
   rest es p room = playOn t (drop (p .taken) es) (p .state) (room - length (p .words))
 
   pub resumed : (more : ℕ) (es s : List ℕ) (room : ℕ) → fits t s ≡ true
-      → (let p = playOn t es s room in p .answer ≡ 3 → playOn t es s (room + more) ≡ onto (p .taken) (p .words) (rest es p (room + more)))
+      → (let p = playOn t es s room in p .answer ≡ 3 → playOn t es s (room + more) ≡ onto (p .taken) (p .words) (p .visits) (rest es p (room + more)))
   resumed more =
-      play-cases (λ es s room p. p .answer ≡ 3 → playOn t es s (room + more) ≡ onto (p .taken) (p .words) (rest es p (room + more)))
+      play-cases (λ es s room p. p .answer ≡ 3 → playOn t es s (room + more) ≡ onto (p .taken) (p .words) (p .visits) (rest es p (room + more)))
       (λ s room f z. absurd (omega arith))
       (λ e es s room f h z. rw sub-zero (sym (onto-none _)))
       (λ e es s room f h n a b z. absurd (omega arith))
       (λ e es s room k i z.
-      let ws = happen t e [] s .words in let p = later e es s room in
+      let ws = happen t e [] s .words in let v = happen t e [] s .visits in let p = later e es s room in
       plays-more e es s room more k
-      ∙ ap (onto 1 ws) (i z)
-      ∙ onto-onto 1 (p .taken) ws (p .words) _
-      ∙ rw (one-add, length-append) (ap (λ (n : ℕ). onto (suc (p .taken)) (ws ++ p .words) (playOn t (drop (p .taken) es) (p .state) n))
+      ∙ ap (onto 1 ws v) (i z)
+      ∙ onto-onto 1 (p .taken) ws (p .words) v (p .visits) _
+      ∙ rw (one-add, length-append) (ap (λ (n : ℕ). onto (suc (p .taken)) (ws ++ p .words) (v + p .visits) (playOn t (drop (p .taken) es) (p .state) n))
       (let a = k .few in let b = k .enough in omega arith)))
 
   -- B trace words an event are enough
@@ -280,9 +282,10 @@ module _ (t : List ℕ) (ok : accepted t ≡ true) where
 
   -- the events taken alone are played so too, to their end
   pub taken-alone : (es s : List ℕ) (room : ℕ) → fits t s ≡ true → (let p = playOn t es s room in
-      playOn t (take (p .taken) es) s room ≡ record { answer = 0; taken = p .taken; state = p .state; words = p .words })
+      playOn t (take (p .taken) es) s room ≡ record { answer = 0; taken = p .taken; state = p .state; words = p .words; visits = p .visits })
   taken-alone =
-      play-cases (λ es s room p. playOn t (take (p .taken) es) s room ≡ record { answer = 0; taken = p .taken; state = p .state; words = p .words })
+      play-cases (λ es s room p. playOn t (take (p .taken) es) s room
+      ≡ record { answer = 0; taken = p .taken; state = p .state; words = p .words; visits = p .visits })
       (λ s room f. plays-none s room)
       (λ e es s room f h. plays-none s room)
       (λ e es s room f h n a b. plays-none s room)
@@ -317,19 +320,19 @@ module _ (t : List ℕ) (ok : accepted t ≡ true) where
 
   pub goes-on : (ys xs s : List ℕ) (room : ℕ) → fits t s ≡ true
       → (let p = playOn t xs s room in p .answer ≡ 0
-      → playOn t (xs ++ ys) s room ≡ onto (p .taken) (p .words) (playOn t ys (p .state) (room - length (p .words))))
+      → playOn t (xs ++ ys) s room ≡ onto (p .taken) (p .words) (p .visits) (playOn t ys (p .state) (room - length (p .words))))
   goes-on ys =
       play-cases
-      (λ xs s room p. p .answer ≡ 0 → playOn t (xs ++ ys) s room ≡ onto (p .taken) (p .words) (playOn t ys (p .state) (room - length (p .words))))
+      (λ xs s room p. p .answer ≡ 0 → playOn t (xs ++ ys) s room ≡ onto (p .taken) (p .words) (p .visits) (playOn t ys (p .state) (room - length (p .words))))
       (λ s room f z. rw sub-zero (sym (onto-none _)))
       (λ e xs s room f h z. absurd (omega arith))
       (λ e xs s room f h n a b z. absurd (omega arith))
       (λ e xs s room k i z.
-      let ws = happen t e [] s .words in let p = later e xs s room in
+      let ws = happen t e [] s .words in let v = happen t e [] s .visits in let p = later e xs s room in
       plays-taken e (xs ++ ys) s room k
-      ∙ ap (onto 1 ws) (i z)
-      ∙ onto-onto 1 (p .taken) ws (p .words) _
-      ∙ ap (λ (n : ℕ). onto (1 + p .taken) (ws ++ p .words) (playOn t ys (p .state) n)) (rw length-append (omega arith)))
+      ∙ ap (onto 1 ws v) (i z)
+      ∙ onto-onto 1 (p .taken) ws (p .words) v (p .visits) _
+      ∙ ap (λ (n : ℕ). onto (1 + p .taken) (ws ++ p .words) (v + p .visits) (playOn t ys (p .state) n)) (rw length-append (omega arith)))
 
   pub stops : (ys xs s : List ℕ) (room : ℕ) → fits t s ≡ true → (playOn t xs s room .answer ≡ 0 → ⊥) → playOn t (xs ++ ys) s room ≡ playOn t xs s room
   stops ys =
@@ -337,4 +340,4 @@ module _ (t : List ℕ) (ok : accepted t ≡ true) where
       (λ s room f n. absurd (n refl))
       (λ e xs s room f h n. plays-full e (xs ++ ys) s room f h)
       (λ e xs s room f h n a b m. plays-refused e (xs ++ ys) s room f h n)
-      (λ e xs s room k i n. plays-taken e (xs ++ ys) s room k ∙ ap (onto 1 (happen t e [] s .words)) (i n))
+      (λ e xs s room k i n. plays-taken e (xs ++ ys) s room k ∙ ap (onto 1 (happen t e [] s .words) (happen t e [] s .visits)) (i n))

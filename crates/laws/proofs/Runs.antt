@@ -11,11 +11,11 @@ use Rattle.rulebook.specs.Words.{word}
 use Rattle.rulebook.specs.Table.{ports, networks, rules, lists, items, portKind, portEvent, portTimer, reload, noList, listOwner, firstItem, itemCount}
 use Rattle.rulebook.specs.Table.{itemKind, itemA, itemB, itemList, itemRule}
 use Rattle.rulebook.specs.State.{timerStopped, timerStarted, undefinedResult}
-use Rattle.rulebook.specs.Lists.{Run, start, emit, tooDeep, traceWord, traceListStart, setPort, networkIn, asking, setNetwork, effect, act, stops}
+use Rattle.rulebook.specs.Lists.{Run, start, visit, emit, tooDeep, traceWord, traceListStart, setPort, networkIn, asking, setNetwork, effect, act, stops}
 use Rattle.rulebook.specs.Lists.{unready, choiceIn}
 use Rattle.rulebook.specs.Lists.{choice, setResult, judge, runChoice, runRule, runItem, runItems, runList}
-use Rattle.rulebook.specs.Arbitration.{unmarked, unmarkPort, unmarkPorts, evaluated, storeResult, storeResults, chosen, order, runIf, runChosen, decide}
-use Rattle.rulebook.specs.Arbitration.{arbitrate}
+use Rattle.rulebook.specs.Arbitration.{unmarked, unmarkPort, unmarkPorts, evaluated, storeResult, storeResults, ruleVisits, chosen, order}
+use Rattle.rulebook.specs.Arbitration.{runIf, runChosen, decide, arbitrate}
 use Rattle.laws.specs.Facts.{Facts}
 use Rattle.laws.proofs.Tests.{split}
 use Rattle.laws.proofs.Walks.{each-keeps, until-keeps}
@@ -88,7 +88,7 @@ module _ (t : List ℕ) (f : Facts t) (Q : Run → Type 0) (k : KeptByActs t Q) 
       chosen-keep c ls (runIf t c l x) (e .1)
       (split (c l) (λ h. rw (if-chosen t c l x h) (list-keeps _ l x (e .0) q)) (λ h. rw (if-not t c l x h) q))
 
-  pub decide-keeps : (q : ℕ → Bool) (os s : List ℕ) → Q (start os (storeResults t q s)) → Q (decide t q os s)
+  pub decide-keeps : (q : ℕ → Bool) (os s : List ℕ) → Q (visit (ruleVisits t q s) (start os (storeResults t q s))) → Q (decide t q os s)
   unfolding decide
   decide-keeps q os s h = chosen-keep (chosen t q s) (order t) _ (order-there t) h
 

@@ -129,7 +129,7 @@ module _ (t : List ℕ) (f : Facts t) where
 
 -- what a done event gives
 abbrev pub done : List ℕ → List ℕ → ℕ → List ℕ → Result
-done t os e s = record { answer = 0; state = happen t e (heeded t os) s .state; words = happen t e (heeded t os) s .words }
+done t os e s = let x = happen t e (heeded t os) s in record { answer = 0; state = x .state; words = x .words; visits = x .visits }
 
 pub step-cases {ℓ} : (P : Result → Type ℓ) (t s : List ℕ) (room : ℕ) (os : List ℕ) (e : ℕ)
     → ((k : ℕ) → 1 ≤ k → (k ≡ 7 → ⊥) → P (refusal k s))
@@ -154,9 +154,10 @@ pub never-seven : (t s : List ℕ) (room : ℕ) (os : List ℕ) (e : ℕ) → st
 never-seven t s room os e = step-cases (λ r. r .answer ≡ 7 → ⊥) t s room os e (λ k a b. b) (λ c w z. omega arith)
 
 pub refusal-changes-nothing : (t s : List ℕ) (room : ℕ) (os : List ℕ) (e : ℕ) → (step t s room os e .answer ≡ 0 → ⊥)
-    → (step t s room os e .state ≡ s) × (step t s room os e .words ≡ [])
+    → (step t s room os e .state ≡ s) × (step t s room os e .words ≡ []) × (step t s room os e .visits ≡ 0)
 refusal-changes-nothing t s room os e =
-    step-cases (λ r. (r .answer ≡ 0 → ⊥) → (r .state ≡ s) × (r .words ≡ [])) t s room os e (λ k a b n. (refl, refl)) (λ c w n. absurd (n refl))
+    step-cases (λ r. (r .answer ≡ 0 → ⊥) → (r .state ≡ s) × (r .words ≡ []) × (r .visits ≡ 0)) t s room os e (λ k a b n. (refl, refl, refl))
+    (λ c w n. absurd (n refl))
 
 -- Q-9: "State once, over both editions, that the trace fits in B words"
 pub words-within : (t s : List ℕ) (room : ℕ) (os : List ℕ) (e : ℕ) → accepted t ≡ true → length (step t s room os e .words) ≤ bound t

@@ -3,6 +3,7 @@ pub mod Acceptance
 pub mod Facts
 pub mod Sequence
 pub mod Chosen
+pub mod Visits
 pub mod Callable
 pub mod Cleared
 pub mod Levels

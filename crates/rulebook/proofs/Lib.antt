@@ -5,4 +5,5 @@ pub mod Marked
 pub mod OneStep
 pub mod Play
 pub mod Outcomes
+pub mod Visits
 pub mod Width

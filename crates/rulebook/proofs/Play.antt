@@ -1,5 +1,5 @@
 -- One-step laws of a play: when it is full, what a refused event leaves, where the next event's words stand. Assumes nothing.
-use Prim.Native.Nat.{ℕ, _-_, _<_}
+use Prim.Native.Nat.{ℕ, _+_, _-_, _<_}
 use mathlib.Core.Path.{_≡_}
 use mathlib.Core.Bool.{true}
 use mathlib.Core.List.{List, [], _∷_, _++_}
@@ -23,7 +23,8 @@ module _ (t : List ℕ) (e : ℕ) (es s : List ℕ) (room : ℕ) where
 
   -- "the joined trace": the words of what follows stand behind this event's, in the room that it left
   pub taken-goes-on : step t s room [] e .answer ≡ 0
-      → playOn t (e ∷ es) s room ≡ onto 1 (step t s room [] e .words) (playOn t es (step t s room [] e .state) (room - length (step t s room [] e .words)))
+      → playOn t (e ∷ es) s room ≡ onto 1 (step t s room [] e .words) (step t s room [] e .visits)
+      (playOn t es (step t s room [] e .state) (room - length (step t s room [] e .words)))
   unfolding playOn goesOn
   taken-goes-on z = rw z
 
@@ -32,3 +33,10 @@ module _ (t : List ℕ) (e : ℕ) (es s : List ℕ) (room : ℕ) where
       ≡ step t s room [] e .words ++ playOn t es (step t s room [] e .state) (room - length (step t s room [] e .words)) .words
   unfolding playOn goesOn
   words-behind z = rw z
+
+  -- Q-10: the visits are added up
+  pub visits-behind : step t s room [] e .answer ≡ 0
+      → playOn t (e ∷ es) s room .visits
+      ≡ step t s room [] e .visits + playOn t es (step t s room [] e .state) (room - length (step t s room [] e .words)) .visits
+  unfolding playOn goesOn
+  visits-behind z = rw z

@@ -4,11 +4,11 @@ use mathlib.Core.Bool.{Bool, true, false, cond, _&&_, not}
 use mathlib.Core.List.{List, [], _∷_, _++_}
 use lib.ListN.{set}
 use lib.Dec.{eqb}
-use Rattle.rulebook.specs.Words.{word, any, each}
+use Rattle.rulebook.specs.Words.{word, any, sum, each}
 use Rattle.rulebook.specs.Table.{ports, rules, lists, nestedOnly, ruleExpression, priority}
 use Rattle.rulebook.specs.Expressions.{deepest, mentions}
 use Rattle.rulebook.specs.State.{definedOf, valueOf, remainingOf, packPort}
-use Rattle.rulebook.specs.Lists.{Run, start, unready, resultIn, choiceIn, setResult, runList}
+use Rattle.rulebook.specs.Lists.{Run, start, visit, unready, resultIn, visitsIn, choiceIn, setResult, runList}
 
 -- "The arbitrated ports' marks, and no others, are cleared first."
 
@@ -32,6 +32,13 @@ storeResult t q s r stored = cond (evaluated t q s r) (setResult t r (resultIn t
 
 unfoldable pub storeResults : List ℕ → (ℕ → Bool) → List ℕ → List ℕ
 storeResults t q s = each 0 (rules t) (storeResult t q s) s
+
+-- Q-10: the words that these evaluations visit, whether or not a list is chosen by them; a rule that is not evaluated visits none
+unfoldable pub visitsBy : List ℕ → (ℕ → Bool) → List ℕ → ℕ → ℕ
+visitsBy t q s r = cond (evaluated t q s r) (visitsIn t s r) 0
+
+unfoldable pub ruleVisits : List ℕ → (ℕ → Bool) → List ℕ → ℕ
+ruleVisits t q s = sum 0 (rules t) (visitsBy t q s)
 
 unfoldable pub chooses : List ℕ → (ℕ → Bool) → List ℕ → ℕ → ℕ → Bool
 chooses t q s l r = evaluated t q s r && eqb (choiceIn t s r) l
@@ -62,7 +69,7 @@ runChosen t c [] x = x
 runChosen t c (l ∷ ls) x = runChosen t c ls (runIf t c l x)
 
 unfoldable pub decide : List ℕ → (ℕ → Bool) → List ℕ → List ℕ → Run
-decide t q os s = runChosen t (chosen t q s) (order t) (start os (storeResults t q s))
+decide t q os s = runChosen t (chosen t q s) (order t) (visit (ruleVisits t q s) (start os (storeResults t q s)))
 
 unfoldable pub arbitrate : List ℕ → (ℕ → Bool) → List ℕ → List ℕ → Run
 arbitrate t q os s = decide t q os (unmarkPorts t q s)

@@ -1,7 +1,7 @@
--- Expressions: how deep they nest, which ports they mention, what they give.
+-- Expressions: how deep they nest, which ports they mention, what they give, and how many words that visits.
 -- The `right` of a NOT is a zero field and no argument. Each recursion is one level, over `below` for the arguments, and then d
 -- levels.
-use Prim.Native.Nat.{ℕ, zero, suc}
+use Prim.Native.Nat.{ℕ, zero, suc, _+_}
 use mathlib.Core.Bool.{Bool, true, false, cond, _&&_, _||_, not, xor}
 use mathlib.Core.List.{List}
 use lib.Dec.{ltb, eqb}
@@ -85,3 +85,30 @@ expressionHolds t v below e =
 unfoldable pub holds : ℕ → List ℕ → (ℕ → ℕ) → ℕ → Bool
 holds zero t v e = false
 holds (suc d) t v e = expressionHolds t v (holds d t v) e
+
+-- Visits. Q-10: "the number of expression words visited .., counted left before right with the skipping of Q-3". A condition is 1 visit; an
+-- operator 1 and those of its left side, and those of its right side where the left one has not settled it; a NOT 1 and those of its left.
+-- An expression that is come to twice is visited twice. Only evaluation visits: the depth and the mention of ports, undefined ones
+-- too, are asked of the table and the state without evaluating, and what they read does not count.
+
+-- Q-3: "Once the left side settles an AND, OR or NAND, skip the right side": true settles an OR, false an AND or a NAND, neither an XOR
+unfoldable pub settled : ℕ → Bool → Bool
+settled kind a =
+    cond (eqb kind operatorXor) false
+    (cond (eqb kind operatorOr) a
+    (not a))
+
+-- a is what the left side gives
+unfoldable pub skipsRight : List ℕ → ℕ → Bool → Bool
+skipsRight t e a = isNot t e || settled (expressionKind t e) a
+
+unfoldable pub expressionVisited : List ℕ → (ℕ → Bool) → (ℕ → ℕ) → ℕ → ℕ
+expressionVisited t gives below e =
+    elim (operator t e) [
+      | true ↦ 1 + below (left t e) + cond (skipsRight t e (gives (left t e))) 0 (below (right t e))
+      | false ↦ 1
+    ]
+
+unfoldable pub visited : ℕ → List ℕ → (ℕ → ℕ) → ℕ → ℕ
+visited zero t v e = 0
+visited (suc d) t v e = expressionVisited t (holds d t v) (visited d t v) e

@@ -8,32 +8,36 @@ use Rattle.rulebook.specs.Words.{word, inField, until}
 use Rattle.rulebook.specs.Table.{reload, ruleExpression, trueList, falseList, noList}
 use Rattle.rulebook.specs.Table.{listOwner, triggered, firstItem, itemCount, itemKind, abort, itemA, itemB}
 use Rattle.rulebook.specs.Table.{itemCall, itemClear, itemStart, itemStop, itemAsk, itemRule, byItem}
-use Rattle.rulebook.specs.Expressions.{deepest, mentions, holds}
+use Rattle.rulebook.specs.Expressions.{deepest, mentions, holds, visited}
 use Rattle.rulebook.specs.State.{ruleIndex, networkIndex, definedOf, valueOf, timerStopped, timerStarted}
 use Rattle.rulebook.specs.State.{resultOf, undefinedResult, Network, networkOf, packPort, packRule, packNetwork}
 
--- A run so far, x below: the state, the trace words written, whether a list would have started at an eighth level, and the outcome words
--- that no call has read yet.
+-- A run so far, x below: the state, the trace words written, whether a list would have started at an eighth level, the outcome words that
+-- no call has read yet, and how many expression words its evaluations have visited.
 pub record Run : Type 0 where
   pub state : List ℕ
   pub words : List ℕ
   pub deep : Bool
   pub outcomes : List ℕ
+  pub visits : ℕ
 
 abbrev pub start : List ℕ → List ℕ → Run
-start os s = record { state = s; words = []; deep = false; outcomes = os }
+start os s = record { state = s; words = []; deep = false; outcomes = os; visits = 0 }
 
 abbrev pub become : List ℕ → Run → Run
-become s x = record { state = s; words = x .words; deep = x .deep; outcomes = x .outcomes }
+become s x = record { state = s; words = x .words; deep = x .deep; outcomes = x .outcomes; visits = x .visits }
 
 abbrev pub emit : ℕ → Run → Run
-emit w x = record { state = x .state; words = x .words ++ (w ∷ []); deep = x .deep; outcomes = x .outcomes }
+emit w x = record { state = x .state; words = x .words ++ (w ∷ []); deep = x .deep; outcomes = x .outcomes; visits = x .visits }
 
 abbrev pub tooDeep : Run → Run
-tooDeep x = record { state = x .state; words = x .words; deep = true; outcomes = x .outcomes }
+tooDeep x = record { state = x .state; words = x .words; deep = true; outcomes = x .outcomes; visits = x .visits }
 
 abbrev pub leave : List ℕ → Run → Run
-leave os x = record { state = x .state; words = x .words; deep = x .deep; outcomes = os }
+leave os x = record { state = x .state; words = x .words; deep = x .deep; outcomes = os; visits = x .visits }
+
+abbrev pub visit : ℕ → Run → Run
+visit n x = record { state = x .state; words = x .words; deep = x .deep; outcomes = x .outcomes; visits = x .visits + n }
 
 -- "Trace word: kind(4), owner(4) of the list that holds it, a(8), b(16): 15 list start, .. 0 to 4 as the item; 6 .. the rule"
 
@@ -81,8 +85,8 @@ act t o i x =
 unfoldable pub stops : List ℕ → ℕ → Run → Bool
 stops t i x = eqb (itemKind t i) itemCall && eqb (abort t i) 1 && eqb (word (x .outcomes) 0) 1
 
--- A rule r in a state: whether it mentions an undefined port, its result, and the list that it then starts, 255 for none: "its
--- list for that result .. if conditional (triggered 0), or if the result differs from the previous one".
+-- A rule r in a state: whether it mentions an undefined port, its result, the words that finding it visits, and the list that it then
+-- starts, 255 for none: "its list for that result .. if conditional (triggered 0), or if the result differs from the previous one".
 
 unfoldable pub valueIn : List ℕ → ℕ → ℕ
 valueIn s p = valueOf (word s p)
@@ -95,6 +99,9 @@ unready t s r = mentions deepest t (undefinedIn s) (ruleExpression t r)
 
 unfoldable pub resultIn : List ℕ → List ℕ → ℕ → ℕ
 resultIn t s r = cond (holds deepest t (valueIn s) (ruleExpression t r)) 1 0
+
+unfoldable pub visitsIn : List ℕ → List ℕ → ℕ → ℕ
+visitsIn t s r = visited deepest t (valueIn s) (ruleExpression t r)
 
 abbrev pub previousIn : List ℕ → List ℕ → ℕ → ℕ
 previousIn t s r = resultOf (word s (ruleIndex t r))
@@ -114,15 +121,17 @@ setResult t r result s = set s (ruleIndex t r) (packRule result)
 
 -- The cycle: o is the owner of the list that holds the item, `below` runs a list that is named.
 
--- "A rule item evaluates with current values, stores, and runs its list on the same test"; its word 6 stands before its list's
+-- "A rule item evaluates with current values, stores, and runs its list on the same test"; its word 6 stands before its list's. Q-10:
+-- "Rule items count", each time that one evaluates.
 unfoldable pub judge : List ℕ → ℕ → ℕ → Run → Run
 judge t o r x =
-    become (setResult t r (resultIn t (x .state) r) (x .state)) (emit (traceWord itemRule o r (resultIn t (x .state) r)) x)
+    visit (visitsIn t (x .state) r)
+    (become (setResult t r (resultIn t (x .state) r) (x .state)) (emit (traceWord itemRule o r (resultIn t (x .state) r)) x))
 
 unfoldable pub runChoice : (ℕ → Run → Run) → ℕ → Run → Run
 runChoice below l x = elim (eqb l noList) [ true ↦ x | false ↦ below l x ]
 
--- "if a port is undefined it stores and runs nothing"
+-- "if a port is undefined it stores and runs nothing", and evaluates nothing
 unfoldable pub runRule : (ℕ → Run → Run) → List ℕ → ℕ → ℕ → Run → Run
 runRule below t o r x =
     elim (unready t (x .state) r) [

@@ -26,12 +26,12 @@ same [] (y ∷ ys) = false
 same (x ∷ xs) [] = false
 same (x ∷ xs) (y ∷ ys) = eqb x y && same xs ys
 
-unfoldable pub gives : Result → ℕ → List ℕ → List ℕ → Bool
-gives r answer state words = eqb (r .answer) answer && same (r .state) state && same (r .words) words
+unfoldable pub gives : Result → ℕ → List ℕ → List ℕ → ℕ → Bool
+gives r answer state words visits = eqb (r .answer) answer && same (r .state) state && same (r .words) words && eqb (r .visits) visits
 
--- a refusal: the answer, the state as it was, no word
+-- a refusal: the answer, the state as it was, no word, no visit
 unfoldable pub refuses : List ℕ → ℕ → ℕ → Bool
-refuses s e answer = gives (marked s e) answer s []
+refuses s e answer = gives (marked s e) answer s [] 0
 
 unfoldable pub atFresh : List ℕ
 atFresh = freshState table (7 ∷ 7 ∷ 7 ∷ 7 ∷ [])
@@ -54,12 +54,12 @@ afterFive = after afterThree (0 ∷ 0 ∷ 0 ∷ 0 ∷ 0 ∷ [])
 unfoldable pub markedRun : Bool
 markedRun =
     same atFresh (0 ∷ 0 ∷ 0 ∷ 0 ∷ [])
-    && gives (marked atFresh 0x11000500) 0 (0x81400000 ∷ 0 ∷ 0x40000000 ∷ 0x80000000 ∷ []) (0xF1000000 ∷ 0x41000002 ∷ 0x01001234 ∷ [])
-    && gives (marked afterRequest 0) 0 (0x81400000 ∷ 0x80800000 ∷ 0x40000000 ∷ 0x90000005 ∷ []) []
-    && gives (marked afterTick 0x51000000) 0 (0x81400000 ∷ 0xC0C00000 ∷ 0x40000000 ∷ 0xA0080003 ∷ []) []
+    && gives (marked atFresh 0x11000500) 0 (0x81400000 ∷ 0 ∷ 0x40000000 ∷ 0x80000000 ∷ []) (0xF1000000 ∷ 0x41000002 ∷ 0x01001234 ∷ []) 1
+    && gives (marked afterRequest 0) 0 (0x81400000 ∷ 0x80800000 ∷ 0x40000000 ∷ 0x90000005 ∷ []) [] 0
+    && gives (marked afterTick 0x51000000) 0 (0x81400000 ∷ 0xC0C00000 ∷ 0x40000000 ∷ 0xA0080003 ∷ []) [] 0
     && eqb (word afterThree 3) 0x90080005
     && eqb (word afterFive 3) 0x98000000
     && refuses atFresh 0x21000500 4
     && refuses atFresh 0x21000000 5
     && refuses atFresh 0x12000500 6
-    && gives (step table atFresh 2 [] 0x11000500) 3 atFresh []
+    && gives (step table atFresh 2 [] 0x11000500) 3 atFresh [] 0

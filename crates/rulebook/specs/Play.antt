@@ -13,18 +13,20 @@ pub record Play : Type 0 where
   pub taken : ℕ
   pub state : List ℕ
   pub words : List ℕ
+  pub visits : ℕ
 
 -- no event is taken: answer k
 abbrev pub ending : ℕ → List ℕ → Play
-ending k s = record { answer = k; taken = 0; state = s; words = [] }
+ending k s = record { answer = k; taken = 0; state = s; words = []; visits = 0 }
 
--- n events that wrote ws, and then play p
-abbrev pub onto : ℕ → List ℕ → Play → Play
-onto n ws p = record { answer = p .answer; taken = n + p .taken; state = p .state; words = ws ++ p .words }
+-- n events that wrote ws and made v visits, and then play p
+abbrev pub onto : ℕ → List ℕ → ℕ → Play → Play
+onto n ws v p = record { answer = p .answer; taken = n + p .taken; state = p .state; words = ws ++ p .words; visits = v + p .visits }
 
 -- "A refused event ends the play": r is what a single call gives in this room, and `later` plays on from its state in the room left
 unfoldable pub goesOn : Result → ℕ → (List ℕ → ℕ → Play) → Play
-goesOn r room later = cond (eqb (r .answer) 0) (onto 1 (r .words) (later (r .state) (room - length (r .words)))) (ending (r .answer) (r .state))
+goesOn r room later =
+    cond (eqb (r .answer) 0) (onto 1 (r .words) (r .visits) (later (r .state) (room - length (r .words)))) (ending (r .answer) (r .state))
 
 -- The events one after the other, from state s, with so many trace words free. "It stops before an event when fewer than B trace words
 -- are free, says 'trace full' exactly then .. That stop takes the place of answer 3": it is the single call's answer 3 in the room left.

@@ -89,19 +89,20 @@ unfoldable pub refusedEvent : List ℕ → List ℕ → ℕ → ℕ
 refusedEvent t os e = eventFault t os e 0
 
 -- The count that is reported is the number of words. "A refused check ends the call at that point, count 0, state and trace
--- unchanged."
+-- unchanged." Q-10: "the number of expression words visited in one event, .. reported beside the trace count"; "Refusals report 0".
 
 pub record Result : Type 0 where
   pub answer : ℕ
   pub state : List ℕ
   pub words : List ℕ
+  pub visits : ℕ
 
 abbrev pub refusal : ℕ → List ℕ → Result
-refusal k s = record { answer = k; state = s; words = [] }
+refusal k s = record { answer = k; state = s; words = []; visits = 0 }
 
 -- done, unless the run would have started a list at an eighth level, answer 7
 unfoldable pub finish : List ℕ → Run → Result
-finish s r = cond (r .deep) (refusal 7 s) (record { answer = 0; state = r .state; words = r .words })
+finish s r = cond (r .deep) (refusal 7 s) (record { answer = 0; state = r .state; words = r .words; visits = r .visits })
 
 -- done, or refused with a fault
 unfoldable pub conclude : ℕ → List ℕ → Run → Result

@@ -7,7 +7,7 @@ use Prim.Native.Nat.{ℕ}
 use native.Mathlib.Nat.{mod-eq-of-lt}
 use native.Mathlib.Omega.{arith}
 use Rattle.rulebook.specs.Table.{stranger, listOwner}
-use Rattle.rulebook.specs.Lists.{Run, start, become, emit, leave, traceWord}
+use Rattle.rulebook.specs.Lists.{Run, start, become, emit, leave, visit, traceWord}
 use Rattle.laws.proofs.Tests.{split}
 use Rattle.laws.proofs.Fields.{digit-small, trace-owner}
 use Rattle.laws.proofs.Frame.{Framed, framed-words}
@@ -48,6 +48,10 @@ module _ (t : List ℕ) (o : ℕ) where
   pub start-alike : {os₁ os₂ s₁ s₂ : List ℕ} → SameView t o s₁ s₂ → Alike t o os₁ os₂ (start os₁ s₁) (start os₂ s₂)
   unfolding met
   start-alike v = record { view = v; own = refl; met = refl }
+
+  -- visits are nobody's: runs that differ in them alone are alike
+  pub visits-alike : {os₁ os₂ : List ℕ} {x y : Run} (m n : ℕ) → Alike t o os₁ os₂ x y → Alike t o os₁ os₂ (visit m x) (visit n y)
+  visits-alike m n a = record { view = a .view; own = a .own; met = a .met }
 
   -- a stranger's word
   pub emit-hidden : (os : List ℕ) (x : Run) (w : ℕ) → stranger o (traceOwner w) ≡ true → Alike t o os os x (emit w x)

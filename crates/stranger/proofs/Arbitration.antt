@@ -13,8 +13,9 @@ use Rattle.rulebook.specs.Expressions.{deepest, operator, expressionMentions, m
 use Rattle.rulebook.specs.State.{ruleIndex}
 use Rattle.rulebook.specs.Lists.{Run, start, choiceIn, setResult}
 use Rattle.rulebook.specs.Arbitration.{unmarkPort, unmarkPorts, evaluated, storeResult, storeResults, chooses, chosen, order, runIf, runChosen, decide}
-use Rattle.rulebook.specs.Arbitration.{arbitrate}
+use Rattle.rulebook.specs.Arbitration.{visitsBy, ruleVisits, arbitrate}
 use Rattle.laws.specs.Facts.{Facts}
+use Rattle.laws.proofs.Visits.{sum-within}
 use Rattle.laws.proofs.Tests.{split, clash, and-one-false}
 use Rattle.laws.proofs.Walks.{any-some, each-keeps, each-alike}
 use Rattle.laws.proofs.Cases.{if-chosen, if-not}
@@ -26,7 +27,7 @@ use Rattle.stranger.specs.Outcomes.{met}
 use Rattle.stranger.proofs.More.{pick, pick-both, any-same}
 use Rattle.stranger.proofs.View.{same-view-refl, view-around, write-hidden, write-alike, port-word, rule-word}
 use Rattle.stranger.proofs.Outcomes.{leftBy, Told, told-kept}
-use Rattle.stranger.proofs.Alike.{Alike, alike-refl, start-alike, AlikeIf, if-around}
+use Rattle.stranger.proofs.Alike.{Alike, alike-refl, start-alike, visits-alike, AlikeIf, if-around}
 use Rattle.stranger.proofs.Evaluation.{result-alike, choice-alike, evaluated-alike}
 use Rattle.stranger.proofs.Owners.{choice-owned}
 use Rattle.stranger.proofs.Lists.{list-unseen, list-follows}
@@ -120,7 +121,7 @@ module _ (t : List ℕ) (f : Facts t) (o : ℕ) where
     unfolding decide leftBy
     decide-alike os₁ os₂ =
         run-alike os₁ os₂ _ _ (order t) _ _ (order-there t) chosen-alike (record { outcomes = refl }) (record { outcomes = refl })
-        (λ g. start-alike t o store-alike)
+        (λ g. visits-alike t o _ _ (start-alike t o store-alike))
 
   pub arbitrate-alike : (q₁ q₂ : ℕ → Bool) → PortsAgree t o q₁ q₂ → (os₁ os₂ : List ℕ) {s₁ s₂ : List ℕ} → SameView t o s₁ s₂
       → AlikeIf t o os₁ os₂ (arbitrate t q₁ os₁ s₁) (arbitrate t q₂ os₂ s₂)
@@ -151,6 +152,13 @@ module _ (t : List ℕ) where
       (λ e. let r = any-some (chooses t nothing s l) 0 (rules t) e in clash (r .holds) (rw (evaluated-nothing s (r .at))))
       (λ e. e)
 
+  visits-nothing : (s : List ℕ) → ruleVisits t nothing s ≡ 0
+  unfolding ruleVisits visitsBy
+  visits-nothing s =
+      let a =
+      sum-within (visitsBy t nothing s) 0 0 (rules t) (λ r. rw (evaluated-nothing s r) (omega arith)) in
+      omega arith
+
   run-nothing : (s : List ℕ) (ls : List ℕ) (x : Run) → runChosen t (chosen t nothing s) ls x ≡ x
   unfolding runChosen
   run-nothing s [] x = refl
@@ -160,9 +168,10 @@ module _ (t : List ℕ) where
   unfolding arbitrate decide unmarkPorts unmarkPort storeResults storeResult nothing
   arbitrate-nothing os s =
       run-nothing _ (order t) _
-      ∙ ap (start os) (each-keeps (λ x. x ≡ unmarkPorts t nothing s) (storeResult t nothing (unmarkPorts t nothing s)) 0 (rules t) _
+      ∙ rw visits-nothing
+      (ap (start os) (each-keeps (λ x. x ≡ unmarkPorts t nothing s) (storeResult t nothing (unmarkPorts t nothing s)) 0 (rules t) _
       (λ r x a b e. rw (evaluated-nothing (unmarkPorts t nothing s) r) e) refl
-      ∙ each-keeps (λ x. x ≡ s) (unmarkPort nothing) 0 (ports t) s (λ p x a b e. e) refl)
+      ∙ each-keeps (λ x. x ≡ s) (unmarkPort nothing) 0 (ports t) s (λ p x a b e. e) refl))
 
 -- an arbitration of strangers' ports alone: held against one of no port, which meets nothing, it agrees as far as that goes
 pub arbitrate-hidden : (t : List ℕ) (f : Facts t) (o : ℕ) (q : ℕ → Bool) → ((p : ℕ) → p < ports t → stranger o (portOwner t p) ≡ false → q p ≡ false)

@@ -4,15 +4,17 @@ use mathlib.Core.Bool.{true, _&&_}
 use Rattle.rulebook.specs.Words.{digit, first, all, any, sum, listed, each, until}
 use Rattle.rulebook.specs.Table.{part, abort, aSize, byItem, stranger}
 use Rattle.rulebook.specs.Expressions.{operator, expressionNests, expressionWithin, expressionMentions, mentions, condition, expressionHolds, holds}
+use Rattle.rulebook.specs.Expressions.{settled, skipsRight, expressionVisited, visited}
 use Rattle.rulebook.specs.Reasons.{hasHeader, knownEdition, countsInside, exactLength, portFields, expressionFields, itemFields, ownFields}
 use Rattle.rulebook.specs.Reasons.{networkHas, held, mayShow, expressionNames, listOrNone, itemNames, names, itemNests, listNests, listWithin}
 use Rattle.rulebook.specs.Reasons.{nesting, strangersPort, ruleOwned, itemOwned, owners, ruleReaches, itemReaches, listReaches, reachesWithin}
 use Rattle.rulebook.specs.Reasons.{reachedBy, reached, itemCost, listCost, costWithin, bound, affordable, breaks, lowest, orNext, firstOf, check}
 use Rattle.rulebook.specs.State.{thing, ownerOf, packPort, packRule, packNetwork, portFits, ruleFits, networkFits, thingFits, fitsAt, fits, freshPort}
 use Rattle.rulebook.specs.State.{freshThing, freshAt, fresh, freshAnswer, freshState}
-use Rattle.rulebook.specs.Lists.{traceWord, setPort, setNetwork, effect, unread, act, stops, valueIn, undefinedIn, unready, resultIn, choice}
+use Rattle.rulebook.specs.Lists.{traceWord, setPort, setNetwork, effect, unread, act, stops, valueIn, undefinedIn, unready, resultIn, visitsIn, choice}
 use Rattle.rulebook.specs.Lists.{choiceIn, setResult, runItem, runItems, runList}
-use Rattle.rulebook.specs.Arbitration.{unmarkPort, unmarkPorts, evaluated, storeResult, storeResults, chooses, chosen, ofPriority, orderBelow, order}
+use Rattle.rulebook.specs.Arbitration.{unmarkPort, unmarkPorts, evaluated, storeResult, storeResults, visitsBy, ruleVisits, chooses, chosen}
+use Rattle.rulebook.specs.Arbitration.{ofPriority, orderBelow, order}
 use Rattle.rulebook.specs.Arbitration.{runIf, runChosen, decide, arbitrate}
 use Rattle.rulebook.specs.Events.{only, request, shown, moveNetwork, takes, wait, offBus, busOff, countedNetwork, tickedNetwork, tickNetwork}
 use Rattle.rulebook.specs.Events.{tickTimer, tickThings, markedIn, arbitrateMarked, tick, changed, happen}
@@ -24,12 +26,14 @@ use Rattle.stranger.specs.Failing.{lending, afterAll, eaters, eatersFres
 
 pub computed : (eaten && bothFail) ≡ true
 unfolding digit first all any sum listed each until part abort aSize byItem stranger operator expressionNests expressionWithin expressionMentions
-    mentions condition expressionHolds holds hasHeader knownEdition countsInside exactLength portFields expressionFields itemFields ownFields
+    mentions condition expressionHolds holds settled skipsRight expressionVisited visited hasHeader knownEdition countsInside exactLength portFields
+    expressionFields itemFields ownFields
     networkHas held mayShow expressionNames listOrNone itemNames names itemNests listNests listWithin nesting strangersPort ruleOwned itemOwned owners
     ruleReaches itemReaches listReaches reachesWithin reachedBy reached itemCost listCost costWithin bound affordable breaks lowest orNext firstOf
     check thing ownerOf packPort packRule packNetwork portFits ruleFits networkFits thingFits fitsAt fits freshPort freshThing freshAt fresh
-    freshAnswer freshState traceWord setPort setNetwork effect unread act stops valueIn undefinedIn unready resultIn choice choiceIn setResult runItem
-    runItems runList unmarkPort unmarkPorts evaluated storeResult storeResults chooses chosen ofPriority orderBelow order runIf runChosen decide
+    freshAnswer freshState traceWord setPort setNetwork effect unread act stops valueIn undefinedIn unready resultIn visitsIn choice choiceIn setResult runItem
+    runItems runList unmarkPort unmarkPorts evaluated storeResult storeResults visitsBy ruleVisits chooses chosen ofPriority orderBelow order
+    runIf runChosen decide
     arbitrate only request shown moveNetwork takes wait offBus busOff countedNetwork tickedNetwork tickNetwork tickTimer tickThings markedIn
     arbitrateMarked tick changed happen wellFormed named present suited known sentByOwner goodOrFailed outcomesKnown firstFault finish conclude heeded
     step same gives calls behind metAt met lending afterAll bothOwners bothFresh withStranger struck bothFail eaters eatersFresh eaten

@@ -28,7 +28,7 @@ use Rattle.stranger.specs.Outcomes.{calls, metAt, met, Agree}
 use Rattle.stranger.proofs.More.{pick-both}
 use Rattle.stranger.proofs.View.{same-view-refl, write-hidden, write-alike, port-word, rule-word, network-word}
 use Rattle.stranger.proofs.Outcomes.{agree-next, met-both, met-one, calls-kind, Told, told-kept}
-use Rattle.stranger.proofs.Alike.{Alike, word-owner, alike-refl, alike-trans, emit-hidden, AlikeIf, earlier, framed-earlier, put-alike}
+use Rattle.stranger.proofs.Alike.{Alike, word-owner, alike-refl, alike-trans, visits-alike, emit-hidden, AlikeIf, earlier, framed-earlier, put-alike}
 use Rattle.stranger.proofs.Evaluation.{unready-alike, result-alike, choice-alike}
 use Rattle.stranger.proofs.Owners.{no-platform, list-owned, rule-owned, port-owned, network-owned, choice-owned}
 
@@ -133,7 +133,7 @@ module _ (t : List ℕ) (f : Facts t) (o : ℕ) where
     unfolding judge setResult
     judge-follows l r x y b h a =
         rw (result-alike t f o r b h (a .view))
-        (put-alike t o os₁ os₂ x y _ (λ d. write-alike t o (ruleIndex t r) _ _ (λ k. refl) (d .view)) (λ g. a))
+        (λ g. visits-alike t o _ _ (put-alike t o os₁ os₂ x y _ (λ d. write-alike t o (ruleIndex t r) _ _ (λ k. refl) (d .view)) (λ e. a) g))
 
     -- what a list that is named keeps, of runs that started with these outcomes
     abbrev Follows : (ℕ → Run → Run) → Type 0

@@ -14,8 +14,8 @@ use Rattle.rulebook.specs.Table.{edition, deferred, noList, listOwner, firstIte
 use Rattle.rulebook.specs.Table.{stranger}
 use Rattle.rulebook.specs.Expressions.{deepest}
 use Rattle.rulebook.specs.State.{undefinedResult}
-use Rattle.rulebook.specs.Lists.{Run, start, emit, leave, traceWord, traceListStart, setPort, effect, unread, act, stops, unready, choiceIn, judge, runChoice}
-use Rattle.rulebook.specs.Lists.{runRule, runItem, runItems, runList}
+use Rattle.rulebook.specs.Lists.{Run, start, emit, leave, visit, visitsIn, traceWord, traceListStart, setPort, effect, unread, act, stops, unready, choiceIn}
+use Rattle.rulebook.specs.Lists.{judge, runChoice, runRule, runItem, runItems, runList}
 use Rattle.rulebook.specs.Arbitration.{runIf, runChosen, order, decide, arbitrate}
 use Rattle.rulebook.specs.Events.{only, request, arbitrateMarked, tick, happen}
 use Rattle.rulebook.specs.Step.{outcomesKnown, goodOrFailed, refusedEvent, heeded}
@@ -146,12 +146,12 @@ module _ {o : ℕ} {m : List ℕ} where
       }
 
   -- no word, too deep or not
-  fed-none : (deep : Bool) (s : List ℕ) → Fed o m (λ os. record { state = s; words = []; deep = deep; outcomes = os })
+  fed-none : (deep : Bool) (visits : ℕ) (s : List ℕ) → Fed o m (λ os. record { state = s; words = []; deep = deep; outcomes = os; visits = visits })
   unfolding leftBy met
-  fed-none deep s =
+  fed-none deep visits s =
       record {
         outcomes = [];
-        to = record { state = s; words = []; deep = deep; outcomes = [] };
+        to = record { state = s; words = []; deep = deep; outcomes = []; visits = visits };
         runs = λ rest. refl;
         left = λ rest. refl;
         meets = [];
@@ -160,19 +160,19 @@ module _ {o : ℕ} {m : List ℕ} where
         small = λ h. tt;
       }
 
-  -- a word that is no call's
-  fed-word : {f : List ℕ → Run} (kind owner a b : ℕ) (s : List ℕ) → kind < 16 → (kind ≡ itemCall → ⊥)
-      → ((os : List ℕ) → f os ≡ emit (traceWord kind owner a b) (start os s))
+  -- a word that is no call's, and n visits
+  fed-word : {f : List ℕ → Run} (kind owner a b n : ℕ) (s : List ℕ) → kind < 16 → (kind ≡ itemCall → ⊥)
+      → ((os : List ℕ) → f os ≡ visit n (emit (traceWord kind owner a b) (start os s)))
       → Fed o m f
   unfolding leftBy met metAt
-  fed-word kind owner a b s small n is =
+  fed-word kind owner a b n s small call is =
       record {
         outcomes = [];
-        to = emit (traceWord kind owner a b) (start [] s);
+        to = visit n (emit (traceWord kind owner a b) (start [] s));
         runs = is;
-        left = no-call kind owner a b small n;
+        left = no-call kind owner a b small call;
         meets = [];
-        met = λ rest. rw (calls-kind kind owner a b small, ne-eqb kind itemCall n);
+        met = λ rest. rw (calls-kind kind owner a b small, ne-eqb kind itemCall call);
         agrees = agree-none m;
         small = λ h. tt;
       }
@@ -211,15 +211,15 @@ Feeds o below = (l : ℕ) (s m : List ℕ) → Fed o m (λ os. below l (start os
 module _ (t : List ℕ) (o : ℕ) (below : ℕ → Run → Run) (framed : (l : ℕ) → Framed (below l)) (feeds : Feeds o below) (owner : ℕ) where
   choice-fed : (l : ℕ) (s m : List ℕ) → Fed o m (λ os. runChoice below l (start os s))
   choice-fed l s m =
-      split (eqb l noList) (λ e. fed-at (fed-none false s) (λ rest. choice-none below l _ e)) (λ e. fed-at (feeds l s m) (λ rest. choice-some below l _ e))
+      split (eqb l noList) (λ e. fed-at (fed-none false 0 s) (λ rest. choice-none below l _ e)) (λ e. fed-at (feeds l s m) (λ rest. choice-some below l _ e))
 
   rule-fed : (r : ℕ) (s m : List ℕ) → Fed o m (λ os. runRule below t owner r (start os s))
   unfolding judge
   rule-fed r s m =
       split (unready t s r)
-      (λ e. fed-word itemRule owner r undefinedResult s (omega arith) (λ z. omega arith) (λ os. rule-unready below t owner r (start os s) e))
+      (λ e. fed-word itemRule owner r undefinedResult 0 s (omega arith) (λ z. omega arith) (λ os. rule-unready below t owner r (start os s) e))
       (λ e. fed-then (runChoice below (choiceIn t s r)) (choice-framed t below framed owner _)
-      (fed-word {f = λ os. judge t owner r (start os s)} itemRule owner r _ _ (omega arith) (λ z. omega arith) (λ os. refl))
+      (fed-word {f = λ os. judge t owner r (start os s)} itemRule owner r _ (visitsIn t s r) _ (omega arith) (λ z. omega arith) (λ os. refl))
       (choice-fed _ _ _) (λ rest. rule-ready below t owner r _ e))
 
   -- An item of kind 0 to 4: a call takes an outcome, any other none.
@@ -240,7 +240,7 @@ module _ (t : List ℕ) (o : ℕ) (below : ℕ → Run → Run) (framed : (l : �
   other-fed i s m e =
       item-cases below t owner i (λ is g. fed-at (feeds (itemA t i) s m) (λ rest. item-list below t owner i _ g))
       (λ is g k. fed-at (rule-fed (itemA t i) s m) (λ rest. item-rule below t owner i _ g k))
-      (λ g k. fed-word (itemKind t i) owner _ _ _ (digit-small _ 16 _ (omega arith)) (eqb-false _ _ e) (λ os. act-other i s os e g k))
+      (λ g k. fed-word (itemKind t i) owner _ _ 0 _ (digit-small _ 16 _ (omega arith)) (eqb-false _ _ e) (λ os. act-other i s os e g k))
 
   item-fed : (i : ℕ) (s m : List ℕ) → FedItem o m (λ os. runItem below t owner i (start os s)) (λ os. stops t i (start os s))
   unfolding stops fed-call
@@ -259,7 +259,7 @@ module _ (t : List ℕ) (o : ℕ) (below : ℕ → Run → Run) (framed : (l : �
 
   items-fed : (i n : ℕ) (s m : List ℕ) → Fed o m (λ os. until i n (stops t) (runItem below t owner) (start os s))
   unfolding until
-  items-fed i zero s m = fed-none false s
+  items-fed i zero s m = fed-none false 0 s
   items-fed i (suc n) s m =
       let run = runItem below t owner in
       let here = item-fed i s m in
@@ -271,31 +271,32 @@ module _ (t : List ℕ) (o : ℕ) (below : ℕ → Run → Run) (framed : (l : �
 module _ (t : List ℕ) (o : ℕ) where
   list-fed : (d : ℕ) → Feeds o (runList d t)
   unfolding runList runItems
-  list-fed zero l s m = fed-none true s
+  list-fed zero l s m = fed-none true 0 s
   list-fed (suc d) l s m =
       fed-then (until (firstItem t l) (itemCount t l) (stops t) (runItem (runList d t) t (listOwner t l)))
       (framed-until t _ (firstItem t l) (itemCount t l) (item-framed t (runList d t) (list-framed t d) (listOwner t l)))
-      (fed-word {f = λ os. emit (traceWord traceListStart (listOwner t l) l 0) (start os s)} traceListStart (listOwner t l) l 0 s (omega arith)
+      (fed-word {f = λ os. emit (traceWord traceListStart (listOwner t l) l 0) (start os s)} traceListStart (listOwner t l) l 0 0 s (omega arith)
       (λ z. omega arith) (λ os. refl))
       (items-fed t o (runList d t) (list-framed t d) (list-fed d) (listOwner t l) (firstItem t l) (itemCount t l) _ _) (λ rest. refl)
 
   if-fed : (c : ℕ → Bool) (l : ℕ) (s m : List ℕ) → Fed o m (λ os. runIf t c l (start os s))
   if-fed c l s m =
-      split (c l) (λ e. fed-at (list-fed deepest l s m) (λ rest. if-chosen t c l _ e)) (λ e. fed-at (fed-none false s) (λ rest. if-not t c l _ e))
+      split (c l) (λ e. fed-at (list-fed deepest l s m) (λ rest. if-chosen t c l _ e)) (λ e. fed-at (fed-none false 0 s) (λ rest. if-not t c l _ e))
 
   chosen-fed : (c : ℕ → Bool) (ls s m : List ℕ) → Fed o m (λ os. runChosen t c ls (start os s))
   unfolding runChosen
-  chosen-fed c [] s m = fed-none false s
+  chosen-fed c [] s m = fed-none false 0 s
   chosen-fed c (l ∷ ls) s m = fed-then (runChosen t c ls) (chosen-framed t c ls) (if-fed c l s m) (chosen-fed c ls _ _) (λ rest. refl)
 
   arbitrate-fed : (q : ℕ → Bool) (s m : List ℕ) → Fed o m (λ os. arbitrate t q os s)
   unfolding arbitrate decide
-  arbitrate-fed q s m = chosen-fed _ (order t) _ m
+  arbitrate-fed q s m =
+      fed-then (runChosen t _ (order t)) (chosen-framed t _ (order t)) (fed-none false _ _) (chosen-fed _ (order t) _ _) (λ rest. refl)
 
   request-fed : (p value : ℕ) (s m : List ℕ) → Fed o m (λ os. request t p value os s)
   unfolding request
   request-fed p value s m =
-      split (eqb (deferred t p) 1) (λ e. fed-at (fed-none false (setPort p 1 value 0 s)) (λ rest. rw e))
+      split (eqb (deferred t p) 1) (λ e. fed-at (fed-none false 0 (setPort p 1 value 0 s)) (λ rest. rw e))
       (λ e. fed-at (arbitrate-fed (only p) (setPort p 0 value 0 s) m) (λ rest. rw e))
 
   tick-fed : (s m : List ℕ) → Fed o m (λ os. tick t os s)
@@ -309,8 +310,8 @@ module _ (t : List ℕ) (o : ℕ) where
       go g (aTick k own) = tick-fed s m
       go g (aMode k of n free) = request-fed _ _ s m
       go g (aRequest k of n) = request-fed _ _ s m
-      go g (ofSource k n of u c) = fed-none false _
-      go g (ofNetwork k of u c) = fed-none false _
+      go g (ofSource k n of u c) = fed-none false 0 _
+      go g (ofNetwork k of u c) = fed-none false 0 _
 
 -- Where no outcome is read, every call meets 0.
 

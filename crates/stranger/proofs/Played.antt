@@ -10,7 +10,7 @@ use Rattle.rulebook.specs.Reasons.{accepted}
 use Rattle.rulebook.specs.State.{fits}
 use Rattle.rulebook.specs.Events.{eventOwner, happen}
 use Rattle.rulebook.specs.Step.{refusedEvent}
-use Rattle.rulebook.specs.Play.{Play, playOn}
+use Rattle.rulebook.specs.Play.{Play, onto, playOn}
 use Rattle.laws.specs.Sequence.{Each}
 use Rattle.laws.proofs.Tests.{split}
 use Rattle.laws.proofs.Play.{none-heeded, play-cases}
@@ -42,12 +42,12 @@ pub record LogOf (t es s : List ℕ) (p : Play) : Type 0 where
   pub state : stateAfter s (logFrom t s (take (p .taken) es)) ≡ p .state
   pub words : joined (logFrom t s (take (p .taken) es)) ≡ p .words
 
-none-taken : (t es s : List ℕ) (k : ℕ) → LogOf t es s (record { answer = k; taken = 0; state = s; words = [] })
+none-taken : (t es s : List ℕ) (k : ℕ) → LogOf t es s (record { answer = k; taken = 0; state = s; words = []; visits = 0 })
 unfolding logFrom stateAfter joined
 none-taken t es s k = record { log = tt; state = refl; words = refl }
 
 one-more : (t : List ℕ) (e : ℕ) (es s : List ℕ) (p : Play) → refusedEvent t [] e ≡ 0 → LogOf t es (happen t e [] s .state) p
-    → LogOf t (e ∷ es) s (record { answer = p .answer; taken = 1 + p .taken; state = p .state; words = happen t e [] s .words ++ p .words })
+    → LogOf t (e ∷ es) s (onto 1 (happen t e [] s .words) (happen t e [] s .visits) p)
 unfolding logFrom stateAfter joined
 one-more t e es s p z i =
     rw one-add

@@ -35,9 +35,9 @@ eatersFresh = freshState eaters (0 ∷ 0 ∷ 0 ∷ 0 ∷ [])
 unfoldable pub eaten : Bool
 eaten =
     gives (lending eaters (afterAll eaters eatersFresh (0x11000500 ∷ 0x12010500 ∷ [])) (1 ∷ []) 0) 0
-    (0x81400000 ∷ 0x81400000 ∷ 0x40000000 ∷ 0x40000000 ∷ []) (0xF2010000 ∷ 0x0200000C ∷ 0xF1000000 ∷ 0x0100000A ∷ 0x0100000B ∷ [])
+    (0x81400000 ∷ 0x81400000 ∷ 0x40000000 ∷ 0x40000000 ∷ []) (0xF2010000 ∷ 0x0200000C ∷ 0xF1000000 ∷ 0x0100000A ∷ 0x0100000B ∷ []) 2
     && gives (lending eaters (afterAll eaters eatersFresh (0x11000500 ∷ [])) (1 ∷ []) 0) 0
-    (0x81400000 ∷ 0 ∷ 0x40000000 ∷ 0 ∷ []) (0xF1000000 ∷ 0x0100000A ∷ [])
+    (0x81400000 ∷ 0 ∷ 0x40000000 ∷ 0 ∷ []) (0xF1000000 ∷ 0x0100000A ∷ []) 1
 
 -- Calls of both owners fail. The platform has a list of two calls, the first with abort, and so has operator 1; operator 2's call runs before
 -- them. A tick lends operator 2's call a good outcome and both others a failed one; with operator 2's request struck out it lends the two
