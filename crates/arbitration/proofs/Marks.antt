@@ -8,11 +8,12 @@ use lib.ListN.{length, drop, set, length-set, replicate}
 use lib.Seq.{getD-set-other}
 use lib.Dec.{eqb, ltb}
 use borrow.Author.Tests.{eq-eqb, ne-eqb, eqb-true, eqb-false, ltb-true, ltb-false, le-ltb}
-use Rattle.rulebook.specs.Words.{any, each}
+use Rattle.rulebook.specs.Words.{any, sum, each}
 use Rattle.rulebook.specs.Table.{ports, rules, left, right, ruleExpression}
 use Rattle.rulebook.specs.Expressions.{deepest, operator, expressionMentions, mentions}
 use Rattle.rulebook.specs.Lists.{start}
-use Rattle.rulebook.specs.Arbitration.{unmarkPort, unmarkPorts, evaluated, storeResult, storeResults, chooses, chosen, order, decide, arbitrate}
+use Rattle.rulebook.specs.Arbitration.{unmarkPort, unmarkPorts, evaluated, storeResult, storeResults, visitsBy, ruleVisits, chooses, chosen}
+use Rattle.rulebook.specs.Arbitration.{order, decide, arbitrate}
 use Rattle.rulebook.specs.Events.{only, markedIn}
 use Rattle.words.specs.Flags.{flagged}
 use Rattle.words.proofs.Fill.{raised-flag, none-of-zeros, raise-more}
@@ -81,6 +82,11 @@ unfolding any
 any-none p i zero h = refl
 any-none p i (suc n) h = rw (h i) (any-none p (suc i) n h)
 
+sum-none : (f : ℕ → ℕ) (i n : ℕ) → ((j : ℕ) → f j ≡ 0) → sum i n f ≡ 0
+unfolding sum
+sum-none f i zero h = refl
+sum-none f i (suc n) h = rw (h i, sum-none f (suc i) n h)
+
 module _ (t : List ℕ) (q : ℕ → Bool) (none : (p : ℕ) → q p ≡ false) where
   level-none : (below : ℕ → Bool) → ((e : ℕ) → below e ≡ false) → (e : ℕ) → expressionMentions t q below e ≡ false
   unfolding expressionMentions
@@ -104,6 +110,10 @@ module _ (t : List ℕ) (q : ℕ → Bool) (none : (p : ℕ) → q p ≡ false) 
   unfolding storeResults storeResult
   store-none s = each-none (storeResult t q s) 0 (rules t) s (λ r x. rw (evaluated-none s r))
 
+  visits-none : (s : List ℕ) → ruleVisits t q s ≡ 0
+  unfolding ruleVisits visitsBy
+  visits-none s = sum-none (visitsBy t q s) 0 (rules t) (λ r. rw (evaluated-none s r))
+
   chosen-none : (s : List ℕ) (l : ℕ) → chosen t q s l ≡ false
   unfolding chosen chooses
   chosen-none s l = any-none (chooses t q s l) 0 (rules t) (λ r. rw (evaluated-none s r))
@@ -111,7 +121,7 @@ module _ (t : List ℕ) (q : ℕ → Bool) (none : (p : ℕ) → q p ≡ false) 
   arbitrate-none : (os s : List ℕ) → arbitrate t q os s ≡ start os s
   unfolding arbitrate decide
   arbitrate-none os s =
-      rw (unmark-none s, store-none s)
+      rw (unmark-none s, store-none s, visits-none s)
       (none-chosen t (chosen t q s) (order t) (start os s) (each-weaker _ (λ l. chosen t q s l ≡ false) (order t) (λ l z. chosen-none s l) (order-there t)))
 
 none-marked : (t s : List ℕ) → any 0 (ports t) (markedIn t s) ≡ false → (p : ℕ) → markedIn t s p ≡ false

@@ -4,22 +4,25 @@ use mathlib.Core.Path.{_≡_, refl, sym, ap, ap₂, fun-ext, _∙_}
 use mathlib.Core.Bool.{Bool, true, false, cond, _||_, not, or-false, or-assoc}
 use mathlib.Core.List.{List}
 use native.Mathlib.Omega.{arith}
-use native.Mathlib.Nat.{sub-zero}
+use native.Mathlib.Nat.{zero-add, sub-zero}
 use lib.ListN.{length, set, replicate}
 use lib.Seq.{set-out}
 use lib.Dec.{eqb}
 use borrow.Author.Tests.{ne-eqb}
-use Rattle.rulebook.specs.Words.{word, any, each}
+use Rattle.rulebook.specs.Words.{word, any, sum, each}
 use Rattle.rulebook.specs.Table.{rules, noList, triggered}
-use Rattle.rulebook.specs.Lists.{start, resultIn, previousIn, listFor, choice, choiceIn}
-use Rattle.rulebook.specs.Arbitration.{unmarkPorts, evaluated, storeResult, storeResults, chooses, chosen, order, runChosen, decide, arbitrate}
+use Rattle.rulebook.specs.Lists.{start, visit, resultIn, previousIn, listFor, choice, choiceIn}
+use Rattle.rulebook.specs.Arbitration.{unmarkPorts, evaluated, storeResult, storeResults, visitsBy, ruleVisits, chooses, chosen}
+use Rattle.rulebook.specs.Arbitration.{order, runChosen, decide, arbitrate}
 use Rattle.words.specs.Flags.{flagged}
+use Rattle.evaluation.specs.declared.Found.{Found}
+use Rattle.evaluation.specs.Found.{Finds}
 use Rattle.words.proofs.Fill.{raised-flag, none-of-zeros}
-use Rattle.walks.proofs.Walks.{any-step, any-end}
+use Rattle.walks.proofs.Walks.{any-step, any-end, sum-turn, sum-end}
 use Rattle.laws.proofs.Tests.{split}
 use Rattle.laws.proofs.Fields.{digit-small}
 use Rattle.laws.proofs.Items.{result-small}
-use Rattle.arbitration.specs.Results.{ruleResult, Results, storeBy, choosesBy, pickBy, Chosen}
+use Rattle.arbitration.specs.Results.{ruleResult, FoundBy, Results, storeBy, choosesBy, pickBy, Chosen}
 
 list-small : (t : List ℕ) (r result : ℕ) → listFor t r result < 256
 list-small t r result = split (eqb result 1) (λ e. rw e (digit-small _ 256 _ (omega arith))) (λ e. rw e (digit-small _ 256 _ (omega arith)))
@@ -55,6 +58,29 @@ pub chose-all : (t results s flags : List ℕ) (r : ℕ) → length flags ≡ 25
     → ((k : ℕ) → any 0 (rules t) (choosesBy t results s k) ≡ (flagged flags k || any r (rules t - r) (choosesBy t results s k))) → Chosen t results s flags
 chose-all t results s flags r long h says =
     record { long = long; says = λ k. sym (says k ∙ rw (any-end r (rules t) (choosesBy t results s k) h, or-false)) }
+
+-- What is found of a rule that is evaluated, and of one that is not.
+module _ (t : List ℕ) (q : ℕ → Bool) (s : List ℕ) (r : ℕ) where
+  pub looked-at : (x : Found) → evaluated t q s r ≡ true → Finds t s r x → FoundBy t q s r x
+  unfolding ruleResult visitsBy
+  looked-at x e f = record { result = rw e (f .result); visits = rw e (f .visits) }
+
+  pub passed-over : evaluated t q s r ≡ false → FoundBy t q s r (record { result = 2; visits = 0 })
+  unfolding ruleResult visitsBy
+  passed-over e = record { result = rw e; visits = rw e }
+
+-- The visits counted so far, with those of the rules from r on.
+module _ (t : List ℕ) (q : ℕ → Bool) (s : List ℕ) where
+  pub counted-none : ruleVisits t q s ≡ 0 + sum 0 (rules t - 0) (visitsBy t q s)
+  unfolding ruleVisits
+  counted-none = rw (zero-add, sub-zero)
+
+  module _ (r v : ℕ) (so-far : ruleVisits t q s ≡ v + sum r (rules t - r) (visitsBy t q s)) where
+    pub counted-more : (n : ℕ) → r < rules t → n ≡ visitsBy t q s r → ruleVisits t q s ≡ v + n + sum (r + 1) (rules t - (r + 1)) (visitsBy t q s)
+    counted-more n h hn = let turn = sum-turn r (rules t) (visitsBy t q s) h in omega arith
+
+    pub counted-all : rules t ≤ r → v ≡ ruleVisits t q s
+    counted-all h = let none = sum-end r (rules t) (visitsBy t q s) h in omega arith
 
 -- Walks of two functions that agree on the range.
 
@@ -102,7 +128,8 @@ module _ (t : List ℕ) (q : ℕ → Bool) (s results : List ℕ) (o : Results t
   unfolding chosen
   chose flags c = fun-ext (λ l. c .says l ∙ any-same _ _ 0 (rules t) (λ r a b. choose-at l r (omega arith)))
 
-  pub arbitrated : (os s₀ s₂ flags : List ℕ) → s ≡ unmarkPorts t q s₀ → Chosen t results s flags → s₂ ≡ each 0 (rules t) (storeBy t results) s
-      → arbitrate t q os s₀ ≡ runChosen t (flagged flags) (order t) (start os s₂)
+  pub arbitrated : (os s₀ s₂ flags : List ℕ) (visits : ℕ) → s ≡ unmarkPorts t q s₀ → Chosen t results s flags
+      → s₂ ≡ each 0 (rules t) (storeBy t results) s → visits ≡ ruleVisits t q s
+      → arbitrate t q os s₀ ≡ runChosen t (flagged flags) (order t) (visit visits (start os s₂))
   unfolding arbitrate decide
-  arbitrated os s₀ s₂ flags hs c h₂ = rw (← hs, h₂, stored, chose flags c)
+  arbitrated os s₀ s₂ flags visits hs c h₂ hv = rw (← hs, h₂, stored, chose flags c, hv)

@@ -10,13 +10,19 @@ use Rattle.rulebook.specs.Words.{word, any}
 use Rattle.rulebook.specs.Table.{rules}
 use Rattle.rulebook.specs.State.{undefinedResult}
 use Rattle.rulebook.specs.Lists.{resultIn, previousIn, choice, setResult}
-use Rattle.rulebook.specs.Arbitration.{evaluated}
+use Rattle.rulebook.specs.Arbitration.{evaluated, visitsBy}
 use Rattle.rulebook.specs.Events.{markedIn}
 use Rattle.words.specs.Flags.{flagged}
+use Rattle.evaluation.specs.declared.Found.{Found}
 
 -- what is found of rule r: its result, or 2 where it is not evaluated
 unfoldable pub ruleResult : List ℕ → (ℕ → Bool) → List ℕ → ℕ → ℕ
 ruleResult t q s r = cond (evaluated t q s r) (resultIn t s r) undefinedResult
+
+-- so with the visits that finding it makes
+pub record FoundBy (t : List ℕ) (q : ℕ → Bool) (s : List ℕ) (r : ℕ) (x : Found) : Type 0 where
+  pub result : x .result ≡ ruleResult t q s r
+  pub visits : x .visits ≡ visitsBy t q s r
 
 pub record Results (t : List ℕ) (q : ℕ → Bool) (s results : List ℕ) : Type 0 where
   pub long : length results ≡ 256

@@ -4,16 +4,17 @@ ghost use mathlib.Core.Path.{_≡_};
 ghost use lib.ListN.{drop};
 ghost use Rattle.rulebook.specs.Words.{any, each};
 ghost use Rattle.rulebook.specs.Table.{ports as portsOf, rules as rulesOf, lists as listsOf};
-ghost use Rattle.rulebook.specs.Lists.{start};
-ghost use Rattle.rulebook.specs.Arbitration.{unmarkPort, unmarkPorts, order, runChosen, arbitrate as arbitrateOf};
+ghost use Rattle.rulebook.specs.Lists.{start, visit};
+ghost use Rattle.rulebook.specs.Arbitration.{unmarkPort, unmarkPorts, ruleVisits, order, runChosen, arbitrate as arbitrateOf};
 ghost use Rattle.rulebook.specs.Events.{only, markedIn, arbitrateMarked};
 ghost use Rattle.words.specs.Flags.{flagged};
 ghost use Rattle.words.specs.Sections.{Laid};
 ghost use Rattle.lists.specs.Runs.{MayRun, Ran};
-ghost use Rattle.arbitration.specs.Results.{ruleResult, Results, storeBy, pickBy, Chosen, Marked};
+ghost use Rattle.arbitration.specs.Results.{FoundBy, Results, storeBy, pickBy, Chosen, Marked};
 ghost use Rattle.arbitration.specs.Asked.{ResultsLent, FlagsDown, MayArbitrate, MayArbitratePort};
 ghost use Rattle.arbitration.specs.Picking.{better as betterOf, Best};
 use evaluation;
+use evaluation::Found;
 use expression::mentions;
 use lists;
 use lists::Written;
@@ -56,36 +57,50 @@ fn unmark(t: &[u32], h: Layout, flags: &[u32], s: &mut [u32])
     }
 }
 
-// Rule r's result, if it is to be evaluated: it is not nested-only, mentions a port whose flag is up, and no undefined one. Else 2.
-fn rule_result(t: &[u32], h: Layout, flags: &[u32], s: &[u32], r: u32) -> u32
+// Rule r's result with its visits, if it is to be evaluated: it is not nested-only, mentions a port whose flag is up, and no undefined
+// one. Else 2, and no visits.
+fn rule_result(t: &[u32], h: Layout, flags: &[u32], s: &[u32], r: u32) -> Found
     requires { ⌜ Laid (now t) h ⌝ }
-    ensures { λ n. ⌜ n ≡ ruleResult (now (t .entry)) (flagged (now (flags .entry))) (now (s .entry)) r ⌝ }
+    ensures { λ f. ⌜ FoundBy (now (t .entry)) (flagged (now (flags .entry))) (now (s .entry)) r f ⌝ }
 {
     let rule = sections::rule_at(t, h, r);
     if rule.nested_only != 0 {
-        return 2;
+        return Found {
+            result: 2,
+            visits: 0,
+        };
     }
     if !mentions(t, h.expression0, flags, rule.expression, 7) {
-        return 2;
+        return Found {
+            result: 2,
+            visits: 0,
+        };
     }
     if evaluation::unready(t, h, s, r) {
-        return 2;
+        return Found {
+            result: 2,
+            visits: 0,
+        };
     }
     evaluation::result(t, h, s, r)
 }
 
-// The results of all rules, all from the one state, into lent words.
-fn find_results(t: &[u32], h: Layout, flags: &[u32], s: &[u32], results: &mut [u32])
+// The results of all rules, all from the one state, into lent words. Returns the visits that finding them makes.
+fn find_results(t: &[u32], h: Layout, flags: &[u32], s: &[u32], results: &mut [u32]) -> u32
     requires { ⌜ ResultsLent (now t) h (now results) ⌝ }
     ensures { λ _. ⌜ Results (now (t .entry)) (flagged (now (flags .entry))) (now (s .entry)) (now (results .exit)) ⌝ }
+    ensures { λ v. ⌜ v ≡ ruleVisits (now (t .entry)) (flagged (now (flags .entry))) (now (s .entry)) ⌝ }
 {
     let rules = h.rules;
+    let mut visits: u32 = 0;
     let mut r: u32 = 0;
     while r < rules {
         let found = rule_result(t, h, flags, s, r);
-        put(results, r as usize, found);
+        put(results, r as usize, found.result);
+        visits += found.visits;
         r += 1;
     }
+    visits
 }
 
 // The list that rule r starts by its result; 256 where it has no result.
@@ -173,7 +188,8 @@ fn best(t: &[u32], h: Layout, flags: &[u32]) -> u32
     l
 }
 
-// Runs the lists whose flags are up, once each; each gets the trace from the first free word on, and the outcomes that are not read.
+// Runs the lists whose flags are up, once each; each gets the trace from the first free word on, and the outcomes that are not read. So
+// many visits are made by then.
 fn run_chosen(
     t: &[u32],
     h: Layout,
@@ -182,14 +198,20 @@ fn run_chosen(
     trace: &mut [u32],
     outcomes: &[u32],
     read: usize,
+    visits: u32,
 ) -> Written
-    requires { ⌜ MayRun (now t) h (runChosen (now t) (flagged (now flags)) (order (now t)) (start (drop read (now outcomes)) (now s))) (now trace) ⌝ }
+    requires { ⌜ MayRun (now t) h (runChosen (now t) (flagged (now flags)) (order (now t)) (visit visits (start (drop read (now outcomes)) (now s))))
+        (now trace) ⌝ }
     ensures { λ w. ⌜ Ran (now (outcomes .entry)) (runChosen (now (t .entry)) (flagged (now (flags .entry))) (order (now (t .entry)))
-        (start (drop read (now (outcomes .entry))) (now (s .entry))))
+        (visit visits (start (drop read (now (outcomes .entry))) (now (s .entry)))))
         (now (s .exit)) (now (trace .entry)) (now (trace .exit)) w ⌝ }
 {
     let lists = h.lists;
-    let mut written = lists::nothing(read);
+    let mut written = Written {
+        count: 0,
+        read,
+        visits,
+    };
     let mut l = best(t, h, flags);
     while l < lists {
         put(flags, l as usize, 0);
@@ -218,11 +240,11 @@ pub fn arbitrate(
 {
     unmark(t, h, flags, s);
     let mut results = [0u32; 256];
-    find_results(t, h, flags, s, &mut results);
+    let visits = find_results(t, h, flags, s, &mut results);
     let mut chosen = [0u32; 256];
     choose(t, h, &results, s, &mut chosen);
     store(t, h, &results, s);
-    run_chosen(t, h, &mut chosen, s, trace, outcomes, read)
+    run_chosen(t, h, &mut chosen, s, trace, outcomes, read, visits)
 }
 
 // Arbitrates port p alone.

@@ -11,6 +11,7 @@ use Rattle.rulebook.specs.State.{fits}
 use Rattle.rulebook.specs.Step.{refusedState, wellFormed, outcomesKnown, firstFault}
 use Rattle.rulebook.proofs.Outcomes.{first-step, above-one}
 use Rattle.laws.proofs.Tests.{split, clash}
+use Rattle.laws.proofs.Visits.{step-counted, step-within, step-most}
 use Rattle.laws.proofs.Levels.{levels}
 use Rattle.laws.proofs.Started.{lists-started, unreached-refused}
 use Rattle.tables.specs.Finding.{promised}
@@ -18,7 +19,7 @@ use Rattle.manager.specs.Promises.{ChecksTableIn, MakesFreshIn, TakesEventIn, P
 use Rattle.demands.specs.Calls as calls
 use Rattle.demands.specs.Conclusions.{OfTable, OfFresh, OfEvent, OfPlay}
 use Rattle.demands.proofs.Demand1.{table-answered, fresh-answered, event-answered}
-use Rattle.demands.proofs.Demand2.{steps, lists, accepts}
+use Rattle.demands.proofs.Demand2.{steps, lists, evaluated, accepts}
 use Rattle.demands.proofs.Requests.{clears, heards}
 use Rattle.demands.proofs.Demand3.{demand-3}
 use Rattle.demands.proofs.Calls.{appended}
@@ -57,18 +58,25 @@ unknown-refused t s room os e k is z =
     (λ b. let y : 2 ≡ 0 = rw (a, b) at (sym is ∙ z) in omega arith))
     (λ a. let y : 1 ≡ 0 = rw a at (sym is ∙ z) in omega arith)))
 
-pub of-event : (t s trace os : List ℕ) (e k n : ℕ) (s′ trace′ : List ℕ) → TakesEventIn t s trace os e k n s′ trace′
-    → OfEvent t s trace os e k n s′ trace′
-of-event t s trace os e k n s′ trace′ p =
+pub of-event : (t s trace os : List ℕ) (e k n v : ℕ) (s′ trace′ : List ℕ) → TakesEventIn t s trace os e k n v s′ trace′
+    → OfEvent t s trace os e k n v s′ trace′
+of-event t s trace os e k n v s′ trace′ p =
     record {
-      answered = event-answered t s trace os e k n s′ trace′ p;
-      steps = λ z. steps t s trace os e k n s′ trace′ p z;
-      lists = λ z. lists t s trace os e k n s′ trace′ p z;
-      clears = λ z. clears t s trace os e k n s′ trace′ p z;
-      heard = λ z. heards t s trace os e k n s′ trace′ p z;
-      unreached = λ l un. bad-table t s (length trace) os e k (event-answered t s trace os e k n s′ trace′ p .number) (unreached-refused t l un);
+      answered = event-answered t s trace os e k n v s′ trace′ p;
+      steps = λ z. steps t s trace os e k n v s′ trace′ p z;
+      lists = λ z. lists t s trace os e k n v s′ trace′ p z;
+      clears = λ z. clears t s trace os e k n v s′ trace′ p z;
+      heard = λ z. heards t s trace os e k n v s′ trace′ p z;
+      unreached = λ l un. bad-table t s (length trace) os e k (event-answered t s trace os e k n v s′ trace′ p .number) (unreached-refused t l un);
       first = λ one known. rw (← first-step t one s (length trace) os e known) p;
-      above = λ j b more z. clash (unknown-refused t s (length trace) os e k (event-answered t s trace os e k n s′ trace′ p .number) z) (above-one os j b more);
+      above = λ j b more z. clash (unknown-refused t s (length trace) os e k (event-answered t s trace os e k n v s′ trace′ p .number) z)
+          (above-one os j b more);
+      visits = record {
+        evaluations = λ z. evaluated t s trace os e k n v s′ trace′ p z;
+        written = rw (p .visits, p .count) (step-counted t s (length trace) os e);
+        within = rw (p .visits) (step-within t s (length trace) os e);
+        most = rw (p .visits) (step-most t s (length trace) os e);
+      };
       taken = λ z s₀ xs q is. appended s q is (calls.taken os e p z calls.none);
     }
 
@@ -76,14 +84,14 @@ bad-play : (t s : List ℕ) (k : ℕ) {A : Type 0} → ((refusedState t s ≡ 0 
 unfolding refusedState
 bad-play t s k f a = rw a at (f (λ z. let y : 1 ≡ 0 = rw a at z in omega arith) .0)
 
-pub of-play : (t s trace es : List ℕ) (k n m : ℕ) (s′ trace′ : List ℕ) → PlaysIn t s trace es k n m s′ trace′ → OfPlay t s trace es k n m s′ trace′
-of-play t s trace es k n m s′ trace′ p =
+pub of-play : (t s trace es : List ℕ) (k n m v : ℕ) (s′ trace′ : List ℕ) → PlaysIn t s trace es k n m v s′ trace′ → OfPlay t s trace es k n m v s′ trace′
+of-play t s trace es k n m v s′ trace′ p =
     record {
-      answered = play-answered t s trace es k n m s′ trace′ p;
-      goes = play-goes t s trace es k n m s′ trace′ p;
-      log = play-log t s trace es k n m s′ trace′ p;
-      state = play-state t s trace es k n m s′ trace′ p;
-      words = play-words t s trace es k n m s′ trace′ p;
-      unreached = λ l un. bad-play t s k (play-answered t s trace es k n m s′ trace′ p .unstood) (unreached-refused t l un);
+      answered = play-answered t s trace es k n m v s′ trace′ p;
+      goes = play-goes t s trace es k n m v s′ trace′ p;
+      log = play-log t s trace es k n m v s′ trace′ p;
+      state = play-state t s trace es k n m v s′ trace′ p;
+      words = play-words t s trace es k n m v s′ trace′ p;
+      unreached = λ l un. bad-play t s k (play-answered t s trace es k n m v s′ trace′ p .unstood) (unreached-refused t l un);
       taken = λ s₀ xs q is. appended s q is (rw append-nil at (calls.played es p calls.none));
     }

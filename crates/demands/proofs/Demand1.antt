@@ -87,17 +87,18 @@ answer-small t s room os e =
     (λ b. rw (a, b) (inl (omega arith))))
     (λ a. rw a (inl (omega arith))))
 
-pub event-answered : (t s trace os : List ℕ) (e k n : ℕ) (s′ trace′ : List ℕ) → TakesEventIn t s trace os e k n s′ trace′
-    → EventAnswered t s trace os e k n s′ trace′
-event-answered t s trace os e k n s′ trace′ p =
+pub event-answered : (t s trace os : List ℕ) (e k n v : ℕ) (s′ trace′ : List ℕ) → TakesEventIn t s trace os e k n v s′ trace′
+    → EventAnswered t s trace os e k n v s′ trace′
+event-answered t s trace os e k n v s′ trace′ p =
     record {
       number = p .answer ∙ fault-is t s (length trace) os e;
       stateKept = λ r. p .state ∙ same r .0;
       traceKept = λ r. p .words ∙ ap (λ (ws : List ℕ). ws ++ drop (length ws) trace) (same r .1);
       noCount = λ r. p .count ∙ ap (λ (ws : List ℕ). length ws) (same r .1);
+      noVisits = λ r. p .visits ∙ same r .2;
     }
   where
-    same : (k ≡ 0 → ⊥) → (step t s (length trace) os e .state ≡ s) × (step t s (length trace) os e .words ≡ [])
+    same : (k ≡ 0 → ⊥) → (step t s (length trace) os e .state ≡ s) × (step t s (length trace) os e .words ≡ []) × (step t s (length trace) os e .visits ≡ 0)
     same r = refusal-changes-nothing t s (length trace) os e (λ z. r (p .answer ∙ z))
 
 pub demand-1 : Demand1

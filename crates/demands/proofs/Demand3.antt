@@ -48,57 +48,57 @@ module _ (t : List ℕ) (h : accepted t ≡ true) (xs : List Entry) (played : Pl
   fit : Fits t s
   fit = log-fits t h (fresh t) xs (log-of t (fresh t) xs played) (fresh-fits t h)
 
-  answer-alike : (e k n : ℕ) (s′ trace′ : List ℕ) → TakesEventIn t s trace os e k n s′ trace′ → k ≡ refusedEvent t os e
+  answer-alike : (e k n v : ℕ) (s′ trace′ : List ℕ) → TakesEventIn t s trace os e k n v s′ trace′ → k ≡ refusedEvent t os e
   unfolding firstFault refusedEvent
-  answer-alike e k n s′ trace′ p = event-answered t s trace os e k n s′ trace′ p .number ∙ rw (h, fit, le-ltb (length trace) (bound t) room)
+  answer-alike e k n v s′ trace′ p = event-answered t s trace os e k n v s′ trace′ p .number ∙ rw (h, fit, le-ltb (length trace) (bound t) room)
 
   wakes : outcomesKnown os ≡ true → (i : ℕ) → i < sources t → 1 ≤ timeout t i → (eqb (statusIn t i s) statusNone || eqb (statusIn t i s) statusExpired) ≡ true
-      → (k n : ℕ) (s′ trace′ : List ℕ) → TakesEventIn t s trace os (ownersEvent eventWakeup (sourceOwner t i) i) k n s′ trace′ → (k ≡ 0) ×
+      → (k n v : ℕ) (s′ trace′ : List ℕ) → TakesEventIn t s trace os (ownersEvent eventWakeup (sourceOwner t i) i) k n v s′ trace′ → (k ≡ 0) ×
       (statusIn t i s′ ≡ statusPending)
   unfolding becomesPending
-  wakes good i b one idle k n s′ trace′ p =
+  wakes good i b one idle k n v s′ trace′ p =
       let o = sourceOwner t i in let few = facts t h .counts .sources in
-      let z : k ≡ 0 = answer-alike _ k n s′ trace′ p ∙ wakeup-known t h os good i b in
+      let z : k ≡ 0 = answer-alike _ k n v s′ trace′ p ∙ wakeup-known t h os good i b in
       let x : Entry = record { event = ownersEvent eventWakeup o i; outcomes = os; state = s′; words = take n trace′ } in
       let woken : becomesPending t i s x ≡ true = rw
       (kind-is eventWakeup o i (omega arith), index-is eventWakeup o i (omega arith), eq-eqb i i refl, idle, le-leb 1 (timeout t i) one) in
       let now : newly statusPending (statusIn t i s) (statusIn t i s′) ≡ true = sym
-      (wakeup-exactly t h i b s x (follows t s trace os _ k n s′ trace′ p z) fit) ∙ woken in
+      (wakeup-exactly t h i b s x (follows t s trace os _ k n v s′ trace′ p z) fit) ∙ woken in
       (z, eqb-true _ _ (and-right (not (eqb (statusIn t i s) statusPending)) _ now))
 
   falls : outcomesKnown os ≡ true → (i : ℕ) → i < networks t → takes (networkIn t i s) ≡ true
-      → (k n : ℕ) (s′ trace′ : List ℕ) → TakesEventIn t s trace os (ownersEvent eventBusOff (networkOwner t i) i) k n s′ trace′ → (k ≡ 0) ×
+      → (k n v : ℕ) (s′ trace′ : List ℕ) → TakesEventIn t s trace os (ownersEvent eventBusOff (networkOwner t i) i) k n v s′ trace′ → (k ≡ 0) ×
       (networkIn t i s′ .state ≡ stateRecover)
   unfolding busOffTaken
-  falls good i b took k n s′ trace′ p =
+  falls good i b took k n v s′ trace′ p =
       let o = networkOwner t i in let few = facts t h .counts .networks in
-      let z : k ≡ 0 = answer-alike _ k n s′ trace′ p ∙ bus-off-known t h os good i b in
+      let z : k ≡ 0 = answer-alike _ k n v s′ trace′ p ∙ bus-off-known t h os good i b in
       let x : Entry = record { event = ownersEvent eventBusOff o i; outcomes = os; state = s′; words = take n trace′ } in
       let off : busOffTaken t i s x ≡ true = rw (kind-is eventBusOff o i (omega arith), index-is eventBusOff o i (omega arith), eq-eqb i i refl, took) in
       let now : newly stateRecover (networkIn t i s .state) (networkIn t i s′ .state) ≡ true = sym
-      (bus-off-exactly t h i b s x (follows t s trace os _ k n s′ trace′ p z) fit) ∙ off in
+      (bus-off-exactly t h i b s x (follows t s trace os _ k n v s′ trace′ p z) fit) ∙ off in
       (z, eqb-true _ _ (and-right (not (eqb (networkIn t i s .state) stateRecover)) _ now))
 
   keeps : outcomesKnown os ≡ true → (i : ℕ) → i < networks t → listens (networkIn t i s) ≡ true
-      → (k n : ℕ) (s′ trace′ : List ℕ) → TakesEventIn t s trace os (ownersEvent eventHeard (networkOwner t i) i) k n s′ trace′ → (k ≡ 0) ×
+      → (k n v : ℕ) (s′ trace′ : List ℕ) → TakesEventIn t s trace os (ownersEvent eventHeard (networkOwner t i) i) k n v s′ trace′ → (k ≡ 0) ×
       (networkIn t i s′ .heard ≡ 1)
   unfolding heardTaken hears
-  keeps good i b on k n s′ trace′ p =
+  keeps good i b on k n v s′ trace′ p =
       let o = networkOwner t i in let few = facts t h .counts .networks in
-      let z : k ≡ 0 = answer-alike _ k n s′ trace′ p ∙ heard-known t h os good i b in
+      let z : k ≡ 0 = answer-alike _ k n v s′ trace′ p ∙ heard-known t h os good i b in
       let x : Entry = record { event = ownersEvent eventHeard o i; outcomes = os; state = s′; words = take n trace′ } in (
         z,
-        heard-kept t h i b s x (follows t s trace os _ k n s′ trace′ p z) fit
+        heard-kept t h i b s x (follows t s trace os _ k n v s′ trace′ p z) fit
             (rw (kind-is eventHeard o i (omega arith), index-is eventHeard o i (omega arith), eq-eqb i i refl, on)),
       )
 
 answered-after : (t : List ℕ) → accepted t ≡ true → AnsweredAfter t (fresh t)
 answered-after t h =
     record {
-      alike = λ xs p trace os e k n s′ trace′ room q. answer-alike t h xs p trace os room e k n s′ trace′ q;
-      wakes = λ xs p i b one idle trace os k n s′ trace′ room good q. wakes t h xs p trace os room good i b one idle k n s′ trace′ q;
-      falls = λ xs p i b took trace os k n s′ trace′ room good q. falls t h xs p trace os room good i b took k n s′ trace′ q;
-      keeps = λ xs p i b on trace os k n s′ trace′ room good q. keeps t h xs p trace os room good i b on k n s′ trace′ q;
+      alike = λ xs p trace os e k n v s′ trace′ room q. answer-alike t h xs p trace os room e k n v s′ trace′ q;
+      wakes = λ xs p i b one idle trace os k n v s′ trace′ room good q. wakes t h xs p trace os room good i b one idle k n v s′ trace′ q;
+      falls = λ xs p i b took trace os k n v s′ trace′ room good q. falls t h xs p trace os room good i b took k n v s′ trace′ q;
+      keeps = λ xs p i b on trace os k n v s′ trace′ room good q. keeps t h xs p trace os room good i b on k n v s′ trace′ q;
     }
 
 -- The strangers struck out of the events taken, and the rest played and resumed.
@@ -110,7 +110,7 @@ module _ (t : List ℕ) (h : accepted t ≡ true) where
   stood : refusedState t (fresh t) ≡ 0
   stood = stands t (fresh t) h (fresh-fits t h)
 
-  module _ (o : ℕ) (xs : List Entry) (went : Played t (fresh t) xs) {k n : ℕ} {s′ ws : List ℕ} (r : Resumed t (fresh t) (struckOut o xs) k n s′ ws) where
+  module _ (o : ℕ) (xs : List Entry) (went : Played t (fresh t) xs) {k n v : ℕ} {s′ ws : List ℕ} (r : Resumed t (fresh t) (struckOut o xs) k n v s′ ws) where
     abbrev es : List ℕ
     es = struckOut o xs
 

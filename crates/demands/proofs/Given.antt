@@ -17,17 +17,20 @@ same-eq (x ∷ xs) [] h = clash refl (sym h)
 same-eq (x ∷ xs) (y ∷ ys) h =
     let e = eqb-true x y (and-left (eqb x y) (same xs ys) h) in let d = same-eq xs ys (and-right (eqb x y) (same xs ys) h) in rw (e, d)
 
-pub record Given (r : Result) (k : ℕ) (s ws : List ℕ) : Type 0 where
+pub record Given (r : Result) (k : ℕ) (s ws : List ℕ) (v : ℕ) : Type 0 where
   pub answer : r .answer ≡ k
   pub state : r .state ≡ s
   pub words : r .words ≡ ws
+  pub visits : r .visits ≡ v
 
-pub given : (r : Result) (k : ℕ) (s ws : List ℕ) → gives r k s ws ≡ true → Given r k s ws
+pub given : (r : Result) (k : ℕ) (s ws : List ℕ) (v : ℕ) → gives r k s ws v ≡ true → Given r k s ws v
 unfolding gives
-given r k s ws h =
-    let q = and-left (eqb (r .answer) k && same (r .state) s) _ h in
+given r k s ws v h =
+    let p = and-left (eqb (r .answer) k && same (r .state) s && same (r .words) ws) _ h in
+    let q = and-left (eqb (r .answer) k && same (r .state) s) _ p in
     record {
       answer = eqb-true _ _ (and-left (eqb (r .answer) k) _ q);
       state = same-eq _ _ (and-right (eqb (r .answer) k) _ q);
-      words = same-eq _ _ (and-right (eqb (r .answer) k && same (r .state) s) _ h);
+      words = same-eq _ _ (and-right (eqb (r .answer) k && same (r .state) s) _ p);
+      visits = eqb-true _ _ (and-right (eqb (r .answer) k && same (r .state) s && same (r .words) ws) _ h);
     }

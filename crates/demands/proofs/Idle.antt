@@ -23,9 +23,9 @@ use Rattle.laws.proofs.Chosen.{behind}
 use Rattle.laws.proofs.Steps.{step-cases, happen-paid}
 use Rattle.events.specs.declared.Answer.{Answer}
 use Rattle.events.specs.declared.Answer.the-variants.{Done, BadTable, UnfitState, ShortTrace, Malformed, NoSuchThing, NotItsOwner, BadOutcome}
-use Rattle.events.specs.Answers.{numberOf, countOf, Reports}
+use Rattle.events.specs.Answers.{numberOf, countOf, visitsOf, Reports}
 use Rattle.demands.specs.Idle.{Gave, Program, Words, Input, Meets, LeavesWords}
-use Rattle.demands.specs.Idle.{RefusesAll, AnswersAlike, DoesNothing, OnlyFirstTick, OnlyFirstList, InventsCount, CountsAlike}
+use Rattle.demands.specs.Idle.{RefusesAll, AnswersAlike, DoesNothing, OnlyFirstTick, OnlyFirstList, InventsCount, CountsAlike, VisitsAlike}
 use Rattle.demands.proofs.Demand1.{answer-small}
 use Rattle.demands.proofs.Demand2.{steps, done-step}
 use Rattle.demands.proofs.Given.{same-eq, Given, given}
@@ -37,17 +37,17 @@ at-fresh : atFresh ≡ 0 ∷ 0 ∷ 0 ∷ 0 ∷ []
 unfolding markedRun
 at-fresh = same-eq _ _ (part-of _ (λ e. rw (markedRun, e) at claim))
 
-requested : Given (marked atFresh 0x11000500) 0 (0x81400000 ∷ 0 ∷ 0x40000000 ∷ 0x80000000 ∷ []) (0xF1000000 ∷ 0x41000002 ∷ 0x01001234 ∷ [])
+requested : Given (marked atFresh 0x11000500) 0 (0x81400000 ∷ 0 ∷ 0x40000000 ∷ 0x80000000 ∷ []) (0xF1000000 ∷ 0x41000002 ∷ 0x01001234 ∷ []) 1
 unfolding markedRun
-requested = given _ _ _ _ (part-of _ (λ e. rw (markedRun, e, and-false) at claim))
+requested = given _ _ _ _ _ (part-of _ (λ e. rw (markedRun, e, and-false) at claim))
 
-ticked : Given (marked afterRequest 0) 0 (0x81400000 ∷ 0x80800000 ∷ 0x40000000 ∷ 0x90000005 ∷ []) []
+ticked : Given (marked afterRequest 0) 0 (0x81400000 ∷ 0x80800000 ∷ 0x40000000 ∷ 0x90000005 ∷ []) [] 0
 unfolding markedRun
-ticked = given _ _ _ _ (part-of _ (λ e. rw (markedRun, e, and-false) at claim))
+ticked = given _ _ _ _ _ (part-of _ (λ e. rw (markedRun, e, and-false) at claim))
 
-malformed : Given (marked atFresh 0x21000500) 4 atFresh []
+malformed : Given (marked atFresh 0x21000500) 4 atFresh [] 0
 unfolding markedRun refuses
-malformed = given _ _ _ _ (part-of _ (λ e. rw (markedRun, e, and-false) at claim))
+malformed = given _ _ _ _ _ (part-of _ (λ e. rw (markedRun, e, and-false) at claim))
 
 three : word afterThree 3 ≡ 0x90080005
 unfolding markedRun
@@ -98,6 +98,10 @@ module _ (p : Program) (meets : Meets p) where
     counts : countOf (p table s lent [] e .answer) ≡ length (marked s e .words)
     unfolding marked lent
     counts = meets table s lent [] e (given-words s e h b) .count
+
+    visits : visitsOf (p table s lent [] e .answer) ≡ marked s e .visits
+    unfolding marked lent
+    visits = meets table s lent [] e (given-words s e h b) .visits
 
   at-request : Input table atFresh lent [] 0x11000500
   at-request = given-words atFresh _ fresh-words (omega arith)
@@ -150,6 +154,15 @@ module _ (p : Program) (meets : Meets p) where
       let z : _≡_ {A = ℕ} 3 0 = sym three-words ∙ idle table atFresh afterRequest lent [] _ 0 at-request at-tick request-done tick-done ∙ no-words in
       absurd (omega arith)
 
+  pub not-visits-alike : VisitsAlike p → ⊥
+  not-visits-alike idle =
+      let at-tick = given-words afterRequest 0 requested-words (omega arith) in
+      let tick-done = answers afterRequest 0 requested-words (omega arith) ∙ ticked .answer in
+      let one = visits atFresh _ fresh-words (omega arith) ∙ requested .visits in
+      let none = visits afterRequest 0 requested-words (omega arith) ∙ ticked .visits in
+      let z : _≡_ {A = ℕ} 1 0 = sym one ∙ idle table atFresh afterRequest lent [] _ 0 at-request at-tick request-done tick-done ∙ none in
+      absurd (omega arith)
+
 -- The first list alone. Lists that run write at least one word each, so what follows the first is not nothing.
 
 word-each : {t ls ws : List ℕ} → WrittenBy t ls ws → length ls ≤ length ws
@@ -162,7 +175,7 @@ not-only-first-list p meets idle =
     let c = idle .call in
     let o = p t (idle .state) (idle .trace) (idle .outcomes) (idle .event) in
     let m = meets t (idle .state) (idle .trace) (idle .outcomes) (idle .event) (c .input) in
-    let new = steps t (idle .state) (idle .trace) (idle .outcomes) (idle .event) _ _ (o .state) (o .trace) m (m .answer ∙ c .done) .new in
+    let new = steps t (idle .state) (idle .trace) (idle .outcomes) (idle .event) _ _ _ (o .state) (o .trace) m (m .answer ∙ c .done) .new in
     let x = beforeLists t (c .ports) (heeded t (idle .outcomes)) (c .from) in
     let first = runAll t (c .first ∷ []) x in
     let b = behind t (c .second ∷ c .more) first in
@@ -231,49 +244,51 @@ not-invents-count p meets idle =
 
 -- A program that meets the promise: the step, in the call's answers.
 
-answerWith : ℕ → ℕ → Answer
-answerWith zero n = Done (record { count = n })
-answerWith (suc zero) n = BadTable
-answerWith (suc (suc zero)) n = UnfitState
-answerWith (suc (suc (suc zero))) n = ShortTrace
-answerWith (suc (suc (suc (suc zero)))) n = Malformed
-answerWith (suc (suc (suc (suc (suc zero))))) n = NoSuchThing
-answerWith (suc (suc (suc (suc (suc (suc zero)))))) n = NotItsOwner
-answerWith (suc (suc (suc (suc (suc (suc (suc k))))))) n = BadOutcome
+answerWith : ℕ → ℕ → ℕ → Answer
+answerWith zero n v = Done (record { count = n; visits = v })
+answerWith (suc zero) n v = BadTable
+answerWith (suc (suc zero)) n v = UnfitState
+answerWith (suc (suc (suc zero))) n v = ShortTrace
+answerWith (suc (suc (suc (suc zero)))) n v = Malformed
+answerWith (suc (suc (suc (suc (suc zero))))) n v = NoSuchThing
+answerWith (suc (suc (suc (suc (suc (suc zero)))))) n v = NotItsOwner
+answerWith (suc (suc (suc (suc (suc (suc (suc k))))))) n v = BadOutcome
 
-answer-number : (k n : ℕ) → (k ≤ 6) ⊎ (k ≡ 8) → numberOf (answerWith k n) ≡ k
+answer-number : (k n v : ℕ) → (k ≤ 6) ⊎ (k ≡ 8) → numberOf (answerWith k n v) ≡ k
 unfolding answerWith
-answer-number zero n h = refl
-answer-number (suc zero) n h = refl
-answer-number (suc (suc zero)) n h = refl
-answer-number (suc (suc (suc zero))) n h = refl
-answer-number (suc (suc (suc (suc zero)))) n h = refl
-answer-number (suc (suc (suc (suc (suc zero))))) n h = refl
-answer-number (suc (suc (suc (suc (suc (suc zero)))))) n h = refl
-answer-number (suc (suc (suc (suc (suc (suc (suc zero))))))) n h = ⊎-elim (λ a. absurd (omega arith)) (λ a. absurd (omega arith)) h
-answer-number (suc (suc (suc (suc (suc (suc (suc (suc k)))))))) n h = ⊎-elim (λ a. absurd (omega arith)) (λ a. sym a) h
+answer-number zero n v h = refl
+answer-number (suc zero) n v h = refl
+answer-number (suc (suc zero)) n v h = refl
+answer-number (suc (suc (suc zero))) n v h = refl
+answer-number (suc (suc (suc (suc zero)))) n v h = refl
+answer-number (suc (suc (suc (suc (suc zero))))) n v h = refl
+answer-number (suc (suc (suc (suc (suc (suc zero)))))) n v h = refl
+answer-number (suc (suc (suc (suc (suc (suc (suc zero))))))) n v h = ⊎-elim (λ a. absurd (omega arith)) (λ a. absurd (omega arith)) h
+answer-number (suc (suc (suc (suc (suc (suc (suc (suc k)))))))) n v h = ⊎-elim (λ a. absurd (omega arith)) (λ a. sym a) h
 
-no-count : (k : ℕ) → countOf (answerWith k 0) ≡ 0
+-- neither count nor visits
+none-reported : (k : ℕ) → (countOf (answerWith k 0 0) ≡ 0) × (visitsOf (answerWith k 0 0) ≡ 0)
 unfolding answerWith
-no-count zero = refl
-no-count (suc zero) = refl
-no-count (suc (suc zero)) = refl
-no-count (suc (suc (suc zero))) = refl
-no-count (suc (suc (suc (suc zero)))) = refl
-no-count (suc (suc (suc (suc (suc zero))))) = refl
-no-count (suc (suc (suc (suc (suc (suc zero)))))) = refl
-no-count (suc (suc (suc (suc (suc (suc (suc k))))))) = refl
+none-reported zero = (refl, refl)
+none-reported (suc zero) = (refl, refl)
+none-reported (suc (suc zero)) = (refl, refl)
+none-reported (suc (suc (suc zero))) = (refl, refl)
+none-reported (suc (suc (suc (suc zero)))) = (refl, refl)
+none-reported (suc (suc (suc (suc (suc zero))))) = (refl, refl)
+none-reported (suc (suc (suc (suc (suc (suc zero)))))) = (refl, refl)
+none-reported (suc (suc (suc (suc (suc (suc (suc k))))))) = (refl, refl)
 
 gave : List ℕ → Result → Gave
-gave trace x = record { answer = answerWith (x .answer) (length (x .words)); state = x .state; trace = x .words ++ drop (length (x .words)) trace }
+gave trace x =
+    record { answer = answerWith (x .answer) (length (x .words)) (x .visits); state = x .state; trace = x .words ++ drop (length (x .words)) trace }
 
 reported : (t s trace : List ℕ) (room : ℕ) (os : List ℕ) (e : ℕ)
     → (let g = gave trace (step t s room os e) in Reports (step t s room os e) trace (g .answer) (g .state) (g .trace))
 unfolding gave answerWith
 reported t s trace room os e =
     step-cases (λ x. (x .answer ≤ 6) ⊎ (x .answer ≡ 8) → Reports x trace (gave trace x .answer) (gave trace x .state) (gave trace x .trace)) t s room os e
-    (λ k a b small. record { answer = answer-number k 0 small; count = no-count k; state = refl; words = refl })
-    (λ c w small. record { answer = refl; count = refl; state = refl; words = refl }) (answer-small t s room os e)
+    (λ k a b small. record { answer = answer-number k 0 0 small; count = none-reported k .0; visits = none-reported k .1; state = refl; words = refl })
+    (λ c w small. record { answer = refl; count = refl; visits = refl; state = refl; words = refl }) (answer-small t s room os e)
 
 pub meets-exists : (p : Program) × Meets p × LeavesWords p
 unfolding gave

@@ -9,6 +9,7 @@ use borrow.Author.Tests.{ne-eqb}
 use Rattle.rulebook.specs.Words.{digit, first, all, any, sum, listed, each, until}
 use Rattle.rulebook.specs.Table.{part, abort, aSize, byItem, stranger, deferred}
 use Rattle.rulebook.specs.Expressions.{operator, expressionNests, expressionWithin, expressionMentions, mentions, condition, expressionHolds, holds}
+use Rattle.rulebook.specs.Expressions.{settled, skipsRight, expressionVisited, visited}
 use Rattle.rulebook.specs.Reasons.{hasHeader, knownEdition, countsInside, exactLength, portFields, expressionFields, itemFields, ownFields}
 use Rattle.rulebook.specs.Reasons.{networkHas, held, mayShow, expressionNames, listOrNone, itemNames, names}
 use Rattle.rulebook.specs.Reasons.{itemNests, listNests, listWithin, nesting, strangersPort, ruleOwned, itemOwned, owners, itemCost, listCost}
@@ -16,10 +17,10 @@ use Rattle.rulebook.specs.Reasons.{ruleReaches, itemReaches, listReaches, reach
 use Rattle.rulebook.specs.Reasons.{costWithin, bound, affordable, breaks, lowest, orNext, firstOf, check}
 use Rattle.rulebook.specs.State.{thing, ownerOf, packPort, packRule, portFits, ruleFits, thingFits, fitsAt, fits}
 use Rattle.rulebook.specs.Lists.{Run, traceWord, setPort, effect, unread, act, stops, valueIn, undefinedIn, unready, resultIn, choice, choiceIn}
-use Rattle.rulebook.specs.Lists.{setResult, runItem}
+use Rattle.rulebook.specs.Lists.{visitsIn, setResult, runItem}
 use Rattle.rulebook.specs.Lists.{runItems, runList}
 use Rattle.rulebook.specs.Arbitration.{unmarkPort, unmarkPorts, evaluated, storeResult, storeResults, chooses, chosen, ofPriority, orderBelow, order}
-use Rattle.rulebook.specs.Arbitration.{runIf, runChosen, decide, arbitrate}
+use Rattle.rulebook.specs.Arbitration.{visitsBy, ruleVisits, runIf, runChosen, decide, arbitrate}
 use Rattle.rulebook.specs.Events.{eventKind, eventIndex, eventTick, only, request, happen}
 use Rattle.rulebook.specs.Step.{wellFormed, named, present, suited, known, sentByOwner, goodOrFailed, outcomesKnown, firstFault, finish, conclude, heeded, step}
 use Rattle.rulebook.specs.Marked.{same, gives}
@@ -35,12 +36,13 @@ use Rattle.demands.specs.TwoLists.{table, fresh, bothRun}
 
 pub claim : bothRun ≡ true
 unfolding digit byItem first all any sum listed each until part abort aSize stranger operator expressionNests expressionWithin expressionMentions
-    mentions condition expressionHolds holds hasHeader knownEdition countsInside exactLength portFields expressionFields itemFields ownFields networkHas
+    mentions condition expressionHolds holds settled skipsRight expressionVisited visited hasHeader knownEdition countsInside exactLength portFields
+    expressionFields itemFields ownFields networkHas
     held mayShow expressionNames listOrNone itemNames names itemNests listNests listWithin nesting strangersPort ruleOwned itemOwned
     owners ruleReaches itemReaches listReaches reachesWithin reachedBy reached itemCost listCost costWithin bound affordable
     breaks lowest orNext firstOf check thing ownerOf packPort packRule portFits
-    ruleFits thingFits fitsAt fits traceWord setPort effect unread act stops valueIn undefinedIn unready resultIn choice choiceIn setResult runItem
-    runItems runList unmarkPort unmarkPorts evaluated storeResult storeResults chooses chosen ofPriority orderBelow order runIf
+    ruleFits thingFits fitsAt fits traceWord setPort effect unread act stops valueIn undefinedIn unready resultIn visitsIn choice choiceIn setResult runItem
+    runItems runList unmarkPort unmarkPorts evaluated storeResult storeResults visitsBy ruleVisits chooses chosen ofPriority orderBelow order runIf
     runChosen decide arbitrate only request happen wellFormed named present suited known sentByOwner goodOrFailed outcomesKnown
     firstFault finish conclude heeded step same gives table fresh bothRun
 claim = refl
@@ -89,9 +91,9 @@ two-of (zero ∷ []) a b = absurd (omega arith)
 two-of (suc l ∷ []) a b = let z : 0 + 0 ≡ 1 = rw (ne-eqb 0 (suc l) (λ y. omega arith)) at a in absurd (omega arith)
 two-of (l ∷ k ∷ ls) a b = record { one = l; other = k; more = ls; are = refl }
 
-answered : Given (step table fresh 4 [] e) 0 (0x81400000 ∷ 0x40000000 ∷ 0x40000000 ∷ []) (0xF1010000 ∷ 0x0100000B ∷ 0xF1000000 ∷ 0x0100000A ∷ [])
+answered : Given (step table fresh 4 [] e) 0 (0x81400000 ∷ 0x40000000 ∷ 0x40000000 ∷ []) (0xF1010000 ∷ 0x0100000B ∷ 0xF1000000 ∷ 0x0100000A ∷ []) 2
 unfolding bothRun
-answered = given _ _ _ _ claim
+answered = given _ _ _ _ _ claim
 
 -- what the request arbitrates is port 0 alone
 abbrev x : Run

@@ -12,11 +12,11 @@ use Rattle.manager.specs.Promises.{TakesEventIn, PlaysIn}
 -- calls would, and the next call goes on from the play's state (that this is the last entry's, `OfPlay` says).
 pub data Played (t : List ℕ) : List ℕ → List Entry → Type 0 where
   none : {s : List ℕ} → Played t s []
-  refused : {s trace s′ trace′ : List ℕ} (os : List ℕ) (e : ℕ) {k n : ℕ} {xs : List Entry} → TakesEventIn t s trace os e k n s′ trace′ → (k ≡ 0 → ⊥)
+  refused : {s trace s′ trace′ : List ℕ} (os : List ℕ) (e : ℕ) {k n v : ℕ} {xs : List Entry} → TakesEventIn t s trace os e k n v s′ trace′ → (k ≡ 0 → ⊥)
       → Played t s′ xs
       → Played t s xs
-  taken : {s trace s′ trace′ : List ℕ} (os : List ℕ) (e : ℕ) {k n : ℕ} {xs : List Entry} → TakesEventIn t s trace os e k n s′ trace′ → k ≡ 0
+  taken : {s trace s′ trace′ : List ℕ} (os : List ℕ) (e : ℕ) {k n v : ℕ} {xs : List Entry} → TakesEventIn t s trace os e k n v s′ trace′ → k ≡ 0
       → Played t s′ xs
       → Played t s (record { event = e; outcomes = os; state = s′; words = take n trace′ } ∷ xs)
-  played : {s trace s′ trace′ : List ℕ} (es : List ℕ) {k n m : ℕ} {xs : List Entry} → PlaysIn t s trace es k n m s′ trace′ → Played t s′ xs
+  played : {s trace s′ trace′ : List ℕ} (es : List ℕ) {k n m v : ℕ} {xs : List Entry} → PlaysIn t s trace es k n m v s′ trace′ → Played t s′ xs
       → Played t s (logFrom t s (take n es) ++ xs)

@@ -4,13 +4,15 @@ use mathlib.Core.Path.{_≡_}
 use mathlib.Core.List.{List, [], _∷_, _++_}
 use mathlib.Core.Logic.{_↔_}
 use mathlib.Core.Bool.{true}
-use Prim.Native.Nat.{ℕ, _<_}
+use Prim.Native.Nat.{ℕ, _+_, _*_, _≤_, _<_}
 use lib.ListN.{length, take}
 use Rattle.rulebook.specs.Words.{word}
-use Rattle.rulebook.specs.Table.{edition}
+use Rattle.rulebook.specs.Table.{edition, rules}
+use Rattle.rulebook.specs.Reasons.{bound}
 use Rattle.rulebook.specs.Step.{outcomesKnown, heeded}
 use Rattle.laws.specs.Acceptance.{Rules}
 use Rattle.laws.specs.Chosen.{Arbitrated}
+use Rattle.laws.specs.Visits.{evaluations, Visited}
 use Rattle.laws.specs.Cleared.{ClearCounts}
 use Rattle.laws.specs.Levels.{Levels}
 use Rattle.laws.specs.Reached.{Unreached, ListsStarted}
@@ -39,9 +41,17 @@ pub record OfFresh (t s : List ℕ) (k : ℕ) (s′ : List ℕ) : Type 0 where
 abbrev pub OfState : List ℕ → List ℕ → ℕ → Type 0
 OfState t s k = StateAnswered t s k
 
-pub record OfEvent (t s trace os : List ℕ) (e k n : ℕ) (s′ trace′ : List ℕ) : Type 0 where
-  pub answered : EventAnswered t s trace os e k n s′ trace′
-  pub steps : k ≡ 0 → Steps t s trace os e n s′ trace′
+-- Q-10, of v visits reported with the answer k and the count n: "at most 127 times the sum of R and B, so never above 552,704"
+pub record Counted (t s : List ℕ) (e k n v : ℕ) (trace′ : List ℕ) : Type 0 where
+  -- one to 127 for each rule that is evaluated and each rule item that gives a result
+  pub evaluations : k ≡ 0 → Visited (evaluations t e s (take n trace′)) v
+  pub written : v ≤ 127 * (rules t + n)
+  pub within : v ≤ 127 * (rules t + bound t)
+  pub most : v ≤ 552704
+
+pub record OfEvent (t s trace os : List ℕ) (e k n v : ℕ) (s′ trace′ : List ℕ) : Type 0 where
+  pub answered : EventAnswered t s trace os e k n v s′ trace′
+  pub steps : k ≡ 0 → Steps t s trace os e n v s′ trace′
   pub lists : k ≡ 0 → Arbitrated t e (heeded t os) s s′ (take n trace′)
   -- Q-2: "a clear marks the port .. for the next tick unless arbitrated sooner"
   pub clears : k ≡ 0 → ClearCounts t e s s′ (take n trace′)
@@ -50,17 +60,19 @@ pub record OfEvent (t s trace os : List ℕ) (e k n : ℕ) (s′ trace′ : List
   -- Q-6: "Every event call meets it as answer 1."
   pub unreached : (l : ℕ) → Unreached t l → k ≡ 1
   -- Q-9: "edition 1 tables act as if all calls were good, though answer 8 stands there too"
-  pub first : edition t ≡ 1 → outcomesKnown os ≡ true → TakesEventIn t s trace [] e k n s′ trace′
+  pub first : edition t ≡ 1 → outcomesKnown os ≡ true → TakesEventIn t s trace [] e k n v s′ trace′
   -- "An outcome word above 1 is answer 8", in every edition and of every event: none is taken
   pub above : (j : ℕ) → j < length os → 1 < word os j → k ≡ 0 → ⊥
+  -- Q-10: "How much a step can cost"; that a refusal's is 0 `answered` says, and that it is the definition's `steps`
+  pub visits : Counted t s e k n v trace′
   -- the log goes on: calls that led from s₀ to s, and this one
   pub taken : k ≡ 0 → (s₀ : List ℕ) (xs : List Entry) → Played t s₀ xs → stateAfter s₀ xs ≡ s
       → Played t s₀ (xs ++ record { event = e; outcomes = os; state = s′; words = take n trace′ } ∷ [])
 
 -- Q-1, of a play of es: k what ended it, n events taken, m trace words written
-pub record OfPlay (t s trace es : List ℕ) (k n m : ℕ) (s′ trace′ : List ℕ) : Type 0 where
-  pub answered : PlayAnswered t s trace es k n m s′ trace′
-  pub goes : PlayGoes t s trace es k n m s′ trace′
+pub record OfPlay (t s trace es : List ℕ) (k n m v : ℕ) (s′ trace′ : List ℕ) : Type 0 where
+  pub answered : PlayAnswered t s trace es k n m v s′ trace′
+  pub goes : PlayGoes t s trace es k n m v s′ trace′
   -- the events taken are a log of the rulebook's steps, which ends in the play's state and whose words, joined, are the play's
   pub log : Log t s (logFrom t s (take n es))
   pub state : stateAfter s (logFrom t s (take n es)) ≡ s′

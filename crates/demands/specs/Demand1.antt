@@ -34,17 +34,19 @@ pub record StateAnswered (t s : List ℕ) (k : ℕ) : Type 0 where
   pub done : accepted t ≡ true → fits t s ≡ true → k ≡ 0
 
 -- the event call
-pub record EventAnswered (t s trace os : List ℕ) (e k n : ℕ) (s′ trace′ : List ℕ) : Type 0 where
+pub record EventAnswered (t s trace os : List ℕ) (e k n v : ℕ) (s′ trace′ : List ℕ) : Type 0 where
   pub number : k ≡ firstFault t s (length trace) os e
   pub stateKept : (k ≡ 0 → ⊥) → s′ ≡ s
   pub traceKept : (k ≡ 0 → ⊥) → trace′ ≡ trace
   pub noCount : (k ≡ 0 → ⊥) → n ≡ 0
+  -- Q-10: "Refusals report 0"
+  pub noVisits : (k ≡ 0 → ⊥) → v ≡ 0
 
 pub record Demand1 : Type 0 where
   pub checkTable : (t : List ℕ) (reason place b : ℕ) → ChecksTableIn t reason place b → TableAnswered t reason place b
   pub makeFresh : (t s : List ℕ) (k : ℕ) (s′ : List ℕ) → MakesFreshIn t s k s′ → FreshAnswered t s k s′
   pub checkState : (t s : List ℕ) (k : ℕ) → ChecksStateIn t s k → StateAnswered t s k
-  pub takeEvent : (t s trace os : List ℕ) (e k n : ℕ) (s′ trace′ : List ℕ) → TakesEventIn t s trace os e k n s′ trace′
-      → EventAnswered t s trace os e k n s′ trace′
+  pub takeEvent : (t s trace os : List ℕ) (e k n v : ℕ) (s′ trace′ : List ℕ) → TakesEventIn t s trace os e k n v s′ trace′
+      → EventAnswered t s trace os e k n v s′ trace′
   -- Q-1: of a play the first refusal, and what it changes nothing of
-  pub play : (t s trace es : List ℕ) (k n m : ℕ) (s′ trace′ : List ℕ) → PlaysIn t s trace es k n m s′ trace′ → PlayAnswered t s trace es k n m s′ trace′
+  pub play : (t s trace es : List ℕ) (k n m v : ℕ) (s′ trace′ : List ℕ) → PlaysIn t s trace es k n m v s′ trace′ → PlayAnswered t s trace es k n m v s′ trace′

@@ -11,7 +11,7 @@ use Rattle.rulebook.specs.Step.{heeded, step}
 use Rattle.laws.specs.Sequence.{Each}
 use Rattle.laws.specs.Chosen.{runAll, beforeLists, ListsRan}
 use Rattle.events.specs.declared.Answer.{Answer}
-use Rattle.events.specs.Answers.{numberOf, countOf}
+use Rattle.events.specs.Answers.{numberOf, countOf, visitsOf}
 use Rattle.manager.specs.Promises.{TakesEvent}
 
 -- what a program gives
@@ -106,3 +106,9 @@ abbrev pub CountsAlike : Program → Type 0
 CountsAlike p = (t s₁ s₂ trace os : List ℕ) (e d : ℕ) → Input t s₁ trace os e → Input t s₂ trace os d
     → numberOf (p t s₁ trace os e .answer) ≡ 0 → numberOf (p t s₂ trace os d .answer) ≡ 0
     → countOf (p t s₁ trace os e .answer) ≡ countOf (p t s₂ trace os d .answer)
+
+-- Q-10: and so are the visits
+abbrev pub VisitsAlike : Program → Type 0
+VisitsAlike p = (t s₁ s₂ trace os : List ℕ) (e d : ℕ) → Input t s₁ trace os e → Input t s₂ trace os d
+    → numberOf (p t s₁ trace os e .answer) ≡ 0 → numberOf (p t s₂ trace os d .answer) ≡ 0
+    → visitsOf (p t s₁ trace os e .answer) ≡ visitsOf (p t s₂ trace os d .answer)

@@ -16,4 +16,4 @@ fresh = 0 ∷ 0 ∷ 0 ∷ []
 -- port 0 is set to 5, with four trace words of room and no outcomes lent
 unfoldable pub bothRun : Bool
 bothRun =
-    gives (step table fresh 4 [] 0x11000500) 0 (0x81400000 ∷ 0x40000000 ∷ 0x40000000 ∷ []) (0xF1010000 ∷ 0x0100000B ∷ 0xF1000000 ∷ 0x0100000A ∷ [])
+    gives (step table fresh 4 [] 0x11000500) 0 (0x81400000 ∷ 0x40000000 ∷ 0x40000000 ∷ []) (0xF1010000 ∷ 0x0100000B ∷ 0xF1000000 ∷ 0x0100000A ∷ []) 2

@@ -1,7 +1,7 @@
 // The entries of `manager`.
 ghost use Rattle.tables.specs.Finding.{finding};
 ghost use Rattle.states.specs.Made.{numberOf as madeNumber};
-ghost use Rattle.events.specs.Answers.{numberOf, countOf};
+ghost use Rattle.events.specs.Answers.{numberOf, countOf, visitsOf};
 ghost use Rattle.manager.specs.Answers.{stateNumber, endNumber};
 ghost use Rattle.demands.specs.Conclusions.{OfTable, OfFresh, OfState, OfEvent, OfPlay};
 use events::Answer;
@@ -29,7 +29,7 @@ pub fn check_state(t: &[u32], s: &[u32]) -> Fit
 }
 
 pub fn take_event(t: &[u32], s: &mut [u32], trace: &mut [u32], outcomes: &[u32], e: u32) -> Answer
-    ensures { λ r. ⌜ OfEvent (now (t .entry)) (now (s .entry)) (now (trace .entry)) (now (outcomes .entry)) e (numberOf r) (countOf r)
+    ensures { λ r. ⌜ OfEvent (now (t .entry)) (now (s .entry)) (now (trace .entry)) (now (outcomes .entry)) e (numberOf r) (countOf r) (visitsOf r)
         (now (s .exit)) (now (trace .exit)) ⌝ }
 {
     manager::take_event(t, s, trace, outcomes, e)
@@ -37,7 +37,7 @@ pub fn take_event(t: &[u32], s: &mut [u32], trace: &mut [u32], outcomes: &[u32],
 
 pub fn play(t: &[u32], s: &mut [u32], trace: &mut [u32], es: &[u32]) -> Played
     ensures { λ r. ⌜ OfPlay (now (t .entry)) (now (s .entry)) (now (trace .entry)) (now (es .entry)) (endNumber (r .end)) (r .taken) (r .count)
-        (now (s .exit)) (now (trace .exit)) ⌝ }
+        (r .visits) (now (s .exit)) (now (trace .exit)) ⌝ }
 {
     manager::play(t, s, trace, es)
 }

@@ -26,11 +26,12 @@ pub fn take_event(
     outcomes: &[u32],
     e: u32,
     count: &mut usize,
+    visits: &mut u32,
 ) -> u32
     ensures { λ r. ⌜ OfEvent (now (t .entry)) (now (s .entry)) (now (trace .entry)) (now (outcomes .entry)) e r (now (count .exit))
-        (now (s .exit)) (now (trace .exit)) ⌝ }
+        (now (visits .exit)) (now (s .exit)) (now (trace .exit)) ⌝ }
 {
-    gateway::herringcart_take_event(t, s, trace, outcomes, e, count)
+    gateway::herringcart_take_event(t, s, trace, outcomes, e, count, visits)
 }
 
 pub fn play(
@@ -40,9 +41,10 @@ pub fn play(
     es: &[u32],
     taken: &mut usize,
     count: &mut usize,
+    visits: &mut u64,
 ) -> u32
     ensures { λ r. ⌜ OfPlay (now (t .entry)) (now (s .entry)) (now (trace .entry)) (now (es .entry)) r (now (taken .exit)) (now (count .exit))
-        (now (s .exit)) (now (trace .exit)) ⌝ }
+        (now (visits .exit)) (now (s .exit)) (now (trace .exit)) ⌝ }
 {
-    gateway::herringcart_play(t, s, trace, es, taken, count)
+    gateway::herringcart_play(t, s, trace, es, taken, count, visits)
 }

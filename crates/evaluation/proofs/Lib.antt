@@ -1,5 +1,6 @@
 -- Laws of an evaluation, as the code goes through it.
 pub mod Skipping
+pub mod Word
 pub mod Section
 pub mod Level
 pub mod Ready

@@ -1,4 +1,4 @@
 -- What the contracts of the evaluation cite beside the rulebook.
 pub mod Condition
+pub mod Found
 pub mod Section
-pub mod Skipping

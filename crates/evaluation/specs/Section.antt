@@ -5,7 +5,8 @@ use mathlib.Core.Bool.{Bool}
 use mathlib.Core.List.{List}
 use lib.ListN.{length, drop}
 use Rattle.rulebook.specs.Table.{expressionsFrom}
-use Rattle.rulebook.specs.Expressions.{mentions, holds}
+use Rattle.rulebook.specs.Expressions.{mentions}
+use Rattle.evaluation.specs.Found.{Evaluates}
 
 -- x is that part of table t
 abbrev pub Section : List ℕ → List ℕ → Type 0
@@ -16,9 +17,9 @@ pub record StartsAt (t : List ℕ) (from i : ℕ) : Type 0 where
   pub inside : i ≤ length t
   pub part : drop i t ≡ drop from t
 
--- b is what expression e, d deep at most, gives in every table of which x is that part
-abbrev pub HoldsIn : List ℕ → (ℕ → ℕ) → ℕ → ℕ → Bool → Type 0
-HoldsIn x v e d b = (t : List ℕ) → Section t x → b ≡ holds d t v e
+-- r is what evaluating expression e, d deep at most, reports in every table of which x is that part
+abbrev pub EvaluatedIn : List ℕ → (ℕ → ℕ) → ℕ → ℕ → ℕ → Type 0
+EvaluatedIn x v e d r = (t : List ℕ) → Section t x → Evaluates t v e d r
 
 -- b is whether such an expression mentions one of q's ports, in every such table
 abbrev pub MentionsIn : List ℕ → (ℕ → Bool) → ℕ → ℕ → Bool → Type 0

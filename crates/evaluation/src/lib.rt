@@ -1,15 +1,16 @@
 // Evaluation of expressions and of rules, by the port words of a state. Evaluation and the test for undefined
 // ports go down into the left and then the right argument, with one level less each time.
 ghost use mathlib.Core.Path.{_≡_};
+ghost use Prim.Native.Nat.{_≤_};
 ghost use Rattle.rulebook.specs.Words.{any};
 ghost use Rattle.rulebook.specs.Table.{expressionsFrom};
-ghost use Rattle.rulebook.specs.Expressions.{mentions, met, joined as joinedOf, holds as holdsOf};
-ghost use Rattle.rulebook.specs.Lists.{valueIn, undefinedIn, unready as unreadyOf, resultIn, listFor, choice as choiceOf};
+ghost use Rattle.rulebook.specs.Expressions.{mentions, met, joined as joinedOf, settled as settledOf};
+ghost use Rattle.rulebook.specs.Lists.{valueIn, undefinedIn, unready as unreadyOf, listFor, choice as choiceOf};
 ghost use Rattle.words.specs.Field.{Field};
 ghost use Rattle.words.specs.Sections.{Laid};
 ghost use Rattle.evaluation.specs.Condition.{conditionWord, wordMet};
-ghost use Rattle.evaluation.specs.Section.{StartsAt, HoldsIn, MentionsIn};
-ghost use Rattle.evaluation.specs.Skipping.{settled as settledOf};
+ghost use Rattle.evaluation.specs.Section.{StartsAt, EvaluatedIn, MentionsIn};
+ghost use Rattle.evaluation.specs.Found.{inWord, Evaluates, Finds};
 use words::numbers::CONDITION_AT_OR_ABOVE;
 use words::numbers::CONDITION_CLEARED;
 use words::numbers::CONDITION_EQUAL;
@@ -122,48 +123,63 @@ fn start(t: &[u32], from: usize) -> usize
     t.len()
 }
 
-// Whether expression e, down to so many levels, holds by the values of the port words.
-pub fn holds(t: &[u32], from: usize, values: &[u32], e: u32, levels: u32) -> bool
+// An evaluation in one word: twice its visits, and 1 more if the expression holds. Two fields by value would go through memory at each
+// level of the recursion.
+fn in_word(holds: bool, visits: u32) -> u32
+    requires { ⌜ visits ≤ 255 ⌝ }
+    ensures { λ r. ⌜ r ≡ inWord holds visits ⌝ }
+{
+    2 * visits + words::raised(holds)
+}
+
+// Evaluates expression e, down to so many levels, by the values of the port words.
+fn holds(t: &[u32], from: usize, values: &[u32], e: u32, levels: u32) -> u32
     requires { ⌜ from ≡ expressionsFrom (now t) ⌝ }
-    ensures { λ r. ⌜ r ≡ holdsOf levels (now (t .entry)) (valueIn (now (values .entry))) e ⌝ }
+    requires { ⌜ levels ≤ 7 ⌝ }
+    ensures { λ r. ⌜ Evaluates (now (t .entry)) (valueIn (now (values .entry))) e levels r ⌝ }
 {
     let first = start(t, from);
     holds_in(&t[first..], values, e, levels)
 }
 
-// The same by the part x of a table that starts with its expressions. The right side is read only if the left one leaves it open.
-fn holds_in(x: &[u32], values: &[u32], e: u32, levels: u32) -> bool
-    ensures { λ r. ⌜ HoldsIn (now (x .entry)) (valueIn (now (values .entry))) e levels r ⌝ }
+// The same by the part x of a table that starts with its expressions. The right side is visited only if the left one leaves it open.
+fn holds_in(x: &[u32], values: &[u32], e: u32, levels: u32) -> u32
+    requires { ⌜ levels ≤ 7 ⌝ }
+    ensures { λ r. ⌜ EvaluatedIn (now (x .entry)) (valueIn (now (values .entry))) e levels r ⌝ }
 {
     if levels == 0 {
-        return false;
+        return 0;
     }
     let w = word(x, e as usize);
     if is_condition(w) {
-        return word_met(values, w);
+        return in_word(word_met(values, w), 1);
     }
     let kind = table::expression_kind(w);
     let a = argument_holds(x, values, table::left(w), levels - 1);
+    let left = a % 2 == 1;
+    let visits = 1 + a / 2;
     if kind == OPERATOR_NOT {
-        return !a;
+        return in_word(!left, visits);
     }
-    if settled(kind, a) {
-        return joined(kind, a, false);
+    if settled(kind, left) {
+        return in_word(joined(kind, left, false), visits);
     }
     let b = argument_holds(x, values, table::right(w), levels - 1);
-    joined(kind, a, b)
+    let right = b % 2 == 1;
+    in_word(joined(kind, left, right), visits + b / 2)
 }
 
 // The same of an argument. Half the words of a whole tree are conditions, and they are looked at here without a further call.
-fn argument_holds(x: &[u32], values: &[u32], e: u32, levels: u32) -> bool
-    ensures { λ r. ⌜ HoldsIn (now (x .entry)) (valueIn (now (values .entry))) e levels r ⌝ }
+fn argument_holds(x: &[u32], values: &[u32], e: u32, levels: u32) -> u32
+    requires { ⌜ levels ≤ 7 ⌝ }
+    ensures { λ r. ⌜ EvaluatedIn (now (x .entry)) (valueIn (now (values .entry))) e levels r ⌝ }
 {
     if levels == 0 {
-        return false;
+        return 0;
     }
     let w = word(x, e as usize);
     if is_condition(w) {
-        return word_met(values, w);
+        return in_word(word_met(values, w), 1);
     }
     holds_in(x, values, e, levels)
 }
@@ -241,13 +257,22 @@ pub fn unready(t: &[u32], h: Layout, s: &[u32], r: u32) -> bool
     mentions_undefined(t, h.expression0, s, rule.expression, 7)
 }
 
-// Rule r's result: 0 false, 1 true.
-pub fn result(t: &[u32], h: Layout, s: &[u32], r: u32) -> u32
+// A rule's result, 0 false, 1 true, and the visits that finding it makes.
+pub struct Found {
+    pub result: u32,
+    pub visits: u32,
+}
+
+// Rule r's result by the port words of a state.
+pub fn result(t: &[u32], h: Layout, s: &[u32], r: u32) -> Found
     requires { ⌜ Laid (now t) h ⌝ }
-    ensures { λ n. ⌜ n ≡ resultIn (now (t .entry)) (now (s .entry)) r ⌝ }
+    ensures { λ f. ⌜ Finds (now (t .entry)) (now (s .entry)) r f ⌝ }
 {
     let rule = rule_at(t, h, r);
-    words::raised(holds(t, h.expression0, s, rule.expression, 7))
+    let found = holds(t, h.expression0, s, rule.expression, 7);
+    let result = found % 2;
+    let visits = found / 2;
+    Found { result, visits }
 }
 
 // The list that rule r has for a result; 255 for none.

@@ -25,7 +25,7 @@ use Rattle.refusals.specs.declared.EventCheck.the-variants.{Taken, Malformed, B
 use Rattle.refusals.proofs.EventCheck.{the-type}
 use Rattle.events.specs.declared.Answer.{Answer}
 use Rattle.events.specs.declared.Answer.the-variants.{Done}
-use Rattle.events.specs.Answers.{numberOf, countOf, Reports}
+use Rattle.events.specs.Answers.{numberOf, countOf, visitsOf, Reports}
 
 -- Requests.
 
@@ -68,8 +68,9 @@ module _ (t os : List ℕ) (second : Bool) (is : second ≡ eqb (Table.edition t
   none-heeded e = rw (← is, e) (drop-of-length-le os {i = length os} (omega arith))
 
 module _ (t s trace os : List ℕ) (e : ℕ) (h : EventCheck) (is : h ≡ eventChecked t os e) where
-  pub reports-refused : (r : Answer) → eqb (answerOf h) 0 ≡ false → numberOf r ≡ answerOf h → countOf r ≡ 0 → Reports (handle t s os e) trace r s trace
-  reports-refused r z a c = rw (handle-refused t os e s h is z) (record { answer = a; count = c; state = refl; words = refl })
+  pub reports-refused : (r : Answer) → eqb (answerOf h) 0 ≡ false → numberOf r ≡ answerOf h → countOf r ≡ 0 → visitsOf r ≡ 0
+      → Reports (handle t s os e) trace r s trace
+  reports-refused r z a c v = rw (handle-refused t os e s h is z) (record { answer = a; count = c; visits = v; state = refl; words = refl })
 
   -- after the first `read` outcomes come those that are heeded
   module _ (read : ℕ) (rest : drop read os ≡ heeded t os) where
@@ -77,11 +78,12 @@ module _ (t s trace os : List ℕ) (e : ℕ) (h : EventCheck) (is : h ≡ eventC
     heeded-safe safe = rw rest safe
 
     pub reports-done : (w : Written) (s′ trace′ : List ℕ) → eqb (answerOf h) 0 ≡ true → Safe (happen t e (heeded t os) s) trace
-        → Ran os (happen t e (drop read os) s) s′ trace trace′ w → Reports (handle t s os e) trace (Done (record { count = w .count })) s′ trace′
+        → Ran os (happen t e (drop read os) s) s′ trace trace′ w
+        → Reports (handle t s os e) trace (Done (record { count = w .count; visits = w .visits })) s′ trace′
     unfolding finish
     reports-done w s′ trace′ z safe r =
         let x : Ran os (happen t e (heeded t os) s) s′ trace trace′ w = rw rest at r in
-        rw (handle-taken t os e s h is z, safe .shallow) (record { answer = refl; count = x .count; state = x .state; words = x .words })
+        rw (handle-taken t os e s h is z, safe .shallow) (record { answer = refl; count = x .count; visits = x .visits; state = x .state; words = x .words })
 
 -- what `let .. else` knows of an answer that is not `Taken`: its variant is one of the others
 abbrev others : List ℕ

@@ -28,13 +28,25 @@ countOf NoSuchThing = 0
 countOf NotItsOwner = 0
 countOf BadOutcome = 0
 
--- The numbers k and n tell result x: its answer, and the number of its words as the count; the state is x's; x's words stand at the
--- front of the trace, and its other words are unchanged.
-pub record Tells (x : Result) (trace : List ℕ) (k n : ℕ) (s′ trace′ : List ℕ) : Type 0 where
+-- the reported visits; a refusal's are 0
+abbrev pub visitsOf : Answer → ℕ
+visitsOf (Done report) = report .visits
+visitsOf BadTable = 0
+visitsOf UnfitState = 0
+visitsOf ShortTrace = 0
+visitsOf Malformed = 0
+visitsOf NoSuchThing = 0
+visitsOf NotItsOwner = 0
+visitsOf BadOutcome = 0
+
+-- The numbers k, n and v tell result x: its answer, the number of its words as the count, and its visits; the state is x's; x's words stand
+-- at the front of the trace, and its other words are unchanged.
+pub record Tells (x : Result) (trace : List ℕ) (k n v : ℕ) (s′ trace′ : List ℕ) : Type 0 where
   pub answer : k ≡ x .answer
   pub count : n ≡ length (x .words)
+  pub visits : v ≡ x .visits
   pub state : s′ ≡ x .state
   pub words : trace′ ≡ x .words ++ drop (length (x .words)) trace
 
 abbrev pub Reports : Result → List ℕ → Answer → List ℕ → List ℕ → Type 0
-Reports x trace r s′ trace′ = Tells x trace (numberOf r) (countOf r) s′ trace′
+Reports x trace r s′ trace′ = Tells x trace (numberOf r) (countOf r) (visitsOf r) s′ trace′

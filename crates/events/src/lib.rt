@@ -1,5 +1,5 @@
 // One event on a lent state and trace, for a table and a state that have been checked: refused, or done with the count of words
-// written. A run of many events may check table and state once and call `handle` for each.
+// written and of expression words visited. A run of many events may check table and state once and call `handle` for each.
 ghost use mathlib.Core.Path.{_≡_};
 ghost use lib.ListN.{drop};
 ghost use Rattle.rulebook.specs.Events.{request as requestOf, tick as tickOf, happen as happenOf};
@@ -8,7 +8,7 @@ ghost use Rattle.words.specs.Sections.{Laid};
 ghost use Rattle.lists.specs.Runs.{Ran};
 ghost use Rattle.arbitration.specs.Asked.{MayArbitrate, MayArbitratePort};
 ghost use Rattle.refusals.specs.Answers.{answerOf};
-ghost use Rattle.events.specs.Answers.{numberOf, countOf, Reports};
+ghost use Rattle.events.specs.Answers.{numberOf, countOf, visitsOf, Reports};
 use arbitration::arbitrate_marked;
 use arbitration::arbitrate_one;
 use lists::Written;
@@ -93,9 +93,10 @@ fn happen(
     nothing(read)
 }
 
-// What a call that is done reports: how many trace words it has written.
+// What a call that is done reports: how many trace words it has written, and how many expression words its evaluations have visited.
 pub struct Report {
     pub count: usize,
+    pub visits: u32,
 }
 
 // A case for each answer of an event call.
@@ -142,12 +143,31 @@ pub fn count(answer: Answer) -> usize
     }
 }
 
+// The visits that an answer reports.
+pub fn visits(answer: Answer) -> u32
+    ensures { λ r. ⌜ r ≡ visitsOf answer ⌝ }
+{
+    match answer {
+        Answer::Done(report) => report.visits,
+        Answer::BadTable => 0,
+        Answer::UnfitState => 0,
+        Answer::ShortTrace => 0,
+        Answer::Malformed => 0,
+        Answer::NoSuchThing => 0,
+        Answer::NotItsOwner => 0,
+        Answer::BadOutcome => 0,
+    }
+}
+
 // The answer of an event that is not taken.
 fn refused(check: EventCheck) -> Answer
-    ensures { λ r. ⌜ (numberOf r ≡ answerOf check) × (countOf r ≡ 0) ⌝ }
+    ensures { λ r. ⌜ (numberOf r ≡ answerOf check) × (countOf r ≡ 0) × (visitsOf r ≡ 0) ⌝ }
 {
     match check {
-        EventCheck::Taken => Answer::Done(Report { count: 0 }),
+        EventCheck::Taken => Answer::Done(Report {
+            count: 0,
+            visits: 0,
+        }),
         EventCheck::Malformed => Answer::Malformed,
         EventCheck::BadOutcome => Answer::BadOutcome,
         EventCheck::NoSuchThing => Answer::NoSuchThing,
@@ -187,5 +207,6 @@ pub fn handle(
     let written = happen(t, h, e, s, trace, outcomes, read);
     Answer::Done(Report {
         count: written.count,
+        visits: written.visits,
     })
 }

@@ -10,7 +10,12 @@ one-check t r r′ p p′ b b′ h k = (h .0 ∙ sym (k .0), h .1 ∙ sym (k .1)
 pub one-fresh : (t s : List ℕ) (r r′ : ℕ) (a a′ : List ℕ) → MakesFreshIn t s r a → MakesFreshIn t s r′ a′ → (r ≡ r′) × (a ≡ a′)
 one-fresh t s r r′ a a′ h k = (h .answer ∙ sym (k .answer), h .state ∙ sym (k .state))
 
-pub one-event : (t s trace os : List ℕ) (e r r′ n n′ : ℕ) (a a′ w w′ : List ℕ) → TakesEventIn t s trace os e r n a w
-    → TakesEventIn t s trace os e r′ n′ a′ w′ → (r ≡ r′) × (n ≡ n′) × (a ≡ a′) × (w ≡ w′)
-one-event t s trace os e r r′ n n′ a a′ w w′ h k =
-    (h .answer ∙ sym (k .answer), h .count ∙ sym (k .count), h .state ∙ sym (k .state), h .words ∙ sym (k .words))
+pub one-event : (t s trace os : List ℕ) (e r r′ n n′ v v′ : ℕ) (a a′ w w′ : List ℕ) → TakesEventIn t s trace os e r n v a w
+    → TakesEventIn t s trace os e r′ n′ v′ a′ w′ → (r ≡ r′) × (n ≡ n′) × (v ≡ v′) × (a ≡ a′) × (w ≡ w′)
+one-event t s trace os e r r′ n n′ v v′ a a′ w w′ h k = (
+  h .answer ∙ sym (k .answer),
+  h .count ∙ sym (k .count),
+  h .visits ∙ sym (k .visits),
+  h .state ∙ sym (k .state),
+  h .words ∙ sym (k .words),
+)

@@ -33,7 +33,7 @@ fn fit_number(fit: Fit) -> u32
 pub extern "C" fn herringcart_version() -> u32
     ensures { λ r. ⌜ r ≡ version ⌝ }
 {
-    4 * 65536
+    5 * 65536
 }
 
 // Checks a table: gives its reason, 0 if it is accepted, and writes the place and B.
@@ -71,8 +71,8 @@ pub extern "C" fn herringcart_check_state(table: &[u32], state: &[u32]) -> u32
     fit_number(manager::check_state(table, state))
 }
 
-// Takes one event, with the outcomes of its outside calls: gives the answer, writes state and trace in place and the count of trace words
-// written.
+// Takes one event, with the outcomes of its outside calls: gives the answer, writes state and trace in place, the count of trace words
+// written and that of expression words visited.
 #[no_mangle]
 pub extern "C" fn herringcart_take_event(
     table: &[u32],
@@ -81,17 +81,19 @@ pub extern "C" fn herringcart_take_event(
     outcomes: &[u32],
     event: u32,
     count: &mut usize,
+    visits: &mut u32,
 ) -> u32
     ensures { λ r. ⌜ TakesEventIn (now (table .entry)) (now (state .entry)) (now (trace .entry)) (now (outcomes .entry)) event r
-        (now (count .exit)) (now (state .exit)) (now (trace .exit)) ⌝ }
+        (now (count .exit)) (now (visits .exit)) (now (state .exit)) (now (trace .exit)) ⌝ }
 {
     let answer = manager::take_event(table, state, trace, outcomes, event);
     *count = events::count(answer);
+    *visits = events::visits(answer);
     events::number(answer)
 }
 
 // Plays event words one after the other: gives the number of what ended it, 0 after the last event, writes state and trace in place, how
-// many events were taken and how many trace words written.
+// many events were taken, how many trace words written and how many expression words visited, this in 64 bits.
 #[no_mangle]
 pub extern "C" fn herringcart_play(
     table: &[u32],
@@ -100,13 +102,15 @@ pub extern "C" fn herringcart_play(
     events: &[u32],
     taken: &mut usize,
     count: &mut usize,
+    visits: &mut u64,
 ) -> u32
     ensures { λ r. ⌜ PlaysIn (now (table .entry)) (now (state .entry)) (now (trace .entry)) (now (events .entry)) r
-        (now (taken .exit)) (now (count .exit)) (now (state .exit)) (now (trace .exit)) ⌝ }
+        (now (taken .exit)) (now (count .exit)) (now (visits .exit)) (now (state .exit)) (now (trace .exit)) ⌝ }
 {
     let played = manager::play(table, state, trace, events);
     *taken = played.taken;
     *count = played.count;
+    *visits = played.visits;
     let end = played.end;
     manager::end_number(end)
 }

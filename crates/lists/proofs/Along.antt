@@ -19,9 +19,9 @@ use Rattle.lists.specs.Runs.{Safe, Ran, Addable, nothing, plus}
 abbrev pub begin : List ℕ → ℕ → List ℕ → Run
 begin os read s = start (drop read os) s
 
--- the run so far, which has written w: the state s, as its words the first ones of the trace T, and the outcomes behind those read
+-- the run so far, which has written w: the state s, as its words the first ones of the trace T, the outcomes behind those read, and the visits
 abbrev pub sofar : List ℕ → List ℕ → List ℕ → Written → Run
-sofar os s T w = record { state = s; words = take (w .count) T; deep = false; outcomes = drop (w .read) os }
+sofar os s T w = record { state = s; words = take (w .count) T; deep = false; outcomes = drop (w .read) os; visits = w .visits }
 
 -- The whole run is `rest` of the run so far, which has written w; from there on the trace is as it was.
 pub record Along (os : List ℕ) (whole : Run) (rest : Run → Run) (before s T : List ℕ) (w : Written) : Type 0 where
@@ -30,9 +30,9 @@ pub record Along (os : List ℕ) (whole : Run) (rest : Run → Run) (before s T 
   pub inside : w .count ≤ length T
   pub long : length T ≡ length before
 
-same-run : (x : Run) (s w u : List ℕ) → x .state ≡ s → x .words ≡ w → x .deep ≡ false → x .outcomes ≡ u
-    → x ≡ record { state = s; words = w; deep = false; outcomes = u }
-same-run x s w u a b c d = rw (← a, ← b, ← c, ← d)
+same-run : (x : Run) (s w u : List ℕ) (n : ℕ) → x .state ≡ s → x .words ≡ w → x .deep ≡ false → x .outcomes ≡ u → x .visits ≡ n
+    → x ≡ record { state = s; words = w; deep = false; outcomes = u; visits = n }
+same-run x s w u n a b c d e = rw (← a, ← b, ← c, ← d, ← e)
 
 -- a run of which another is the beginning: that one is safe too
 module _ (whole : Run) (rest : Run → Run) (framed : Framed rest) (x : Run) (run : whole ≡ rest x) (before : List ℕ) (safe : Safe whole before) where
@@ -49,8 +49,11 @@ module _ (whole : Run) (rest : Run → Run) (framed : Framed rest) (x : Run) (ru
   begin-shallow : x .deep ≡ false
   begin-shallow = or-none (x .deep) (rest (afresh x) .deep) (sym (ap (λ (y : Run). y .deep) (run ∙ framed x)) ∙ safe .shallow) .0
 
+  begin-few : x .visits + rest (afresh x) .visits < 4294967296
+  begin-few = rw (← ap (λ (y : Run). y .visits) (run ∙ framed x)) (safe .few)
+
   pub begin-safe : Safe x before
-  begin-safe = record { room = begin-room; shallow = begin-shallow }
+  begin-safe = record { room = begin-room; shallow = begin-shallow; few = (let h = begin-few in omega arith) }
 
 -- nothing has run yet
 pub along-none : (os : List ℕ) (read : ℕ) (whole : Run) (rest : Run → Run) (s T : List ℕ) → whole ≡ rest (begin os read s)
@@ -59,7 +62,7 @@ along-none os read whole rest s T h = record { run = h; kept = refl; inside = om
 
 -- a run that only changes the state
 pub ran-none : (os : List ℕ) (read : ℕ) (s T : List ℕ) → Ran os (begin os read s) s T T (nothing read)
-ran-none os read s T = record { state = refl; words = refl; count = refl; outcomes = refl }
+ran-none os read s T = record { state = refl; words = refl; count = refl; outcomes = refl; visits = refl }
 
 -- what is still to run may be said in another way
 pub along-as : (os : List ℕ) (whole : Run) (rest other : Run → Run) (before s T : List ℕ) (w : Written) → rest (sofar os s T w) ≡ other (sofar os s T w)
@@ -78,12 +81,17 @@ along-end os whole rest before s T w h a =
       words = rw (n, ← a .kept) (sym (take-append-drop (w .count) T));
       count = sym n;
       outcomes = refl;
+      visits = refl;
     })
 
--- what was written in two parts is counted in 64 bits, for the trace is
-pub along-addable : (os : List ℕ) (whole : Run) (rest : Run → Run) (before s T : List ℕ) (a b : Written) → Along os whole rest before s T (plus a b)
-    → length before < 18446744073709551616 → Addable a b
-along-addable os whole rest before s T a b x h = record { count = omega (arith, x .inside, x .long) }
+-- what was written in two parts is counted in 64 bits, for the trace is, and its visits in 32, for those of the whole run are
+pub along-addable : (os : List ℕ) (whole : Run) (rest : Run → Run) → Framed rest → (before s T : List ℕ) (a b : Written)
+    → Along os whole rest before s T (plus a b) → Safe whole before → length before < 18446744073709551616 → Addable a b
+along-addable os whole rest framed before s T a b x safe h =
+    record {
+      count = omega (arith, x .inside, x .long);
+      visits = (let f = begin-few whole rest framed (sofar os s T (plus a b)) (x .run) before safe in omega arith);
+    }
 
 -- a first part has run on the whole trace
 pub along-ran : (os : List ℕ) (whole : Run) (rest : Run → Run) → Framed rest → (x : Run) → whole ≡ rest x → (before s T : List ℕ) (w : Written)
@@ -96,9 +104,9 @@ along-ran os whole rest framed x run before s T w safe r =
     ap length e ∙ length-append (x .words) (drop (w .count) before) ∙ ap (λ (k : ℕ). length (x .words) + k) (length-drop (w .count) before) in
     record {
       run = run
-          ∙ ap rest (same-run x s (take (w .count) T) (drop (w .read) os) (sym (r .state))
+          ∙ ap rest (same-run x s (take (w .count) T) (drop (w .read) os) (w .visits) (sym (r .state))
           (sym (ap (take (w .count)) e ∙ take-at (x .words) (drop (w .count) before) (w .count) m)) (begin-shallow whole rest framed x run before safe)
-          (sym (r .outcomes)));
+          (sym (r .outcomes)) (sym (r .visits)));
       kept = ap (drop (w .count)) e ∙ drop-at (x .words) (drop (w .count) before) (w .count) m;
       inside = omega arith;
       long = omega arith;
@@ -140,11 +148,18 @@ module _ (os : List ℕ) (whole : Run) (f rest : Run → Run) (ff : Framed f) (f
       let g = a .long in
       omega arith
 
+  next-visits : f here .visits ≡ w .visits + f (afresh here) .visits
+  next-visits = ap (λ (y : Run). y .visits) (ff here)
+
+  next-few : f (afresh here) .visits < 4294967296
+  next-few = let h = begin-few whole rest fr (f here) (a .run) before safe in let e = next-visits in omega arith
+
   pub next-safe : Safe (f (afresh here)) part
   next-safe =
       record {
         room = rw part-is (let e : length (drop at T) ≡ length T - at = length-drop at T in let r = next-room in omega arith);
         shallow = next-shallow;
+        few = next-few;
       }
 
   module _ (s' part' : List ℕ) (v : Written) (r : Ran os (f (afresh here)) s' part part' v) where
@@ -182,11 +197,12 @@ module _ (os : List ℕ) (whole : Run) (f rest : Run → Run) (ff : Framed f) (f
         rw whole-again
         (record {
           run = a .run
-              ∙ ap rest (same-run (f here) s' (take (at + n) (done ++ drop (at + n) T)) (drop (v .read) os)
+              ∙ ap rest (same-run (f here) s' (take (at + n) (done ++ drop (at + n) T)) (drop (v .read) os) (w .visits + v .visits)
               (ap (λ (y : Run). y .state) (ff here) ∙ sym (r .state))
               (next-words ∙ sym (take-at done (drop (at + n) T) (at + n) done-long))
               (begin-shallow whole rest fr (f here) (a .run) before safe)
-              (ap (λ (y : Run). y .outcomes) (ff here) ∙ sym (r .outcomes)));
+              (ap (λ (y : Run). y .outcomes) (ff here) ∙ sym (r .outcomes))
+              (next-visits ∙ ap (λ (k : ℕ). w .visits + k) (sym (r .visits))));
           kept = drop-at done (drop (at + n) T) (at + n) done-long ∙ sym (drop-drop n at T) ∙ ap (drop n) (a .kept) ∙ drop-drop n at before;
           inside = omega arith;
           long = omega arith;

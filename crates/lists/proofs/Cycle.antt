@@ -47,18 +47,19 @@ module _ (os : List ℕ) (whole : Run) (f : Run → Run) (framed : Framed f) (be
     last-ran = along-end os whole (λ x. x) before s' _ (plus w v) (λ x. refl) last-along
 
     pub last-addable : length before < 18446744073709551616 → Addable w v
-    last-addable h = along-addable os whole (λ x. x) before s' (anew w T part) w v last-along h
+    last-addable h = along-addable os whole (λ x. x) framed-none before s' (anew w T part) w v last-along safe h
 
 -- a list as read, whose first word v is written
 pub list-begun : (t os : List ℕ) (read d l v : ℕ) (x : ListRead) (s T T' : List ℕ) → ListAt t l x → v ≡ traceWord traceListStart (x .owner) l 0
     → T' ≡ set T 0 v → Safe (runList d t l (begin os read s)) T
     → Along os (runList d t l (begin os read s)) (itemsFrom t (d - 1) (x .owner) (x .«first_item») (x .«first_item» + x .«item_count»)) T s T'
-    (oneWord read)
+    (oneWord read 0)
 list-begun t os read d l v x s T T' is hv hT safe =
     let y = emit (traceWord traceListStart (x .owner) l 0) (begin os read s) in
     let run = list-runs t d l x (begin os read s) is (level-left t d l (begin os read s) T safe) in
     let framed = items-framed t (d - 1) (x .owner) (x .«first_item») (x .«first_item» + x .«item_count») in
-    along-ran os _ _ framed y run T s T' (oneWord read) safe (one-ran os read y s T T' v (rw hv) (begin-safe _ _ framed y run T safe) refl hT refl)
+    along-ran os _ _ framed y run T s T' (oneWord read 0) safe
+    (one-ran os read 0 y s T T' v (rw hv) (begin-safe _ _ framed y run T safe) refl hT refl refl)
 
 -- the items from i on: the one that stops the list, one that does not, and the end
 module _ (t os : List ℕ) (d o i end : ℕ) (whole : Run) (before s T : List ℕ) (w : Written) (a : Along os whole (itemsFrom t d o i end) before s T w) where
@@ -97,17 +98,17 @@ module _ (t os : List ℕ) (d o i end : ℕ) (whole : Run) (before s T : List �
 
       pub item-addable : length before < 18446744073709551616 → Addable w v
       item-addable h =
-          split b (λ e. along-addable os whole (λ x. x) before s' (anew w T part) w v (item-last e) h)
-          (λ e. along-addable os whole (itemsFrom t d o (i + 1) end) before s' (anew w T part) w v (item-next e) h)
+          split b (λ e. along-addable os whole (λ x. x) framed-none before s' (anew w T part) w v (item-last e) safe h)
+          (λ e. along-addable os whole (itemsFrom t d o (i + 1) end) (items-framed t d o (i + 1) end) before s' (anew w T part) w v (item-next e) safe h)
 
 -- a rule item
 module _ (t os : List ℕ) (read d o r : ℕ) (s T : List ℕ) (safe : Safe (runRule (runList d t) t o r (begin os read s)) T) where
   pub rule-undefined : unready t s r ≡ true → (v : ℕ) (T' : List ℕ) → v ≡ traceWord 6 o r 2 → T' ≡ set T 0 v
-      → Ran os (runRule (runList d t) t o r (begin os read s)) s T T' (oneWord read)
+      → Ran os (runRule (runList d t) t o r (begin os read s)) s T T' (oneWord read 0)
   rule-undefined u v T' hv hT =
       let run = rule-unready (runList d t) t o r (begin os read s) u in
-      ran-as os _ _ s T T' (oneWord read) run
-      (one-ran os read (emit (traceWord 6 o r 2) (begin os read s)) s T T' v (rw hv) (safe-as _ _ T run safe) refl hT refl)
+      ran-as os _ _ s T T' (oneWord read 0) run
+      (one-ran os read 0 (emit (traceWord 6 o r 2) (begin os read s)) s T T' v (rw hv) (safe-as _ _ T run safe) refl hT refl refl)
 
   module _ (u : unready t s r ≡ false) where
     judged : runRule (runList d t) t o r (begin os read s) ≡ runChoice (runList d t) (choiceIn t s r) (judge t o r (begin os read s))
@@ -118,17 +119,17 @@ module _ (t os : List ℕ) (read d o r : ℕ) (s T : List ℕ) (safe : Safe (run
     unfolding judge
     judge-safe =
         let y = begin-safe _ _ (choice-framed t (runList d t) (list-framed t d) o (choiceIn t s r)) (judge t o r (begin os read s)) judged T safe in
-        record { room = y .room; shallow = y .shallow }
+        record { room = y .room; shallow = y .shallow; few = y .few }
 
-    module _ (l : ℕ) (hl : l ≡ choiceIn t s r) (s' T' : List ℕ) (none : Ran [] (judge t o r (start [] s)) s' T T' (oneWord 0)) where
-      j : Ran os (judge t o r (begin os read s)) s' T T' (oneWord read)
+    module _ (l n : ℕ) (hl : l ≡ choiceIn t s r) (s' T' : List ℕ) (none : Ran [] (judge t o r (start [] s)) s' T T' (oneWord 0 n)) where
+      j : Ran os (judge t o r (begin os read s)) s' T T' (oneWord read n)
       unfolding judge
-      j = record { state = none .state; words = none .words; count = none .count; outcomes = refl }
+      j = record { state = none .state; words = none .words; count = none .count; outcomes = refl; visits = none .visits }
 
-      pub rule-done : l ≡ 255 → Ran os (runRule (runList d t) t o r (begin os read s)) s' T T' (oneWord read)
-      rule-done e = ran-as os _ _ s' T T' (oneWord read) (judged ∙ choice-none (runList d t) (choiceIn t s r) _ (eq-eqb _ 255 (sym hl ∙ e))) j
+      pub rule-done : l ≡ 255 → Ran os (runRule (runList d t) t o r (begin os read s)) s' T T' (oneWord read n)
+      rule-done e = ran-as os _ _ s' T T' (oneWord read n) (judged ∙ choice-none (runList d t) (choiceIn t s r) _ (eq-eqb _ 255 (sym hl ∙ e))) j
 
-      pub rule-begun : (l ≡ 255 → ⊥) → Along os (runRule (runList d t) t o r (begin os read s)) (runList d t l) T s' T' (oneWord read)
+      pub rule-begun : (l ≡ 255 → ⊥) → Along os (runRule (runList d t) t o r (begin os read s)) (runList d t l) T s' T' (oneWord read n)
       rule-begun some =
           along-ran os _ (runList d t l) (list-framed t d l) (judge t o r (begin os read s))
-          (judged ∙ choice-some (runList d t) (choiceIn t s r) _ (ne-eqb _ 255 (λ e. some (hl ∙ e))) ∙ rw hl) T s' T' (oneWord read) safe j
+          (judged ∙ choice-some (runList d t) (choiceIn t s r) _ (ne-eqb _ 255 (λ e. some (hl ∙ e))) ∙ rw hl) T s' T' (oneWord read n) safe j

@@ -3,14 +3,14 @@ use Prim.Native.Nat.{ℕ, zero, suc, _+_, _-_, _≤_}
 use mathlib.Core.Path.{_≡_, refl, sym, ap, _∙_}
 use mathlib.Core.Bool.{Bool, false, _&&_, and-false}
 use mathlib.Core.List.{List, [], _∷_}
-use native.Mathlib.Nat.{add-zero}
+use native.Mathlib.Nat.{add-zero, zero-add}
 use native.Mathlib.Omega.{arith}
 use lib.ListN.{length, drop, set, getD, drop-of-length-le}
 use lib.Seq.{drop-drop, getD-drop}
 use lib.Dec.{eqb}
 use borrow.Author.Tests.{eq-eqb, ne-eqb}
 use Rattle.rulebook.specs.Table.{reload, itemKind, itemA}
-use Rattle.rulebook.specs.Lists.{Run, start, emit, traceWord, traceListStart, setPort, networkIn, asking, setNetwork, resultIn, previousIn, choice}
+use Rattle.rulebook.specs.Lists.{Run, start, emit, traceWord, traceListStart, setPort, networkIn, asking, setNetwork, resultIn, visitsIn, previousIn, choice}
 use Rattle.rulebook.specs.Lists.{choiceIn, setResult, effect, unread, act, stops, judge, runRule, runItem, runItems, runList}
 use Rattle.walks.proofs.Walks.{whole}
 use Rattle.laws.proofs.Tests.{clash}
@@ -27,9 +27,9 @@ first-word : (T : List ℕ) (w : ℕ) → 1 ≤ length T → set T 0 w ≡ w ∷
 first-word [] w h = absurd (omega arith)
 first-word (x ∷ T) w h = refl
 
-pub one-ran : (os : List ℕ) (read : ℕ) (x : Run) (s T T' : List ℕ) (w : ℕ) → x .words ≡ w ∷ [] → Safe x T → s ≡ x .state → T' ≡ set T 0 w
-    → drop read os ≡ x .outcomes → Ran os x s T T' (oneWord read)
-one-ran os read x s T T' w hw safe hs hT ho =
+pub one-ran : (os : List ℕ) (read visits : ℕ) (x : Run) (s T T' : List ℕ) (w : ℕ) → x .words ≡ w ∷ [] → Safe x T → s ≡ x .state → T' ≡ set T 0 w
+    → drop read os ≡ x .outcomes → visits ≡ x .visits → Ran os x s T T' (oneWord read visits)
+one-ran os read visits x s T T' w hw safe hs hT ho hv =
     let l : length (x .words) ≡ 1 = ap length hw in
     let r : length (x .words) ≤ length T = safe .room in
     record {
@@ -37,6 +37,7 @@ one-ran os read x s T T' w hw safe hs hT ho =
       words = rw (l, hw) (hT ∙ first-word T w (omega arith));
       count = sym l;
       outcomes = ho;
+      visits = hv;
     }
 
 -- item i as read
@@ -130,9 +131,17 @@ module _ (t s : List ℕ) (o r result : ℕ) (hr : result ≡ resultIn t s r) wh
   unfolding judge
   judge-state s' h = h ∙ rw hr
 
+pub judge-visits : (t s : List ℕ) (o r n : ℕ) → n ≡ visitsIn t s r → n ≡ judge t o r (start [] s) .visits
+unfolding judge
+judge-visits t s o r n h = h ∙ sym (zero-add (visitsIn t s r))
+
 pub judge-outcomes : (t s : List ℕ) (o r : ℕ) → [] ≡ judge t o r (start [] s) .outcomes
 unfolding judge
 judge-outcomes t s o r = refl
+
+pub act-visits : (t : List ℕ) (o i : ℕ) (os s : List ℕ) → 0 ≡ act t o i (start os s) .visits
+unfolding act
+act-visits t o i os s = refl
 
 pub act-state : (t : List ℕ) (o i : ℕ) (os s : List ℕ) → effect t i s ≡ act t o i (start os s) .state
 unfolding act

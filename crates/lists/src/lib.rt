@@ -26,23 +26,32 @@ use words::state;
 use words::state::Network;
 use words::state::set_port;
 
-// What a run has written, counted from nothing, by one word, and by what one run writes after another; and how many of the lent outcome
-// words are read by then.
+// What a run has written, counted from nothing, by one word, and by what one run writes after another; how many of the lent outcome words
+// are read by then; and how many expression words its evaluations have visited.
 pub struct Written {
     pub count: usize,
     pub read: usize,
+    pub visits: u32,
 }
 
 pub fn nothing(read: usize) -> Written
     ensures { λ w. ⌜ w ≡ nothingWritten read ⌝ }
 {
-    Written { count: 0, read }
+    Written {
+        count: 0,
+        read,
+        visits: 0,
+    }
 }
 
-fn one_word(read: usize) -> Written
-    ensures { λ w. ⌜ w ≡ oneWord read ⌝ }
+fn one_word(read: usize, visits: u32) -> Written
+    ensures { λ w. ⌜ w ≡ oneWord read visits ⌝ }
 {
-    Written { count: 1, read }
+    Written {
+        count: 1,
+        read,
+        visits,
+    }
 }
 
 pub fn plus(a: Written, b: Written) -> Written
@@ -51,7 +60,12 @@ pub fn plus(a: Written, b: Written) -> Written
 {
     let count = a.count + b.count;
     let read = b.read;
-    Written { count, read }
+    let visits = a.visits + b.visits;
+    Written {
+        count,
+        read,
+        visits,
+    }
 }
 
 // A trace word, each field cut to its width.
@@ -132,7 +146,7 @@ fn act(
     effect(t, h, i, s);
     let item = sections::item_at(t, h, i);
     put(trace, 0, trace_word(item.kind, o, item.a, item.b));
-    one_word(read_on(item.kind, outcomes, read))
+    one_word(read_on(item.kind, outcomes, read), 0)
 }
 
 // Whether item i stops the list that holds it: it is a call with abort, and the outcome that it is about to read says failed. Where no
@@ -149,19 +163,29 @@ fn stops(t: &[u32], h: Layout, i: u32, outcomes: &[u32], read: usize) -> bool
     false
 }
 
-// Rule r, which is ready, as an item of a list of owner o: its result is stored and its word written. Returns the list that it
-// starts, 255 for none. It reads no outcome, so it is told of none.
-fn judge(t: &[u32], h: Layout, o: u32, r: u32, s: &mut [u32], trace: &mut [u32]) -> u32
+// What comes of judging a rule: the list that it starts, 255 for none, and the visits of its evaluation.
+struct Judged {
+    list: u32,
+    visits: u32,
+}
+
+// Rule r, which is ready, as an item of a list of owner o: its result is stored and its word written. It reads no outcome, so it is
+// told of none.
+fn judge(t: &[u32], h: Layout, o: u32, r: u32, s: &mut [u32], trace: &mut [u32]) -> Judged
     requires { ⌜ MayRun (now t) h (judgeOf (now t) o r (start [] (now s))) (now trace) ⌝ }
-    ensures { λ l. ⌜ l ≡ choiceIn (now (t .entry)) (now (s .entry)) r ⌝ }
-    ensures { λ _. ⌜ Ran [] (judgeOf (now (t .entry)) o r (start [] (now (s .entry)))) (now (s .exit)) (now (trace .entry)) (now (trace .exit)) (oneWord 0) ⌝ }
+    ensures { λ j. ⌜ j .list ≡ choiceIn (now (t .entry)) (now (s .entry)) r ⌝ }
+    ensures { λ j. ⌜ Ran [] (judgeOf (now (t .entry)) o r (start [] (now (s .entry)))) (now (s .exit)) (now (trace .entry)) (now (trace .exit))
+        (oneWord 0 (j .visits)) ⌝ }
 {
-    let result = evaluation::result(t, h, s, r);
+    let found = evaluation::result(t, h, s, r);
     let before = state::result_in(t, h, s, r);
-    let l = evaluation::choice(t, h, r, before, result);
-    state::set_result(t, h, s, r, result);
-    put(trace, 0, trace_word(ITEM_RULE, o, r, result));
-    l
+    let list = evaluation::choice(t, h, r, before, found.result);
+    state::set_result(t, h, s, r, found.result);
+    put(trace, 0, trace_word(ITEM_RULE, o, r, found.result));
+    Judged {
+        list,
+        visits: found.visits,
+    }
 }
 
 // List l with so many levels left: a word for its start, then its items. Like each of the cycle it fills the front of the trace
@@ -195,7 +219,7 @@ pub fn run_list(
         outcomes,
         read,
     );
-    plus(one_word(read), more)
+    plus(one_word(read, 0), more)
 }
 
 // The items from `first` up to `end`, of a list of owner o, or up to and with the one that stops the list.
@@ -277,12 +301,13 @@ fn run_rule(
 {
     if evaluation::unready(t, h, s, r) {
         put(trace, 0, trace_word(ITEM_RULE, o, r, UNDEFINED_RESULT));
-        return one_word(read);
+        return one_word(read, 0);
     }
-    let l = judge(t, h, o, r, s, trace);
-    if l == NO_LIST {
-        return one_word(read);
+    let judged = judge(t, h, o, r, s, trace);
+    let first = one_word(read, judged.visits);
+    if judged.list == NO_LIST {
+        return first;
     }
-    let more = run_list(t, h, l, below, s, &mut trace[1..], outcomes, read);
-    plus(one_word(read), more)
+    let more = run_list(t, h, judged.list, below, s, &mut trace[1..], outcomes, read);
+    plus(first, more)
 }

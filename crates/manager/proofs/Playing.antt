@@ -1,10 +1,10 @@
 -- A play goes along its events and along the lent trace: the words so far fill the front of the trace, and the next event gets the rest
 -- of it. Assumes nothing.
-use Prim.Native.Nat.{ℕ, suc, _+_, _-_, _≤_, _<_}
+use Prim.Native.Nat.{ℕ, suc, _+_, _-_, _%_, _≤_, _<_}
 use mathlib.Core.Path.{_≡_, refl, sym, ap, subst, _∙_}
 use mathlib.Core.Bool.{true, cond}
 use mathlib.Core.List.{List, [], _∷_, _++_, append-assoc, append-nil}
-use native.Mathlib.Nat.{add-zero, sub-zero}
+use native.Mathlib.Nat.{add-zero, sub-zero, mod-add-mod}
 use native.Mathlib.Numerals.{add-one}
 use native.Mathlib.Omega.{arith}
 use lib.ListN.{length, getD, take, drop, length-append, length-drop, take-append-drop, drop-of-length-le}
@@ -24,7 +24,7 @@ use Rattle.laws.proofs.Play.{stood-table, stood-state, play-stands, play-unadmi
 use Rattle.events.specs.declared.Answer.{Answer}
 use Rattle.events.specs.declared.Answer.the-variants.{Done, BadTable, UnfitState, ShortTrace, Malformed, NoSuchThing, NotItsOwner, BadOutcome}
 use Rattle.events.proofs.Answer.{the-type}
-use Rattle.events.specs.Answers.{numberOf, countOf, Reports}
+use Rattle.events.specs.Answers.{numberOf, countOf, visitsOf, Reports}
 use Rattle.manager.specs.declared.End.{End}
 use Rattle.manager.specs.declared.End.the-variants as ends
 use Rattle.manager.specs.Answers.{endNumber}
@@ -54,9 +54,9 @@ pub none-behind : (es : List ℕ) → midOf (length es) (length es - length es) 
 none-behind es = let z : length es - length es ≡ 0 = omega arith in rw z
 
 -- table or state does not stand
-pub plays-unadmitted : (t s trace es : List ℕ) (k : ℕ) → (refusedState t s ≡ 0 → ⊥) → k ≡ refusedState t s → PlaysIn t s trace es k 0 0 s trace
+pub plays-unadmitted : (t s trace es : List ℕ) (k : ℕ) → (refusedState t s ≡ 0 → ⊥) → k ≡ refusedState t s → PlaysIn t s trace es k 0 0 0 s trace
 plays-unadmitted t s trace es k n is =
-    rw (play-unadmitted t s n (length trace) es) (record { answer = is; taken = refl; count = refl; state = refl; words = refl })
+    rw (play-unadmitted t s n (length trace) es) (record { answer = is; taken = refl; count = refl; visits = refl; state = refl; words = refl })
 
 -- what a done call writes has room
 words-in-room : (t s : List ℕ) (room e : ℕ) → step t s room [] e .answer ≡ 0 → length (step t s room [] e .words) ≤ room
@@ -65,9 +65,11 @@ words-in-room t s room e =
     (λ c w z. let p = happen-paid t (facts t (c .table)) e (heeded t []) s in let q = c .enough in omega arith)
 
 -- The whole play of es from s₀ is what was taken so far, with its words at the front of the trace T, and a play of the rest from s in the
--- rest of the trace, which is as it was.
-pub record Along (t es s₀ before s T : List ℕ) (taken count : ℕ) : Type 0 where
-  pub whole : playOn t es s₀ (length before) ≡ onto taken (take count T) (playOn t (drop taken es) s (length before - count))
+-- rest of the trace, which is as it was. The visits made so far are told in 64 bits.
+pub record Along (t es s₀ before s T : List ℕ) (taken count visits : ℕ) : Type 0 where
+  pub made : ℕ
+  pub told : visits ≡ made % 18446744073709551616
+  pub whole : playOn t es s₀ (length before) ≡ onto taken (take count T) made (playOn t (drop taken es) s (length before - count))
   pub stood : refusedState t s₀ ≡ 0
   pub stands : refusedState t s ≡ 0
   pub within : taken ≤ length es
@@ -76,9 +78,11 @@ pub record Along (t es s₀ before s T : List ℕ) (taken count : ℕ) : Type 0 
   pub long : length T ≡ length before
   pub stateLong : length s ≡ length s₀
 
-pub along-none : (t es s T : List ℕ) → refusedState t s ≡ 0 → Along t es s T s T 0 0
+pub along-none : (t es s T : List ℕ) → refusedState t s ≡ 0 → Along t es s T s T 0 0 0
 along-none t es s T z =
     record {
+      made = 0;
+      told = refl;
       whole = sym (onto-none _) ∙ rw sub-zero;
       stood = z;
       stands = z;
@@ -93,7 +97,7 @@ stands-again : (t s : List ℕ) (room e : ℕ) → refusedState t s ≡ 0 → re
 unfolding refusedState
 stands-again t s room e z = rw (stood-table t s z, step-fits t s room [] e (stood-table t s z) (stood-state t s z))
 
-module _ {t es s₀ before s T : List ℕ} {taken count : ℕ} (a : Along t es s₀ before s T taken count) where
+module _ {t es s₀ before s T : List ℕ} {taken count visits : ℕ} (a : Along t es s₀ before s T taken count visits) where
   abbrev pub part : List ℕ
   part = midOf count (length T - count) T
 
@@ -110,19 +114,20 @@ module _ {t es s₀ before s T : List ℕ} {taken count : ℕ} (a : Along t es s
   front = length-take-le count T (a .inside)
 
   -- the play ends here
-  tells : (k : ℕ) → playOn t (drop taken es) s (length before - count) ≡ ending k s → PlaysIn t s₀ before es k taken count s T
+  tells : (k : ℕ) → playOn t (drop taken es) s (length before - count) ≡ ending k s → PlaysIn t s₀ before es k taken count visits s T
   tells k h =
       rw (play-stands t s₀ (a .stood) (length before) es, a .whole, h)
       (record {
         answer = refl;
         taken = sym (add-zero taken);
         count = rw append-nil (sym front);
+        visits = rw add-zero (a .told);
         state = refl;
         words = rw (append-nil, front, ← a .kept) (sym (take-append-drop count T));
       })
 
   -- no event is left
-  pub along-end : length es ≤ taken → PlaysIn t s₀ before es 0 taken count s T
+  pub along-end : length es ≤ taken → PlaysIn t s₀ before es 0 taken count visits s T
   unfolding playOn
   along-end all = tells 0 (rw (drop-of-length-le es {i = taken} all))
 
@@ -152,7 +157,7 @@ module _ {t es s₀ before s T : List ℕ} {taken count : ℕ} (a : Along t es s
       same-state = told .state ∙ refusal-changes-nothing t s (length part) [] e no .0
 
       -- the call refused it
-      pub along-ends : PlaysIn t s₀ before es (numberOf r) taken count s' (putMid count (length T - count) T part')
+      pub along-ends : PlaysIn t s₀ before es (numberOf r) taken count visits s' (putMid count (length T - count) T part')
       along-ends =
           rw (unchanged, same-state)
           (tells (numberOf r) (ahead ∙ refused-ends t e (drop (suc taken) es) s (length part) no
@@ -164,7 +169,7 @@ module _ {t es s₀ before s T : List ℕ} {taken count : ℕ} (a : Along t es s
       pub ends-long : length (putMid count (length T - count) T part') ≡ length before
       ends-long = ap length unchanged ∙ a .long
 
-    module _ (n : ℕ) (z : numberOf r ≡ 0) (counted : countOf r ≡ n) where
+    module _ (n v : ℕ) (z : numberOf r ≡ 0) (counted : countOf r ≡ n) (visited : visitsOf r ≡ v) where
       abbrev ws : List ℕ
       ws = step t s (length part) [] e .words
 
@@ -199,17 +204,24 @@ module _ {t es s₀ before s T : List ℕ} {taken count : ℕ} (a : Along t es s
       abbrev behind : ℕ → ℕ → Play
       behind k left = playOn t (drop k es) (step t s (length part) [] e .state) left
 
-      goes-on : onto (taken + 1) done (behind (suc taken) (length part - length ws))
-          ≡ onto (taken + 1) (take (count + n) (done ++ drop (count + n) T)) (behind (taken + 1) (length before - (count + n)))
+      abbrev seen : ℕ
+      seen = a .made + step t s (length part) [] e .visits
+
+      goes-on : onto (taken + 1) done seen (behind (suc taken) (length part - length ws))
+          ≡ onto (taken + 1) (take (count + n) (done ++ drop (count + n) T)) seen (behind (taken + 1) (length before - (count + n)))
       goes-on =
-          ap (λ (k : ℕ). onto (taken + 1) done (behind (suc taken) k)) (let p = part-long in let w = words-long in omega arith)
-          ∙ ap (λ (k : ℕ). onto (taken + 1) done (behind k (length before - (count + n)))) (sym (add-one taken))
-          ∙ ap (λ (v : List ℕ). onto (taken + 1) v (behind (taken + 1) (length before - (count + n))))
+          ap (λ (k : ℕ). onto (taken + 1) done seen (behind (suc taken) k)) (let p = part-long in let w = words-long in omega arith)
+          ∙ ap (λ (k : ℕ). onto (taken + 1) done seen (behind k (length before - (count + n)))) (sym (add-one taken))
+          ∙ ap (λ (v : List ℕ). onto (taken + 1) v seen (behind (taken + 1) (length before - (count + n))))
           (sym (take-at done (drop (count + n) T) (count + n) done-long))
 
+      told-again : (visits + v) % 18446744073709551616 ≡ seen % 18446744073709551616
+      told-again = rw (a .told, ← visited, told .visits) (mod-add-mod (a .made) 18446744073709551616 _)
+
       -- the call took it
-      pub along-next : Along t es s₀ before s' (putMid count (length T - count) T part') (taken + 1) (count + n)
-      along-next =
+      pub along-next : (total : ℕ) → total ≡ (visits + v) % 18446744073709551616
+          → Along t es s₀ before s' (putMid count (length T - count) T part') (taken + 1) (count + n) total
+      along-next total wraps =
           let l : length (done ++ drop (count + n) T) ≡ length done + (length T - (count + n)) =
           length-append done (drop (count + n) T) ∙ ap (λ (k : ℕ). length done + k) (length-drop (count + n) T) in
           let d = done-long in
@@ -217,9 +229,11 @@ module _ {t es s₀ before s T : List ℕ} {taken count : ℕ} (a : Along t es s
           let h = room in
           rw (whole-again, told .state)
           (record {
+            made = seen;
+            told = wraps ∙ told-again;
             whole = a .whole
-                ∙ ap (onto taken (take count T)) (ahead ∙ taken-goes-on t e (drop (suc taken) es) s (length part) (sym (told .answer) ∙ z))
-                ∙ onto-onto taken 1 (take count T) ws _
+                ∙ ap (onto taken (take count T) (a .made)) (ahead ∙ taken-goes-on t e (drop (suc taken) es) s (length part) (sym (told .answer) ∙ z))
+                ∙ onto-onto taken 1 (take count T) ws (a .made) _ _
                 ∙ goes-on;
             stood = a .stood;
             stands = stands-again t s (length part) e (a .stands);
@@ -233,10 +247,16 @@ module _ {t es s₀ before s T : List ℕ} {taken count : ℕ} (a : Along t es s
 
 -- Two results that the promise allows are equal, in numbers and as answers.
 
-pub one-play : (t s trace es : List ℕ) (k k′ n n′ m m′ : ℕ) (a a′ w w′ : List ℕ) → PlaysIn t s trace es k n m a w
-    → PlaysIn t s trace es k′ n′ m′ a′ w′ → (k ≡ k′) × (n ≡ n′) × (m ≡ m′) × (a ≡ a′) × (w ≡ w′)
-one-play t s trace es k k′ n n′ m m′ a a′ w w′ x y =
-    (x .answer ∙ sym (y .answer), x .taken ∙ sym (y .taken), x .count ∙ sym (y .count), x .state ∙ sym (y .state), x .words ∙ sym (y .words))
+pub one-play : (t s trace es : List ℕ) (k k′ n n′ m m′ v v′ : ℕ) (a a′ w w′ : List ℕ) → PlaysIn t s trace es k n m v a w
+    → PlaysIn t s trace es k′ n′ m′ v′ a′ w′ → (k ≡ k′) × (n ≡ n′) × (m ≡ m′) × (v ≡ v′) × (a ≡ a′) × (w ≡ w′)
+one-play t s trace es k k′ n n′ m m′ v v′ a a′ w w′ x y = (
+  x .answer ∙ sym (y .answer),
+  x .taken ∙ sym (y .taken),
+  x .count ∙ sym (y .count),
+  x .visits ∙ sym (y .visits),
+  x .state ∙ sym (y .state),
+  x .words ∙ sym (y .words),
+)
 
 -- an end has its number alone
 answering : ℕ → End

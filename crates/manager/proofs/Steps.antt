@@ -15,23 +15,28 @@ use Rattle.laws.proofs.Facts.{facts}
 use Rattle.laws.proofs.Tests.{split}
 use Rattle.laws.proofs.Steps.{call-small, event-small, step-in-parts, happen-shallow, happen-paid}
 use Rattle.laws.proofs.Play.{stood-table, stood-state, step-unadmitted, step-full}
+use Rattle.laws.proofs.Visits.{happen-most}
 use Rattle.words.specs.declared.sections.Layout.{Layout}
 use Rattle.lists.specs.Runs.{Safe}
 use Rattle.events.specs.declared.Answer.{Answer}
 use Rattle.events.specs.declared.Answer.the-variants.{ShortTrace}
-use Rattle.events.specs.Answers.{numberOf, countOf, Reports}
+use Rattle.events.specs.Answers.{numberOf, countOf, visitsOf, Reports}
 use Rattle.manager.specs.Promises.{Admitted}
 
 -- table or state does not stand
 pub reports-unadmitted : (t s trace os : List ℕ) (e : ℕ) (r : Answer) → (refusedState t s ≡ 0 → ⊥) → numberOf r ≡ refusedState t s → countOf r ≡ 0
-    → Reports (step t s (length trace) os e) trace r s trace
-reports-unadmitted t s trace os e r n is none =
-    rw (step-unadmitted t s n (length trace) os e) (record { answer = is; count = none; state = refl; words = refl })
+    → visitsOf r ≡ 0 → Reports (step t s (length trace) os e) trace r s trace
+reports-unadmitted t s trace os e r n is none unvisited =
+    rw (step-unadmitted t s n (length trace) os e) (record { answer = is; count = none; visits = unvisited; state = refl; words = refl })
 
--- what the run needs: its words fit the trace, and it is not deep
+-- what the run needs: its words fit the trace, it is not deep, and its visits are few
 pub safe : (t s trace os : List ℕ) (e : ℕ) → accepted t ≡ true → bound t ≤ length trace → Safe (happen t e os s) trace
 safe t s trace os e h enough =
-    record { room = let paid = happen-paid t (facts t h) e os s in omega arith; shallow = happen-shallow t (facts t h) e os s }
+    record {
+      room = let paid = happen-paid t (facts t h) e os s in omega arith;
+      shallow = happen-shallow t (facts t h) e os s;
+      few = let most = happen-most t (facts t h) e os s in omega arith;
+    }
 
 pub few-rules : (t : List ℕ) (n : ℕ) → accepted t ≡ true → n ≡ rules t → n ≤ 256
 few-rules t n h e = let few = facts t h .counts .rules in omega arith
@@ -46,7 +51,7 @@ module _ {t s : List ℕ} {h : Layout} {b : ℕ} (ok : Admitted t s h b) (trace 
   short-trace r =
       let less = leb-false b (length trace) r in let is = ok .bound in
       rw (step-full t s (length trace) os e table-stands (stood-state t s (ok .stands)) (omega arith))
-      (record { answer = refl; count = refl; state = refl; words = refl })
+      (record { answer = refl; count = refl; visits = refl; state = refl; words = refl })
 
   enough : leb b (length trace) ≡ true → bound t ≤ length trace
   enough r = let least = leb-true b (length trace) r in let is = ok .bound in omega arith

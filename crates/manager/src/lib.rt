@@ -1,7 +1,7 @@
 // The public entries. Each takes anything and checks for itself.
 ghost use mathlib.Core.Path.{_≡_};
 ghost use Rattle.states.specs.Admission.{numberOf as admissionNumber};
-ghost use Rattle.events.specs.Answers.{numberOf, countOf};
+ghost use Rattle.events.specs.Answers.{numberOf, countOf, visitsOf};
 ghost use Rattle.manager.specs.Answers.{stateNumber, endNumber};
 ghost use Rattle.manager.specs.Promises.{ChecksTable, CountsWords, MakesFresh, ChecksState, Admitted, TakesEvent, Plays};
 use events::Answer;
@@ -62,10 +62,13 @@ pub fn check_state(t: &[u32], s: &[u32]) -> Fit
 
 // The answer where table or state does not stand.
 fn not_admitted(admission: Admission) -> Answer
-    ensures { λ r. ⌜ (numberOf r ≡ admissionNumber admission) × (countOf r ≡ 0) ⌝ }
+    ensures { λ r. ⌜ (numberOf r ≡ admissionNumber admission) × (countOf r ≡ 0) × (visitsOf r ≡ 0) ⌝ }
 {
     match admission {
-        Admission::Stands(_) => Answer::Done(Report { count: 0 }),
+        Admission::Stands(_) => Answer::Done(Report {
+            count: 0,
+            visits: 0,
+        }),
         Admission::BadTable => Answer::BadTable,
         Admission::Unfit => Answer::UnfitState,
     }
@@ -147,10 +150,12 @@ fn end_of(answer: Answer) -> End
     }
 }
 
-// How many events were taken, how many trace words they wrote, and what ended the play.
+// How many events were taken, how many trace words they wrote, how many expression words they visited, and what ended the play. The
+// visits are the lowest 64 bits of their sum, which is the sum itself in any play of up to 33 million million events.
 pub struct Played {
     pub taken: usize,
     pub count: usize,
+    pub visits: u64,
     pub end: End,
 }
 
@@ -161,18 +166,26 @@ fn play_on(t: &[u32], h: Layout, b: u32, s: &mut [u32], trace: &mut [u32], es: &
 {
     let mut taken: usize = 0;
     let mut count: usize = 0;
+    let mut visits: u64 = 0;
     while taken < es.len() {
         let answer = take_next(t, h, b, es[taken], s, &mut trace[count..], &es[es.len()..]);
         let Answer::Done(report) = answer else {
             let end = end_of(answer);
-            return Played { taken, count, end };
+            return Played {
+                taken,
+                count,
+                visits,
+                end,
+            };
         };
         count += report.count;
+        visits = std::num::wrapping_add_u64(visits, report.visits as u64);
         taken += 1;
     }
     Played {
         taken,
         count,
+        visits,
         end: End::Done,
     }
 }
@@ -188,6 +201,7 @@ pub fn play(t: &[u32], s: &mut [u32], trace: &mut [u32], es: &[u32]) -> Played
         return Played {
             taken: 0,
             count: 0,
+            visits: 0,
             end,
         };
     };

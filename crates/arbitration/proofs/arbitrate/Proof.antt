@@ -44,16 +44,17 @@ run-chosen-requires : tie.Need-run-chosen-requires
 run-chosen-requires c κs =
     record {
       laid = start (after-unmark c .before .before .before) .pre .laid;
-      safe = safe-as _ _ _ (arbitrated _ _ _ _ (after-results2 (after-choose c) .before .find-results .ensures) _ _ _ _
-          (after-unmark c .unmark .ensures) (after-choose c .choose .ensures) (at-after-store (c .before) .store .ensures))
+      safe = safe-as _ _ _ (arbitrated _ _ _ _ (after-results2 (after-choose c) .before .find-results .ensures .0) _ _ _ _ _
+          (after-unmark c .unmark .ensures) (after-choose c .choose .ensures) (at-after-store (c .before) .store .ensures)
+          (after-results2 (after-choose c) .before .find-results .ensures .1))
           (start (after-unmark c .before .before .before) .pre .safe);
     }
 
 returns : tie.Need-returns
 returns c =
-    ran-as _ _ _ _ _ _ _ (arbitrated _ _ _ _ (after-find-results c .find-results .ensures) _ _ _ _
+    ran-as _ _ _ _ _ _ _ (arbitrated _ _ _ _ (after-find-results c .find-results .ensures .0) _ _ _ _ _
     (at-after-unmark (after-find-results c .before) .unmark .ensures) (at-after-choose (after-store c) .choose .ensures)
-    (after-store c .store .ensures)) (after-run-chosen (c .before) .run-chosen .ensures)
+    (after-store c .store .ensures) (after-find-results c .find-results .ensures .1)) (after-run-chosen (c .before) .run-chosen .ensures)
 
 pub arbitrate-spec : {M : Type 1} → statement M
 arbitrate-spec =

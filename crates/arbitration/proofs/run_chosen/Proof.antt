@@ -4,30 +4,33 @@ use mathlib.Core.Path.{_≡_, refl, _∙_}
 use lib.ListN.{length}
 use Rattle.rulebook.specs.Words.{sum}
 use Rattle.rulebook.specs.Table as Table
+use Rattle.rulebook.specs.Lists.{visit}
 use Rattle.rulebook.specs.Arbitration.{order, runChosen}
+use Rattle.laws.proofs.Frame.{chosen-framed}
 use Rattle.words.specs.Flags.{flagged}
 use Rattle.lists.specs.Runs.{plus}
-use Rattle.lists.proofs.Along.{begin, Along, along-none, along-addable}
+use Rattle.lists.proofs.Along.{begin, Along, along-addable}
 use Rattle.lists.proofs.Cycle.{anew}
 use Rattle.arbitration.specs.Picking.{Best}
 use Rattle.arbitration.proofs.Picking.{upIn, fewer}
-use Rattle.arbitration.proofs.Running.{chosen-ran, list-safe, list-next}
+use Rattle.arbitration.proofs.Running.{chosen-start, chosen-ran, list-safe, list-next}
 use native.Mathlib.Omega.{arith}
 use borrow.Author.Needs.{needs}
 use Rattle.arbitration.proofs.run_chosen.Statement.{statement}
 use Rattle.arbitration.proofs.run_chosen.Tie as tie
 
 abbrev Inv-loop : tie.InvT-loop
-Inv-loop t h flags₀ s₀ trace₀ outcomes read lists written₀ l₀ flags s trace written l =
+Inv-loop t h flags₀ s₀ trace₀ outcomes read visits lists written₀ l₀ flags s trace written l =
     (length flags ≡ length flags₀) × (length s ≡ length s₀) × Best t flags (Table.lists t) l
-    × Along outcomes (runChosen t (flagged flags₀) (order t) (begin outcomes read s₀)) (runChosen t (flagged flags) (order t)) trace₀ s trace written
+    × Along outcomes (runChosen t (flagged flags₀) (order t) (visit visits (begin outcomes read s₀))) (runChosen t (flagged flags) (order t)) trace₀ s
+    trace written
 
 abbrev μ-loop : tie.MeasureT-loop
-μ-loop t h flags₀ s₀ trace₀ outcomes read lists written₀ l₀ flags s trace written l = sum 0 lists (upIn flags)
+μ-loop t h flags₀ s₀ trace₀ outcomes read visits lists written₀ l₀ flags s trace written l = sum 0 lists (upIn flags)
 
 -- The places that the answers cite, each seen from a later one.
 abbrev after-slice-known2 : tie.After-best Inv-loop μ-loop → tie.After-slice-known2 Inv-loop μ-loop
-after-slice-known2 c = c .before .before .before .before .before
+after-slice-known2 c = c .before .before .before .before
 
 abbrev at-start : tie.At-loop Inv-loop μ-loop → tie.Start Inv-loop μ-loop
 at-start c = after-slice-known2 (c .before) .before .before .before
@@ -81,7 +84,8 @@ after-run-list c = at-after-run-list (after-slice-known6 c)
 -- when the list is back, its flag is down and the loop stands at the next one
 run-next : (c : tie.After-slice-known6 Inv-loop μ-loop)
     → let a = entry-3 c .args in let x = at-at-loop (after-put c) .loop in
-    Along (a .outcomes .now) (runChosen (a .t .now) (flagged (a .flags .now)) (order (a .t .now)) (begin (a .outcomes .now) (a .read) (a .s .now)))
+    Along (a .outcomes .now)
+    (runChosen (a .t .now) (flagged (a .flags .now)) (order (a .t .now)) (visit (a .visits) (begin (a .outcomes .now) (a .read) (a .s .now))))
     (runChosen (a .t .now) (flagged (after-put c .put .last .0)) (order (a .t .now))) (a .trace .now)
     (at-after-run-list c .run-list .last .1 .1 .1 .1 .0)
     (anew (x .written) (x .trace) (at-after-run-list c .run-list .last .1 .1 .1 .1 .1 .0))
@@ -92,7 +96,7 @@ run-next c =
     (entry-3 c .pre .safe) _ _ _ (at-after-run-list c .run-list .ensures)
 
 loop-holds : tie.Need-loop-holds Inv-loop μ-loop
-loop-holds c = (refl, refl, c .best .ensures, rw (c .before .before .nothing .ensures) (along-none _ _ _ _ _ _ refl))
+loop-holds c = (refl, refl, c .best .ensures, chosen-start _ _ _ _ _ _ _)
 
 mul-run-list : tie.Need-mul-run-list Inv-loop μ-loop
 mul-run-list c =
@@ -119,7 +123,8 @@ run-list-requires c κs =
     }
 
 plus-requires : tie.Need-plus-requires Inv-loop μ-loop
-plus-requires c κs = along-addable _ _ _ _ _ _ _ _ (run-next c) (omega (arith, entry-3 c .good .1 .1 .1 .1 .0))
+plus-requires c κs =
+    along-addable _ _ _ (chosen-framed _ _ _) _ _ _ _ _ (run-next c) (entry-3 c .pre .safe) (omega (arith, entry-3 c .good .1 .1 .1 .1 .0))
 
 loop-less : tie.Need-loop-less Inv-loop μ-loop
 loop-less c =
@@ -153,7 +158,7 @@ pub run-chosen-spec : {M : Type 1} → statement M
 run-chosen-spec =
     tie.close
     (tie.spec
-    Inv-loop μ-loop (λ c κs. tt) (λ c κs. search needs) loop-holds (λ c. search needs) (λ c κs. search needs) mul-run-list sub-run-list
+    Inv-loop μ-loop (λ c κs. search needs) loop-holds (λ c. search needs) (λ c κs. search needs) mul-run-list sub-run-list
     part-run-list-start (λ c. search needs) run-list-requires plus-requires (λ c κs. entry-3 (c .before .before) .pre .laid)
     loop-less loop-again same-length same-length-2
     same-length-3 returns)

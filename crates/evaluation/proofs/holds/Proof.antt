@@ -1,4 +1,4 @@
--- `evaluation::holds` meets its contract: what its section gives is what the table gives. Assumes nothing.
+-- `evaluation::holds` meets its contract: what evaluating in its section reports is what the table gives and the visits made in it. Assumes nothing.
 use borrow.Author.Needs.{needs}
 use Rattle.evaluation.proofs.Section.{section-part}
 use Rattle.evaluation.proofs.holds.Statement.{statement}
@@ -9,7 +9,7 @@ abbrev start : tie.After-start → tie.Start
 start c = c .before .before .before
 
 returns : tie.Need-returns
-returns c = c .holds-in .ensures _ (section-part _ _ _ (start (c .before .before) .pre) (c .before .before .start .ensures))
+returns c = c .holds-in .ensures _ (section-part _ _ _ (start (c .before .before) .pre .0) (c .before .before .start .ensures))
 
 pub holds-spec : {M : Type 1} → statement M
 holds-spec =

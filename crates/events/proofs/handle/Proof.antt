@@ -32,6 +32,7 @@ returns c =
     reports-refused _ (start (after-check-event c) .args .s .now) (start (after-check-event c) .args .trace .now) _ _ _
     (after-check-event c .check-event .ensures) (c .refused .result)
     (not-taken (after-check-event c .check-event .result) (c .before .match .keys2)) (c .refused .ensures .0) (c .refused .ensures .1)
+    (c .refused .ensures .2)
 
 happen-requires : tie.Need-happen-requires
 happen-requires c κs =

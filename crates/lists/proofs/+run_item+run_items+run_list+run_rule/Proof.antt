@@ -189,7 +189,9 @@ module _ (t : ℕ) where
       run-item-lts.After-run-rule run-item-calls run-item-at run-item.Post
   run-item-after-run-rule c = c .before .before .before
 
-  abbrev run-item-after-act : run-item-lts.After-trace3 run-item-calls run-item-at run-item.Post → run-item-lts.After-act run-item-calls run-item-at run-item.Post
+  abbrev run-item-after-act :
+      run-item-lts.After-trace3 run-item-calls run-item-at run-item.Post →
+      run-item-lts.After-act run-item-calls run-item-at run-item.Post
   run-item-after-act c = c .before .before .before
 
   -- Places that the proof names itself.
@@ -437,7 +439,7 @@ module _ (t : ℕ) where
       → let a = run-list-entry c .args in let x = run-list-after-list-at c .list-at .result in
       Along (a .outcomes .now) (runList (a .levels) (a .t .now) (a .l) (begin (a .outcomes .now) (a .read) (a .s .now)))
       (itemsFrom (a .t .now) (a .levels - 1) (x .owner) (x .«first_item») (x .«first_item» + x .«item_count»)) (a .trace .now) (a .s .now)
-      (run-list-after-put c .put .last .0) (oneWord (a .read))
+      (run-list-after-put c .put .last .0) (oneWord (a .read) 0)
   run-list-begun c =
       list-begun _ (run-list-entry c .args .outcomes .now) (run-list-entry c .args .read) _ _ _ _ _ _ _
       (run-list-after-list-at c .list-at .ensures) (run-list-after-put c .before .trace-word .ensures)
@@ -496,7 +498,9 @@ module _ (t : ℕ) where
   abbrev run-rule-start : run-rule-lts.Else1 run-rule-calls run-rule-at run-rule.Post → run-rule-lts.Start run-rule-calls run-rule-at run-rule.Post
   run-rule-start c = run-rule-start-from-unready-arg (c .before .before)
 
-  abbrev at-run-rule-else1 : run-rule-lts.After-judge-arg2 run-rule-calls run-rule-at run-rule.Post → run-rule-lts.Else1 run-rule-calls run-rule-at run-rule.Post
+  abbrev at-run-rule-else1 :
+      run-rule-lts.After-judge-arg2 run-rule-calls run-rule-at run-rule.Post →
+      run-rule-lts.Else1 run-rule-calls run-rule-at run-rule.Post
   at-run-rule-else1 c = c .before .before
 
   abbrev run-rule-then1 : run-rule-lts.After-put run-rule-calls run-rule-at run-rule.Post → run-rule-lts.Then1 run-rule-calls run-rule-at run-rule.Post
@@ -512,10 +516,22 @@ module _ (t : ℕ) where
       run-rule-lts.After-judge run-rule-calls run-rule-at run-rule.Post
   run-rule-after-judge-from-slice-known5 c = c .before .before .before .before
 
-  abbrev run-rule-after-judge : run-rule-lts.Else2 run-rule-calls run-rule-at run-rule.Post → run-rule-lts.After-judge run-rule-calls run-rule-at run-rule.Post
-  run-rule-after-judge c = run-rule-after-judge-from-slice-known5 (c .before)
+  abbrev run-rule-after-one-word2 :
+      run-rule-lts.Else2 run-rule-calls run-rule-at run-rule.Post →
+      run-rule-lts.After-one-word2 run-rule-calls run-rule-at run-rule.Post
+  run-rule-after-one-word2 c = c .before .before
 
-  abbrev run-rule-else2 : run-rule-lts.After-run-list-arg2 run-rule-calls run-rule-at run-rule.Post → run-rule-lts.Else2 run-rule-calls run-rule-at run-rule.Post
+  abbrev run-rule-after-one-word2-from-then2 :
+      run-rule-lts.Then2 run-rule-calls run-rule-at run-rule.Post →
+      run-rule-lts.After-one-word2 run-rule-calls run-rule-at run-rule.Post
+  run-rule-after-one-word2-from-then2 c = c .before .before
+
+  abbrev run-rule-after-judge : run-rule-lts.Else2 run-rule-calls run-rule-at run-rule.Post → run-rule-lts.After-judge run-rule-calls run-rule-at run-rule.Post
+  run-rule-after-judge c = run-rule-after-judge-from-slice-known5 (run-rule-after-one-word2 c .before)
+
+  abbrev run-rule-else2 :
+      run-rule-lts.After-run-list-arg2 run-rule-calls run-rule-at run-rule.Post →
+      run-rule-lts.Else2 run-rule-calls run-rule-at run-rule.Post
   run-rule-else2 c = c .before .before
 
   abbrev run-rule-after-run-list :
@@ -524,9 +540,9 @@ module _ (t : ℕ) where
   run-rule-after-run-list c = c .before .before .before .before
 
   abbrev run-rule-after-run-list-arg2 :
-      run-rule-lts.After-one-word3 run-rule-calls run-rule-at run-rule.Post →
+      run-rule-lts.After-slice-known7 run-rule-calls run-rule-at run-rule.Post →
       run-rule-lts.After-run-list-arg2 run-rule-calls run-rule-at run-rule.Post
-  run-rule-after-run-list-arg2 c = run-rule-after-run-list (c .before) .before
+  run-rule-after-run-list-arg2 c = run-rule-after-run-list c .before
 
   -- Places that the proof names itself.
   abbrev run-rule-entry : run-rule-lts.After-judge-arg2 run-rule-calls run-rule-at run-rule.Post → run-rule-lts.Start run-rule-calls run-rule-at run-rule.Post
@@ -536,7 +552,9 @@ module _ (t : ℕ) where
       → run-rule-lts.Start run-rule-calls run-rule-at run-rule.Post
   run-rule-entry-2 c = run-rule-entry (run-rule-after-judge (run-rule-else2 c) .before)
 
-  abbrev run-rule-entry-3 : run-rule-lts.After-one-word3 run-rule-calls run-rule-at run-rule.Post → run-rule-lts.Start run-rule-calls run-rule-at run-rule.Post
+  abbrev run-rule-entry-3 :
+      run-rule-lts.After-slice-known7 run-rule-calls run-rule-at run-rule.Post →
+      run-rule-lts.Start run-rule-calls run-rule-at run-rule.Post
   run-rule-entry-3 c = run-rule-entry-2 (run-rule-after-run-list-arg2 c)
 
   abbrev run-rule-after-unready : run-rule-lts.After-one-word run-rule-calls run-rule-at run-rule.Post
@@ -546,17 +564,17 @@ module _ (t : ℕ) where
   abbrev run-rule-else1 : run-rule-lts.After-slice-known5 run-rule-calls run-rule-at run-rule.Post → run-rule-lts.Else1 run-rule-calls run-rule-at run-rule.Post
   run-rule-else1 c = at-run-rule-else1 (run-rule-after-judge-from-slice-known5 c .before)
 
-  -- the rule's word is written, and it starts a list
+  -- the rule's word is written and its visits are counted, and it starts a list
   run-rule-begun : (c : run-rule-lts.Else2 run-rule-calls run-rule-at run-rule.Post)
-      → let a = run-rule-start (run-rule-else1 (c .before)) .args in
+      → let a = run-rule-start (run-rule-else1 (run-rule-after-one-word2 c .before)) .args in
       Along (a .outcomes .now) (runRule (runList (a .below) (a .t .now)) (a .t .now) (a .o) (a .r) (begin (a .outcomes .now) (a .read) (a .s .now)))
-      (runList (a .below) (a .t .now) (run-rule-after-judge c .judge .result)) (a .trace .now)
+      (runList (a .below) (a .t .now) (run-rule-after-judge c .judge .result .list)) (a .trace .now)
       (run-rule-after-judge c .judge .last .1 .1 .1 .1 .0)
-      (run-rule-after-judge c .judge .last .1 .1 .1 .1 .1 .0) (oneWord (a .read))
+      (run-rule-after-judge c .judge .last .1 .1 .1 .1 .1 .0) (oneWord (a .read) (run-rule-after-judge c .judge .result .visits))
   run-rule-begun c =
-      rule-begun _ (run-rule-start (run-rule-else1 (c .before)) .args .outcomes .now) (run-rule-start (run-rule-else1 (c .before)) .args .read) _ _ _ _ _
-      (run-rule-start (run-rule-else1 (c .before)) .pre .1 .safe)
-      (sym (run-rule-else1 (c .before) .before .unready .ensures) ∙ run-rule-else1 (c .before) .if1 .left) _
+      let else1 = run-rule-else1 (run-rule-after-one-word2 c .before) in
+      rule-begun _ (run-rule-start else1 .args .outcomes .now) (run-rule-start else1 .args .read) _ _ _ _ _
+      (run-rule-start else1 .pre .1 .safe) (sym (else1 .before .unready .ensures) ∙ else1 .if1 .left) _ _
       (run-rule-after-judge c .judge .ensures .0) _ _ (run-rule-after-judge c .judge .ensures .1) (c .if2 .left)
 
   run-rule-unready-requires : run-rule-lts.Need-unready-requires run-rule-calls run-rule-at run-rule.Post
@@ -581,12 +599,13 @@ module _ (t : ℕ) where
 
   run-rule-returns-2 : run-rule-lts.Need-returns-2 run-rule-calls run-rule-at run-rule.Post
   run-rule-returns-2 c =
-      rw (c .one-word2 .ensures)
-      (rule-done _ (run-rule-start (run-rule-else1 (c .before .before)) .args .outcomes .now) (run-rule-start (run-rule-else1 (c .before .before)) .args .read) _ _ _ _ _
-      (run-rule-start (run-rule-else1 (c .before .before)) .pre .1 .safe)
-      (sym (run-rule-else1 (c .before .before) .before .unready .ensures) ∙ run-rule-else1 (c .before .before) .if1 .left) _
-      (run-rule-after-judge-from-slice-known5 (c .before .before) .judge .ensures .0) _ _
-      (run-rule-after-judge-from-slice-known5 (c .before .before) .judge .ensures .1) (c .before .if2 .taken))
+      let at-one-word2 = run-rule-after-one-word2-from-then2 c in
+      let else1 = run-rule-else1 (at-one-word2 .before) in
+      let at-judge = run-rule-after-judge-from-slice-known5 (at-one-word2 .before) in
+      rw (at-one-word2 .one-word2 .ensures)
+      (rule-done _ (run-rule-start else1 .args .outcomes .now) (run-rule-start else1 .args .read) _ _ _ _ _
+      (run-rule-start else1 .pre .1 .safe) (sym (else1 .before .unready .ensures) ∙ else1 .if1 .left) _ _
+      (at-judge .judge .ensures .0) _ _ (at-judge .judge .ensures .1) (c .if2 .taken))
 
   run-rule-sub-run-list : run-rule-lts.Need-sub-run-list run-rule-calls run-rule-at run-rule.Post
   run-rule-sub-run-list c = run-rule-begun (c .before) .inside
@@ -606,16 +625,16 @@ module _ (t : ℕ) where
 
   run-rule-plus-requires : run-rule-lts.Need-plus-requires run-rule-calls run-rule-at run-rule.Post
   run-rule-plus-requires c κs =
-      rw (c .one-word3 .ensures)
+      rw (run-rule-after-one-word2 (run-rule-else2 (run-rule-after-run-list-arg2 c)) .one-word2 .ensures)
       (last-addable _ _ _ (list-framed _ _ _) _ _ _ _ (run-rule-begun (run-rule-else2 (run-rule-after-run-list-arg2 c)))
-      (run-rule-entry-3 c .pre .1 .safe) _ _ _ (run-rule-after-run-list (c .before) .run-list .ensures)
+      (run-rule-entry-3 c .pre .1 .safe) _ _ _ (run-rule-after-run-list c .run-list .ensures)
       (omega (arith, run-rule-entry-3 c .good .1 .1 .1 .1 .1 .1 .0)))
 
   run-rule-returns-3 : run-rule-lts.Need-returns-3 run-rule-calls run-rule-at run-rule.Post
   run-rule-returns-3 c =
-      rw (c .plus .ensures, c .before .one-word3 .ensures)
+      rw (c .plus .ensures, run-rule-after-one-word2 (run-rule-else2 (run-rule-after-run-list-arg2 (c .before))) .one-word2 .ensures)
       (last-ran _ _ _ (list-framed _ _ _) _ _ _ _ (run-rule-begun (run-rule-else2 (run-rule-after-run-list-arg2 (c .before))))
-      (run-rule-entry-3 (c .before) .pre .1 .safe) _ _ _ (run-rule-after-run-list (c .before .before) .run-list .ensures))
+      (run-rule-entry-3 (c .before) .pre .1 .safe) _ _ _ (run-rule-after-run-list (c .before) .run-list .ensures))
 
 pub +run-item+run-items+run-list+run-rule-spec : {M : Type 1} → statement M
 +run-item+run-items+run-list+run-rule-spec =
@@ -636,5 +655,5 @@ pub +run-item+run-items+run-list+run-rule-spec : {M : Type 1} → statement M
     (λ t. run-rule-lts.spec (run-rule-calls t) (run-rule-at t) run-rule.Post
     (run-rule-unready-requires t) (λ c κs. tt) (λ c κs. tt) (λ c κs. tt) (λ c. search needs) (λ c. search needs) (run-rule-returns t)
     (run-rule-judge-requires t) (λ c κs. tt) (λ c. search needs) (λ c. search needs) (run-rule-returns-2 t) (run-rule-sub-run-list t)
-    (run-rule-part-run-list-start t) (λ c. search needs) (run-rule-run-list-requires t) (λ c κs. tt) (run-rule-plus-requires t)
+    (run-rule-part-run-list-start t) (λ c. search needs) (run-rule-run-list-requires t) (run-rule-plus-requires t)
     (λ c. search needs) (λ c. search needs) (run-rule-returns-3 t))

@@ -1,6 +1,6 @@
 -- `lists::act` meets its contract: a run of one word. Assumes nothing.
 use mathlib.Core.Path.{_∙_}
-use Rattle.lists.proofs.Items.{one-ran, act-word, act-outcomes, act-state}
+use Rattle.lists.proofs.Items.{one-ran, act-word, act-outcomes, act-visits, act-state}
 use borrow.Author.Needs.{needs}
 use Rattle.lists.proofs.act.Statement.{statement}
 use Rattle.lists.proofs.act.Tie as tie
@@ -25,10 +25,10 @@ entry c = start (after-effect c .before)
 returns : tie.Need-returns
 returns c =
     rw (c .one-word .ensures)
-    (one-ran _ _ _ _ _ _ _ (act-word _ _ _ (after-item-at (after-put c) .item-at .ensures) _ _ _ _ (after-put c .before .trace-word .ensures))
+    (one-ran _ _ _ _ _ _ _ _ (act-word _ _ _ (after-item-at (after-put c) .item-at .ensures) _ _ _ _ (after-put c .before .trace-word .ensures))
     (entry c .pre .safe) (after-effect c .effect .ensures ∙ act-state _ (entry c .args .o) _ _ _) (after-put c .put .ensures)
     (act-outcomes _ _ _ (after-item-at (after-put c) .item-at .ensures) (entry c .args .o) (entry c .args .outcomes .now)
-    (entry c .args .read) (c .before .read-on .result) _ (c .before .read-on .ensures)))
+    (entry c .args .read) (c .before .read-on .result) _ (c .before .read-on .ensures)) (act-visits _ (entry c .args .o) _ _ _))
 
 pub act-spec : {M : Type 1} → statement M
 act-spec =

@@ -1,5 +1,5 @@
 -- `lists::judge` meets its contract: a run of one word. Assumes nothing.
-use Rattle.lists.proofs.Items.{one-ran, judge-chooses, judge-word, judge-state, judge-outcomes}
+use Rattle.lists.proofs.Items.{one-ran, judge-chooses, judge-word, judge-state, judge-outcomes, judge-visits}
 use borrow.Author.Needs.{needs}
 use Rattle.lists.proofs.judge.Statement.{statement}
 use Rattle.lists.proofs.judge.Tie as tie
@@ -29,12 +29,13 @@ after-set-result c = at-after-set-result (after-trace-word c)
 
 returns : tie.Need-returns
 returns c = (
-  judge-chooses _ _ (entry c .args .o) _ _ (after-result (after-set-result c) .result .ensures) _ _
+  judge-chooses _ _ (entry c .args .o) _ _ (after-result (after-set-result c) .result .ensures .result) _ _
       (after-choice (after-set-result c) .before .result-in .ensures) (after-choice (after-set-result c) .choice .ensures .value),
-  one-ran _ _ _ _ _ _ _ (judge-word _ _ _ _ _ (after-result (after-set-result c) .result .ensures) _
+  one-ran _ _ _ _ _ _ _ _ (judge-word _ _ _ _ _ (after-result (after-set-result c) .result .ensures .result) _
       (after-trace-word c .trace-word .ensures)) (entry c .pre .safe)
-      (judge-state _ _ (entry c .args .o) _ _ (after-result (after-set-result c) .result .ensures) _
-      (after-set-result c .set-result .ensures)) (c .before .before .put .ensures) (judge-outcomes _ _ (entry c .args .o) _),
+      (judge-state _ _ (entry c .args .o) _ _ (after-result (after-set-result c) .result .ensures .result) _
+      (after-set-result c .set-result .ensures)) (c .before .before .put .ensures) (judge-outcomes _ _ (entry c .args .o) _)
+      (judge-visits _ _ (entry c .args .o) _ _ (after-result (after-set-result c) .result .ensures .visits)),
 )
 
 pub judge-spec : {M : Type 1} → statement M

@@ -5,16 +5,16 @@ use Prim.Native.Nat.{_-_}
 use mathlib.Core.Path.{refl, ap}
 use native.Mathlib.Omega.{arith}
 use lib.ListN.{length}
-use Rattle.events.specs.Answers.{numberOf, countOf}
+use Rattle.events.specs.Answers.{numberOf, countOf, visitsOf}
 use Rattle.manager.proofs.Playing.{none-behind, Along, along-none, along-end, not-eight, along-ends, ends-state-long, ends-long, along-next, not-done}
 use Rattle.manager.proofs.play_on.Statement.{statement}
 use Rattle.manager.proofs.play_on.Tie as tie
 
 abbrev Inv-loop : tie.InvT-loop
-Inv-loop t h b s₀ trace₀ es taken₀ count₀ s trace taken count = Along t es s₀ trace₀ s trace taken count
+Inv-loop t h b s₀ trace₀ es taken₀ count₀ visits₀ s trace taken count visits = Along t es s₀ trace₀ s trace taken count visits
 
 abbrev μ-loop : tie.MeasureT-loop
-μ-loop t h b s₀ trace₀ es taken₀ count₀ s trace taken count = length es - taken
+μ-loop t h b s₀ trace₀ es taken₀ count₀ visits₀ s trace taken count visits = length es - taken
 
 -- The places that the answers cite, each seen from a later one.
 abbrev start : tie.At-loop Inv-loop μ-loop → tie.Start Inv-loop μ-loop
@@ -79,15 +79,26 @@ add-count c =
     let k = after-known4 c in
     let done = after-answer c .answer .given .1 in
     let next = along-next (at-loop (after-arg k) .loop .inv) _ (in-loop (after-arg k) .loop-test .taken) refl _ _ (after-take-next k .take-next .result)
-    _ (none-behind (start (at-loop (after-arg k)) .args .es .now)) (after-take-next k .take-next .ensures) _ (ap numberOf done) (ap countOf done) in
+    _ (none-behind (start (at-loop (after-arg k)) .args .es .now)) (after-take-next k .take-next .ensures) _ _ (ap numberOf done) (ap countOf done)
+    (ap visitsOf done) _ refl in
     omega (arith, next .inside, next .long, start (at-loop (after-arg k)) .good .1 .1 .1 .1 .0)
+
+add-taken : tie.Need-add-taken Inv-loop μ-loop
+add-taken c =
+    let arg = after-arg (after-known4 (c .before .before)) in
+    omega (arith, in-loop arg .loop-test .taken, start (at-loop arg) .good .1 .1 .1 .1 .1 .0)
+
+loop-less : tie.Need-loop-less Inv-loop μ-loop
+loop-less c = omega (arith, in-loop (after-arg (after-known4 (c .before .before))) .loop-test .taken)
 
 loop-again : tie.Need-loop-again Inv-loop μ-loop
 loop-again c =
-    let k = after-known4 c in
-    let done = after-answer c .answer .given .1 in
+    let counted = c .before .before in
+    let k = after-known4 counted in
+    let done = after-answer counted .answer .given .1 in
     along-next (at-loop (after-arg k) .loop .inv) _ (in-loop (after-arg k) .loop-test .taken) refl _ _ (after-take-next k .take-next .result)
-    _ (none-behind (start (at-loop (after-arg k)) .args .es .now)) (after-take-next k .take-next .ensures) _ (ap numberOf done) (ap countOf done)
+    _ (none-behind (start (at-loop (after-arg k)) .args .es .now)) (after-take-next k .take-next .ensures) _ _ (ap numberOf done) (ap countOf done)
+    (ap visitsOf done) _ (c .wrapping-add-u64 .ensures)
 
 pub play-on-spec : {M : Type 1} → statement M
 play-on-spec =
@@ -114,7 +125,9 @@ play-on-spec =
     returns
     add-count
     (λ c. search needs)
-    (λ c. search needs)
+    (λ c κs. search needs)
+    add-taken
+    loop-less
     loop-again
     (λ c. c .before .loop .inv .stateLong)
     (λ c. c .before .loop .inv .long)

@@ -26,6 +26,7 @@ returns c =
     reports-unadmitted (a .t .now) (a .s .now) _ _ _ (c .not-admitted .result)
     (λ z. not-standing (c .before .before .admit .result) (c .before .match .keys2) (c .before .before .admit .ensures .number ∙ z))
     (c .not-admitted .ensures .0 ∙ c .before .before .admit .ensures .number) (c .not-admitted .ensures .1)
+    (c .not-admitted .ensures .2)
 
 read-accepted-requires : tie.Need-read-accepted-requires
 read-accepted-requires c κs = stood-table _ _ (standing (after-admission c .admission .given .1) (after-admit c .admit .ensures))

@@ -5,7 +5,7 @@ use Rattle.demands.proofs.entries.play.Statement.{statement}
 use Rattle.demands.proofs.entries.play.Tie as tie
 
 returns : tie.Need-returns
-returns c = of-play _ _ _ _ _ _ _ _ _ (c .before .before .before .before .play .ensures)
+returns c = of-play _ _ _ _ _ _ _ _ _ _ (c .before .before .before .before .play .ensures)
 
 pub play-spec : {M : Type 1} → statement M
 play-spec = tie.close (tie.spec (λ c κs. search needs) (λ c. search needs) (λ c. search needs) returns)

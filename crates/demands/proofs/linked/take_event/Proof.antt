@@ -5,7 +5,7 @@ use Rattle.demands.proofs.linked.take_event.Statement.{statement}
 use Rattle.demands.proofs.linked.take_event.Tie as tie
 
 returns : tie.Need-returns
-returns c = of-event _ _ _ _ _ _ _ _ _ (c .before .before .before .before .herringcart-take-event .ensures)
+returns c = of-event _ _ _ _ _ _ _ _ _ _ (c .before .before .before .before .herringcart-take-event .ensures)
 
 pub take-event-spec : {M : Type 1} → statement M
 take-event-spec = tie.close (tie.spec (λ c κs. search needs) (λ c. search needs) (λ c. search needs) returns)
