@@ -68,23 +68,34 @@ module _ (out trace : List ℕ) where
 abbrev takenLabel : List ℕ
 takenLabel = 116 ∷ 97 ∷ 107 ∷ 101 ∷ 110 ∷ 32 ∷ []
 
+abbrev visitsLabel : List ℕ
+visitsLabel = 118 ∷ 105 ∷ 115 ∷ 105 ∷ 116 ∷ 115 ∷ 32 ∷ []
+
 abbrev answerLabel : List ℕ
 answerLabel = 97 ∷ 110 ∷ 115 ∷ 119 ∷ 101 ∷ 114 ∷ 32 ∷ []
 
-pub end-laid : {out o₁ o₂ o₃ o₄ : List ℕ} {n₁ n₂ n₃ n₄ : ℕ} (taken number : ℕ) → taken < 2 ^ 64 → number < 2 ^ 32 → mostEnd ≤ length out
-    → Put takenLabel out 0 n₁ o₁ → Put (decimalLine taken) o₁ n₁ n₂ o₂ → Put answerLabel o₂ n₂ n₃ o₃ → Put (decimalLine number) o₃ n₃ n₄ o₄
-    → PutLines mostEnd (endLines taken number) out n₄ o₄
+pub end-laid : {out o₁ o₂ o₃ o₄ o₅ o₆ : List ℕ} {n₁ n₂ n₃ n₄ n₅ n₆ : ℕ} (taken visits number : ℕ) → taken < 2 ^ 64 → visits < 2 ^ 64 → number < 2 ^ 32
+    → mostEnd ≤ length out → Put takenLabel out 0 n₁ o₁ → Put (decimalLine taken) o₁ n₁ n₂ o₂ → Put visitsLabel o₂ n₂ n₃ o₃
+    → Put (decimalLine visits) o₃ n₃ n₄ o₄ → Put answerLabel o₄ n₄ n₅ o₅ → Put (decimalLine number) o₅ n₅ n₆ o₆
+    → PutLines mostEnd (endLines taken visits number) out n₆ o₆
 unfolding endLines
-end-laid taken number ht hn room p q r s =
+end-laid taken visits number ht hv hn room p q r s u w =
     let a = decimal-within 19 taken (omega arith) in
-    let b = decimal-within 9 number (omega arith) in
+    let b = decimal-within 19 visits (omega arith) in
+    let c = decimal-within 9 number (omega arith) in
     let la = length-append (decimal taken) (10 ∷ []) in
-    let lb = length-append (decimal number) (10 ∷ []) in
+    let lb = length-append (decimal visits) (10 ∷ []) in
+    let lc = length-append (decimal number) (10 ∷ []) in
     let one = one-put {line = takenLabel} (omega arith) p in
     let two = put-then {xs = takenLabel} {line = decimalLine taken} (omega arith) one q in
     let l₂ = length-append takenLabel (decimalLine taken) in
-    let three = put-then {xs = takenLabel ++ decimalLine taken} {line = answerLabel} (omega arith) two r in
-    let l₃ = length-append (takenLabel ++ decimalLine taken) answerLabel in
-    let four = put-then {xs = takenLabel ++ decimalLine taken ++ answerLabel} {line = decimalLine number} (omega arith) three s in
-    let l₄ = length-append (takenLabel ++ decimalLine taken ++ answerLabel) (decimalLine number) in
-    put-lines mostEnd room (omega arith) four
+    let three = put-then {xs = takenLabel ++ decimalLine taken} {line = visitsLabel} (omega arith) two r in
+    let l₃ = length-append (takenLabel ++ decimalLine taken) visitsLabel in
+    let four = put-then {xs = takenLabel ++ decimalLine taken ++ visitsLabel} {line = decimalLine visits} (omega arith) three s in
+    let l₄ = length-append (takenLabel ++ decimalLine taken ++ visitsLabel) (decimalLine visits) in
+    let five = put-then {xs = takenLabel ++ decimalLine taken ++ visitsLabel ++ decimalLine visits} {line = answerLabel} (omega arith) four u in
+    let l₅ = length-append (takenLabel ++ decimalLine taken ++ visitsLabel ++ decimalLine visits) answerLabel in
+    let six = put-then {xs = takenLabel ++ decimalLine taken ++ visitsLabel ++ decimalLine visits ++ answerLabel} {line = decimalLine number} (omega arith)
+    five w in
+    let l₆ = length-append (takenLabel ++ decimalLine taken ++ visitsLabel ++ decimalLine visits ++ answerLabel) (decimalLine number) in
+    put-lines mostEnd room (omega arith) six

@@ -9,7 +9,7 @@ use lib.Seq.{length-take-le, take-at, drop-append-le}
 use Rattle.rulebook.specs.Play.{Play, play}
 use Rattle.manager.specs.Promises.{PlaysIn}
 use Rattle.session.specs.Promises.{PutAt}
-use Rattle.day.specs.Printed.{traceLines}
+use Rattle.day.specs.Printed.{traceLines, in64}
 use Rattle.day.specs.Promises.{roomOf, PlaysPart}
 use Rattle.day.proofs.Lines.{traces-long}
 use Rattle.day.proofs.Playing.{words-in-room}
@@ -18,8 +18,8 @@ use Rattle.day.proofs.Playing.{words-in-room}
 pub room-is : (trace out : List ℕ) (room : ℕ) → room ≡ roomOf trace out → room ≡ length (take room trace)
 room-is trace out room is = sym (length-take-le room trace (omega arith))
 
-module _ (t s trace es out : List ℕ) (room : ℕ) (is : room ≡ roomOf trace out) (k n m : ℕ) (s′ front : List ℕ)
-    (told : PlaysIn t s (take room trace) es k n m s′ front) where
+module _ (t s trace es out : List ℕ) (room : ℕ) (is : room ≡ roomOf trace out) (k n m v : ℕ) (s′ front : List ℕ)
+    (told : PlaysIn t s (take room trace) es k n m v s′ front) where
   abbrev whole : Play
   whole = play t s (roomOf trace out) es
 
@@ -48,7 +48,7 @@ module _ (t s trace es out : List ℕ) (room : ℕ) (is : room ≡ roomOf trace 
   lines-fit = let c = count-is in let f = few in omega arith
 
   pub tells : (bytes : ℕ) (out′ : List ℕ) → PutAt (traceLines (take m (front ++ drop room trace))) out 0 bytes out′
-      → PlaysPart t s trace es out (record { taken = n; bytes = bytes; number = k }) s′ (front ++ drop room trace) out′
+      → PlaysPart t s trace es out (record { taken = n; visits = v; bytes = bytes; number = k }) s′ (front ++ drop room trace) out′
   tells bytes out′ put =
       let these : take m (front ++ drop room trace) ≡ whole .words = rw trace-after (take-at (whole .words) _ m (sym count-is)) in
       let laid = rw these at put in
@@ -56,6 +56,7 @@ module _ (t s trace es out : List ℕ) (room : ℕ) (is : room ≡ roomOf trace 
       let count = count-is in
       record {
         taken = told .taken ∙ ap (λ (p : Play). p .taken) same;
+        visits = told .visits ∙ ap (λ (p : Play). in64 (p .visits)) same;
         number = told .answer ∙ ap (λ (p : Play). p .answer) same;
         bytes = laid .place ∙ zero-add _;
         state = told .state ∙ ap (λ (p : Play). p .state) same;

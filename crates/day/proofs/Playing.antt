@@ -74,26 +74,26 @@ module _ (t s : List ℕ) (z : refusedState t s ≡ 0) where
   abbrev fit : fits t s ≡ true
   fit = stood-state t s z
 
-  -- a play in enough room, behind n events that wrote ws
-  behind : (es fs ws : List ℕ) (n room left : ℕ) (s′ : List ℕ) → length es * bound t ≤ room → refusedState t s′ ≡ 0
-      → playOn t es s room ≡ onto n ws (playOn t fs s′ left)
-      → whole t s es ≡ onto n ws (whole t s′ fs)
-  behind es fs ws n room left s′ enough z′ e =
+  -- a play in enough room, behind n events that wrote ws and made v visits
+  behind : (es fs ws : List ℕ) (n v room left : ℕ) (s′ : List ℕ) → length es * bound t ≤ room → refusedState t s′ ≡ 0
+      → playOn t es s room ≡ onto n ws v (playOn t fs s′ left)
+      → whole t s es ≡ onto n ws v (whole t s′ fs)
+  behind es fs ws n v room left s′ enough z′ e =
       let full = enough-room t ok es s room fit enough in
       sym (whole-from t s es z room full)
       ∙ e
-      ∙ ap (onto n ws) (whole-from t s′ fs z′ left (λ f. full (ap (λ (p : Play). p .answer) e ∙ f)))
+      ∙ ap (onto n ws v) (whole-from t s′ fs z′ left (λ f. full (ap (λ (p : Play). p .answer) e ∙ f)))
 
   resumed-on : (es : List ℕ) (room : ℕ) → (let p = playOn t es s room in
-      p .answer ≡ 3 → whole t s es ≡ onto (p .taken) (p .words) (whole t (p .state) (drop (p .taken) es)))
+      p .answer ≡ 3 → whole t s es ≡ onto (p .taken) (p .words) (p .visits) (whole t (p .state) (drop (p .taken) es)))
   resumed-on es room f =
       let p = playOn t es s room in
       let after = stands t (p .state) ok (kept t ok es s room fit .state) in
-      behind es (drop (p .taken) es) (p .words) (p .taken) (room + length es * bound t) _ (p .state) (omega arith) after
+      behind es (drop (p .taken) es) (p .words) (p .taken) (p .visits) (room + length es * bound t) _ (p .state) (omega arith) after
       (resumed t ok (length es * bound t) es s room fit f)
 
   on-with : (xs ys : List ℕ) → (let p = whole t s xs in
-      p .answer ≡ 0 → whole t s (xs ++ ys) ≡ onto (p .taken) (p .words) (whole t (p .state) ys))
+      p .answer ≡ 0 → whole t s (xs ++ ys) ≡ onto (p .taken) (p .words) (p .visits) (whole t (p .state) ys))
   on-with xs ys f =
       let room = length (xs ++ ys) * bound t in
       let long : room ≡ length xs * bound t + length ys * bound t = rw length-append (add-mul (length xs) (length ys) (bound t)) in
@@ -101,8 +101,8 @@ module _ (t s : List ℕ) (z : refusedState t s ≡ 0) where
       let q = playOn t xs s room in
       let after = stands t (q .state) ok (kept t ok xs s room fit .state) in
       let done : q .answer ≡ 0 = ap (λ (p : Play). p .answer) same ∙ f in
-      let all = behind (xs ++ ys) ys (q .words) (q .taken) room _ (q .state) (omega arith) after (goes-on t ok ys xs s room fit done) in
-      all ∙ ap (λ (p : Play). onto (p .taken) (p .words) (whole t (p .state) ys)) same
+      let all = behind (xs ++ ys) ys (q .words) (q .taken) (q .visits) room _ (q .state) (omega arith) after (goes-on t ok ys xs s room fit done) in
+      all ∙ ap (λ (p : Play). onto (p .taken) (p .words) (p .visits) (whole t (p .state) ys)) same
 
   ends-before : (xs ys : List ℕ) → (whole t s xs .answer ≡ 0 → ⊥) → whole t s (xs ++ ys) ≡ whole t s xs
   ends-before xs ys n =
@@ -113,7 +113,7 @@ module _ (t s : List ℕ) (z : refusedState t s ≡ 0) where
 
 -- a play that is full is resumed from its state, at the event before which it stopped
 pub whole-resumed : (t s : List ℕ) (room : ℕ) (es : List ℕ) → (let p = play t s room es in
-    p .answer ≡ 3 → whole t s es ≡ onto (p .taken) (p .words) (whole t (p .state) (drop (p .taken) es)))
+    p .answer ≡ 3 → whole t s es ≡ onto (p .taken) (p .words) (p .visits) (whole t (p .state) (drop (p .taken) es)))
 whole-resumed t s room es f =
     let z = full-stands t s room es f in
     rw (play-stands t s z room es) (resumed-on t s z es room (rw (play-stands t s z room es) at f))
@@ -121,7 +121,7 @@ whole-resumed t s room es f =
 -- Events xs and then ys: ys are played from the state that xs leave, if all xs are done, and else not at all.
 
 pub whole-on : (t s xs ys : List ℕ) → (let p = whole t s xs in
-    p .answer ≡ 0 → whole t s (xs ++ ys) ≡ onto (p .taken) (p .words) (whole t (p .state) ys))
+    p .answer ≡ 0 → whole t s (xs ++ ys) ≡ onto (p .taken) (p .words) (p .visits) (whole t (p .state) ys))
 whole-on t s xs ys f =
     by-standing t s (λ z. on-with t s z xs ys f) (λ n. absurd (n (ap (λ (p : Play). p .answer) (sym (whole-unadmitted t s xs n)) ∙ f)))
 

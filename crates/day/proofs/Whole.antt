@@ -21,10 +21,11 @@ use Rattle.text.specs.Puts.{lay}
 use Rattle.session.specs.declared.Opening.{Opening}
 use Rattle.session.specs.Printed.{reasonLines, printed}
 use Rattle.session.specs.Promises.{Opens, PutLines}
+use Rattle.session.proofs.Lines.{laid-front}
 use Rattle.session.proofs.Checks.{state-small}
 use Rattle.session.proofs.Whole.{two-parts, opened, opened-state, made-fresh, reason-printed}
 use Rattle.day.specs.declared.Part.{Part}
-use Rattle.day.specs.Printed.{traceLines, stateLines, whole, dayLines, played}
+use Rattle.day.specs.Printed.{traceLines, stateLines, in64, whole, dayLines, played}
 use Rattle.day.specs.Promises.{roomOf, PlaysPart, mostState, mostEnd, shown, LaysState, LaysEnd}
 use Rattle.day.specs.Parts.{Parts, Blocks, Prints}
 use Rattle.day.specs.Parts as parts
@@ -37,50 +38,47 @@ part-front : (t s trace es out : List ℕ) {r : Part} {s₁ w₁ o₁ : List ℕ
 unfolding lay
 part-front t s trace es out p = rw (p .lines, p .bytes) (take-append-seam _ _)
 
--- n events that wrote ws in front of a play
-prints-onto : {p : Play} {ls : List ℕ} {n k : ℕ} {s′ : List ℕ} (m : ℕ) (ws : List ℕ) → Prints p ls n k s′
-    → Prints (onto m ws p) (traceLines ws ++ ls) (m + n) k s′
-prints-onto {p} m ws i =
+-- m events that wrote ws and made u visits, told in 64 bits, in front of a play
+prints-onto : {p : Play} {ls : List ℕ} {n v k : ℕ} {s′ : List ℕ} (m : ℕ) (ws : List ℕ) (u : ℕ) → Prints p ls n v k s′
+    → Prints (onto m ws u p) (traceLines ws ++ ls) (m + n) (in64 (in64 u + v)) k s′
+prints-onto {p} m ws u i =
     record {
       lines = rw (i .lines) (sym (traces-append ws (p .words)));
       taken = ap (λ (n : ℕ). m + n) (i .taken);
+      visits = rw (i .visits) (told u (p .visits));
       number = i .number;
       state = i .state;
     }
+  where
+    told : (a b : ℕ) → in64 (in64 a + in64 b) ≡ in64 (a + b)
+    told a b = omega arith
 
-pub parts-print : (t s es : List ℕ) {ls : List ℕ} {n k : ℕ} {s′ : List ℕ} → Parts t s es ls n k s′ → Prints (whole t s es) ls n k s′
+pub parts-print : (t s es : List ℕ) {ls : List ℕ} {n v k : ℕ} {s′ : List ℕ} → Parts t s es ls n v k s′ → Prints (whole t s es) ls n v k s′
 parts-print t s es (parts.last {trace = trace} {out = out} p other) =
     let is = whole-is t s es (roomOf trace out) (λ z. other (p .number ∙ z)) in
-    rw (← is) (record { lines = part-front t s trace es out p; taken = p .taken; number = p .number; state = p .state })
+    rw (← is) (record { lines = part-front t s trace es out p; taken = p .taken; visits = p .visits; number = p .number; state = p .state })
 parts-print t s es (parts.full {trace = trace} {out = out} {s₁ = s₁} {r = r} p z more) =
     let q = play t s (roomOf trace out) es in
     let i = rw (p .state, p .taken) at (parts-print t s₁ (drop (r .taken) es) more) in
-    let all = prints-onto (q .taken) (q .words) i in
-    rw (whole-resumed t s (roomOf trace out) es (sym (p .number) ∙ z), part-front t s trace es out p, p .taken) all
+    let all = prints-onto (q .taken) (q .words) (q .visits) i in
+    rw (whole-resumed t s (roomOf trace out) es (sym (p .number) ∙ z), part-front t s trace es out p, p .taken, p .visits) all
 
-pub blocks-print : (t s file : List ℕ) {ls : List ℕ} {n k : ℕ} {s′ : List ℕ} → refusedState t s ≡ 0 → Blocks t s file ls n k s′
-    → Prints (whole t s (wordsOf file)) ls n k s′
+pub blocks-print : (t s file : List ℕ) {ls : List ℕ} {n v k : ℕ} {s′ : List ℕ} → refusedState t s ≡ 0 → Blocks t s file ls n v k s′
+    → Prints (whole t s (wordsOf file)) ls n v k s′
 unfolding wordsOf traceLines
-blocks-print t s file z parts.ended = rw (whole-none t s z) (record { lines = refl; taken = refl; number = refl; state = refl })
+blocks-print t s file z parts.ended = rw (whole-none t s z) (record { lines = refl; taken = refl; visits = refl; number = refl; state = refl })
 blocks-print t s file z (parts.block bytes {rest = rest} {s₁ = s₁} aligned calls more) =
     let xs = wordsOf bytes in
     let p = whole t s xs in
     let c = parts-print t s xs calls in
     let i = blocks-print t s₁ rest (rw (c .state) (whole-leaves t s xs z)) more in
-    let all = prints-onto (p .taken) (p .words) (rw (c .state) at i) in
-    rw (two-parts bytes rest aligned, whole-on t s xs (wordsOf rest) (sym (c .number)), c .lines, c .taken) all
+    let all = prints-onto (p .taken) (p .words) (p .visits) (rw (c .state) at i) in
+    rw (two-parts bytes rest aligned, whole-on t s xs (wordsOf rest) (sym (c .number)), c .lines, c .taken, c .visits) all
 blocks-print t s file z (parts.refused bytes {rest = rest} aligned calls some) =
     let c = parts-print t s (wordsOf bytes) calls in
     rw (two-parts bytes rest aligned, whole-ends t s (wordsOf bytes) (wordsOf rest) (λ e. some (c .number ∙ e))) c
 
 -- The program, by what its functions promise.
-
--- what stands at the front of the bytes after lines were laid there
-laid-front : (room : ℕ) {xs out : List ℕ} {n : ℕ} {o : List ℕ} → room ≤ length out → PutLines room xs out n o → take n o ≡ xs
-unfolding lay
-laid-front room {out = out} h put =
-    let fits = le-leb room (length out) h in
-    rw (rw fits at (put .bytes), rw fits at (put .count)) (take-append-seam _ _)
 
 -- a state that stands is shown
 stands-shown : (t s : List ℕ) → refusedState t s ≡ 0 → shown t s ≡ true
@@ -109,15 +107,15 @@ module _ (table events : List ℕ) {o : Opening} {s₀ s : List ℕ} {k₀ : ℕ
   fresh-stands = stands t s ok (rw is-fresh (fresh-fits t ok))
 
   -- no reason from `open`, a state from `make_fresh`, the file's blocks from there, and then the state and the end in room for them
-  pub day-printed : {ls : List ℕ} {n k : ℕ} {s₁ : List ℕ} → Blocks t s events ls n k s₁
+  pub day-printed : {ls : List ℕ} {n v k : ℕ} {s₁ : List ℕ} → Blocks t s events ls n v k s₁
       → {out : List ℕ} {a : ℕ} {out′ : List ℕ} → mostState ≤ length out → LaysState t s₁ out a out′
-      → {last : List ℕ} {b : ℕ} {last′ : List ℕ} → mostEnd ≤ length last → LaysEnd n k last b last′
+      → {last : List ℕ} {b : ℕ} {last′ : List ℕ} → mostEnd ≤ length last → LaysEnd n v k last b last′
       → ls ++ take a out′ ++ take b last′ ≡ played table events
   unfolding played dayLines
   day-printed {s₁ = s₁} blocks room laid room′ laid′ =
       let c = blocks-print t s events fresh-stands blocks in
       let after : refusedState t s₁ ≡ 0 = rw (c .state) (whole-leaves t s (wordsOf events) fresh-stands) in
-      rw (ok, state-front t s₁ after room laid, laid-front mostEnd room′ laid′, c .lines, c .taken, c .number, c .state, is-fresh)
+      rw (ok, state-front t s₁ after room laid, laid-front mostEnd room′ laid′, c .lines, c .taken, c .visits, c .number, c .state, is-fresh)
 
 -- a reason from `open`, and the bytes that `lay_reason` lays for it where there is room
 pub reason-played : (table events : List ℕ) {o : Opening} {out : List ℕ} {n : ℕ} {out′ : List ℕ} → Opens (wordsOf table) o → (o .reason ≡ 0 → ⊥)

@@ -10,7 +10,7 @@ use Rattle.rulebook.specs.Play.{Play, play}
 use Rattle.text.specs.Puts.{lay}
 use Rattle.session.specs.Promises.{PutLines}
 use Rattle.day.specs.declared.Part.{Part}
-use Rattle.day.specs.Printed.{traceLines, stateLines, endLines}
+use Rattle.day.specs.Printed.{traceLines, stateLines, endLines, in64}
 
 -- as many of the lent trace words as have lines that fit the lent bytes
 abbrev pub roomOf : List ℕ → List ℕ → ℕ
@@ -19,6 +19,7 @@ roomOf trace out = min (length trace) (length out / 15)
 -- play p told: its words stand at the front of the trace and their lines at the front of `out`; all else there is as it was
 pub record TellsPart (p : Play) (trace out : List ℕ) (r : Part) (s′ trace′ out′ : List ℕ) : Type 0 where
   pub taken : r .taken ≡ p .taken
+  pub visits : r .visits ≡ in64 (p .visits)
   pub number : r .number ≡ p .answer
   pub bytes : r .bytes ≡ length (traceLines (p .words))
   pub state : s′ ≡ p .state
@@ -39,9 +40,10 @@ mostWords = 360
 abbrev pub mostState : ℕ
 mostState = mostWords * (8 + 3 + 1 + 8 + 1)
 
--- the most bytes that the end prints: `taken `, 20 digits and a newline, `answer `, ten digits and a newline
+-- the most bytes that the end prints: `taken `, 20 digits and a newline, `visits `, 20 digits and a newline, `answer `, ten digits and a
+-- newline
 abbrev pub mostEnd : ℕ
-mostEnd = (6 + 20 + 1) + (7 + 10 + 1)
+mostEnd = (6 + 20 + 1) + (7 + 20 + 1) + (7 + 10 + 1)
 
 -- the state has the table's length, and no more words than any accepted table's
 unfoldable pub shown : List ℕ → List ℕ → Bool
@@ -52,5 +54,5 @@ abbrev pub LaysState : List ℕ → List ℕ → List ℕ → ℕ → List ℕ �
 LaysState t s out n out′ = PutLines mostState (cond (shown t s) (stateLines t s) []) out n out′
 
 -- `lay_end`
-abbrev pub LaysEnd : ℕ → ℕ → List ℕ → ℕ → List ℕ → Type 0
-LaysEnd taken number out n out′ = PutLines mostEnd (endLines taken number) out n out′
+abbrev pub LaysEnd : ℕ → ℕ → ℕ → List ℕ → ℕ → List ℕ → Type 0
+LaysEnd taken visits number out n out′ = PutLines mostEnd (endLines taken visits number) out n out′

@@ -25,8 +25,9 @@ const MOST_WORDS: usize = 360;
 // The most bytes that a state prints: for each word `network `, three digits and a space, eight hex digits and a newline.
 pub const MOST_STATE: usize = 7560;
 
-// The most bytes that the end prints: `taken `, 20 digits and a newline, `answer `, ten digits and a newline.
-pub const MOST_END: usize = 45;
+// The most bytes that the end prints: `taken `, 20 digits and a newline, `visits `, 20 digits and a newline, `answer `, ten digits and a
+// newline.
+pub const MOST_END: usize = 73;
 
 // Lays the line of a trace word.
 fn lay_trace_word(out: &mut [u8], at: usize, w: u32) -> usize
@@ -51,9 +52,11 @@ fn lay_trace(out: &mut [u8], trace: &[u32], count: usize) -> usize
     at
 }
 
-// How many events were taken, how many bytes their trace lines are, and the number of what ended the part.
+// How many events were taken, how many expression words they visited, in 64 bits, how many bytes their trace lines are, and the number of
+// what ended the part.
 pub struct Part {
     pub taken: usize,
+    pub visits: u64,
     pub bytes: usize,
     pub number: u32,
 }
@@ -73,11 +76,13 @@ pub fn play_part(
     let room = least(trace.len(), out.len() / 15);
     let played = manager::play(t, s, &mut trace[..room], events);
     let taken = played.taken;
+    let visits = played.visits;
     let end = played.end;
     let number = manager::end_number(end);
     let bytes = lay_trace(out, trace, played.count);
     Part {
         taken,
+        visits,
         bytes,
         number,
     }
@@ -140,15 +145,18 @@ pub fn lay_state(t: &[u32], s: &[u32], out: &mut [u8]) -> usize
     at
 }
 
-// Lays `taken N` and `answer K` at the front, or nothing where fewer than MOST_END bytes are lent, and returns how many bytes they are.
-pub fn lay_end(out: &mut [u8], taken: u64, number: u32) -> usize
-    ensures { λ r. ⌜ LaysEnd taken number (now (out .entry)) r (now (out .exit)) ⌝ }
+// Lays `taken N`, `visits V` and `answer K` at the front, or nothing where fewer than MOST_END bytes are lent, and returns how many bytes
+// they are.
+pub fn lay_end(out: &mut [u8], taken: u64, visits: u64, number: u32) -> usize
+    ensures { λ r. ⌜ LaysEnd taken visits number (now (out .entry)) r (now (out .exit)) ⌝ }
 {
     if out.len() < MOST_END {
         return 0;
     }
     let count = put_label(out, 0, b"taken ");
     let second = put_decimal(out, count, taken, b'\n');
-    let answer = put_label(out, second, b"answer ");
+    let sum = put_label(out, second, b"visits ");
+    let third = put_decimal(out, sum, visits, b'\n');
+    let answer = put_label(out, third, b"answer ");
     put_decimal(out, answer, number as u64, b'\n')
 }

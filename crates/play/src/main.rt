@@ -16,29 +16,33 @@ use text::input::read_words;
 // The number of a part that ends because its trace is full. The next part starts with an empty one.
 const TRACE_FULL: u32 = 3;
 
-// How many of a block's events were taken, and the number that ended its play, 0 behind its last event. After a failed write both
-// speak of the events taken so far.
+// How many of a block's events were taken, their visits in 64 bits, and the number that ended its play, 0 behind its last event. After a
+// failed write all speak of the events taken so far.
 struct Block {
     written: bool,
     taken: usize,
+    visits: u64,
     number: u32,
 }
 
 // Plays events in as many parts as the trace asks for and prints each part's lines.
 fn play_events(t: &[u32], s: &mut [u32], trace: &mut [u32], es: &[u32], out: &mut [u8]) -> Block
     requires { ⌜ Ready (now t) (now s) (now trace) (now out) ⌝ }
-    ensures { λ r. ⌜ TookBlock (now (t .entry)) (now (s .entry)) (now (es .entry)) (r .written) (r .taken) (r .number) (now (s .exit)) ⌝ }
+    ensures { λ r. ⌜ TookBlock (now (t .entry)) (now (s .entry)) (now (es .entry)) (r .written) (r .taken) (r .visits) (r .number) (now (s .exit)) ⌝ }
 {
     let mut taken = 0;
+    let mut visits: u64 = 0;
     loop {
         let part = day::play_part(t, s, trace, &es[taken..], out);
         let bytes = part.bytes;
         let number = part.number;
         taken += part.taken;
+        visits = std::num::wrapping_add_u64(visits, part.visits);
         if !print(&out[..bytes]) {
             return Block {
                 written: false,
                 taken,
+                visits,
                 number: 0,
             };
         }
@@ -46,6 +50,7 @@ fn play_events(t: &[u32], s: &mut [u32], trace: &mut [u32], es: &[u32], out: &mu
             return Block {
                 written: true,
                 taken,
+                visits,
                 number,
             };
         }
@@ -55,7 +60,8 @@ fn play_events(t: &[u32], s: &mut [u32], trace: &mut [u32], es: &[u32], out: &mu
 // Plays the words of a block.
 fn play_block(t: &[u32], s: &mut [u32], trace: &mut [u32], block: &[u8], out: &mut [u8]) -> Block
     requires { ⌜ Ready (now t) (now s) (now trace) (now out) × (length (now block) ≤ 65536) ⌝ }
-    ensures { λ r. ⌜ TookBlock (now (t .entry)) (now (s .entry)) (wordsOf (now (block .entry))) (r .written) (r .taken) (r .number) (now (s .exit)) ⌝ }
+    ensures { λ r. ⌜ TookBlock (now (t .entry)) (now (s .entry)) (wordsOf (now (block .entry)))
+        (r .written) (r .taken) (r .visits) (r .number) (now (s .exit)) ⌝ }
 {
     let mut words = space::event_words();
     let count = read_words(block, &mut words);
@@ -66,6 +72,7 @@ fn play_block(t: &[u32], s: &mut [u32], trace: &mut [u32], block: &[u8], out: &m
 struct Turn {
     going: bool,
     taken: usize,
+    visits: u64,
     number: u32,
     bytes: usize,
 }
@@ -83,15 +90,18 @@ fn next_block(
 ) -> Turn
     requires { ⌜ Loaded n (now block) × Ready (now t) (now s) (now trace) (now out) ⌝ }
     ensures { λ r. ⌜ Counts (r .bytes) (now (block .exit)) ⌝ }
-    ensures { λ r. ⌜ TookBlock (now (t .entry)) (now (s .entry)) (wordsOf (take n (now (block .entry)))) (r .going) (r .taken) (r .number) (now (s .exit)) ⌝ }
+    ensures { λ r. ⌜ TookBlock (now (t .entry)) (now (s .entry)) (wordsOf (take n (now (block .entry))))
+        (r .going) (r .taken) (r .visits) (r .number) (now (s .exit)) ⌝ }
 {
     let played = play_block(t, s, trace, &block[..n], out);
     let taken = played.taken;
+    let visits = played.visits;
     let number = played.number;
     if !played.written || number != 0 {
         return Turn {
             going: played.written,
             taken,
+            visits,
             number,
             bytes: 0,
         };
@@ -101,15 +111,17 @@ fn next_block(
     Turn {
         going: !filled.failed,
         taken,
+        visits,
         number,
         bytes,
     }
 }
 
-// The whole play: whether it came to its end, and then how many events were taken and the number that ended it.
+// The whole play: whether it came to its end, and then how many events were taken, their visits in 64 bits, and the number that ended it.
 struct Day {
     whole: bool,
     taken: u64,
+    visits: u64,
     number: u32,
 }
 
@@ -126,19 +138,23 @@ fn play_file(
     out: &mut [u8],
 ) -> Day
     requires { ⌜ Loaded first (now block) × Ready (now t) (now s) (now trace) (now out) ⌝ }
-    ensures { λ r. ⌜ Ran (now (t .entry)) (now (s .entry)) (wordsOf (take first (now (block .entry)))) (r .whole) (r .taken) (r .number) (now (s .exit)) ⌝ }
+    ensures { λ r. ⌜ Ran (now (t .entry)) (now (s .entry)) (wordsOf (take first (now (block .entry))))
+        (r .whole) (r .taken) (r .visits) (r .number) (now (s .exit)) ⌝ }
 {
     let mut n = first;
     let mut taken: u64 = 0;
+    let mut visits: u64 = 0;
     let mut turns: u64 = 562949953421312;
     while turns > 0 && n > 0 {
         let turn = next_block(t, s, trace, fd, path, block, n, out);
         let number = turn.number;
         taken += turn.taken as u64;
+        visits = std::num::wrapping_add_u64(visits, turn.visits);
         if !turn.going || number != 0 {
             return Day {
                 whole: turn.going,
                 taken,
+                visits,
                 number,
             };
         }
@@ -148,6 +164,7 @@ fn play_file(
     Day {
         whole: n == 0,
         taken,
+        visits,
         number: 0,
     }
 }
@@ -165,19 +182,19 @@ fn play_fresh(
 ) -> Day
     requires { ⌜ Loaded first (now block) × Lent (now t) (now s) (now trace) (now out) ⌝ }
     ensures { λ r. ⌜ Ran (now (t .entry)) (fresh (now (t .entry))) (wordsOf (take first (now (block .entry))))
-        (r .whole) (r .taken) (r .number) (now (s .exit)) ⌝ }
+        (r .whole) (r .taken) (r .visits) (r .number) (now (s .exit)) ⌝ }
 {
     manager::make_fresh(t, s);
     play_file(t, s, trace, fd, path, block, first, out)
 }
 
-// The lines that close a play: the state, then how many events were taken and the number.
-fn print_end(t: &[u32], s: &[u32], taken: u64, number: u32, out: &mut [u8]) {
+// The lines that close a play: the state, then how many events were taken, their visits and the number.
+fn print_end(t: &[u32], s: &[u32], taken: u64, visits: u64, number: u32, out: &mut [u8]) {
     let state = day::lay_state(t, s, out);
     if !print(&out[..state]) {
         return;
     }
-    let end = day::lay_end(out, taken, number);
+    let end = day::lay_end(out, taken, visits, number);
     print(&out[..end]);
 }
 
@@ -197,7 +214,7 @@ fn play(t: &[u32], fd: i32, path: &[u8], block: &mut [u8], n: usize)
     let s: &mut [u32] = &mut states[..words];
     let day = play_fresh(t, s, &mut trace, fd, path, block, n, &mut out);
     if day.whole {
-        print_end(t, s, day.taken, day.number, &mut out);
+        print_end(t, s, day.taken, day.visits, day.number, &mut out);
     }
 }
 

@@ -44,11 +44,11 @@ module _ (t s xs : List ℕ) (e : ℕ) where
   unfolding runLines
   lines-last = lines-append t s xs (e ∷ []) ∙ ap (λ (l : List ℕ). runLines t s xs ++ l) (append-nil (eventLines t (stateAfter t s xs) e))
 
-  state-last : stateAfter t s (xs ++ e ∷ []) ≡ taken t (stateAfter t s xs) e .state
+  pub state-last : stateAfter t s (xs ++ e ∷ []) ≡ taken t (stateAfter t s xs) e .state
   unfolding stateAfter
   state-last = state-append t s xs (e ∷ [])
 
-  trace-last : (trace : List ℕ) → traceAfter t s (xs ++ e ∷ []) trace ≡ tracedBy t (stateAfter t s xs) e (traceAfter t s xs trace)
+  pub trace-last : (trace : List ℕ) → traceAfter t s (xs ++ e ∷ []) trace ≡ tracedBy t (stateAfter t s xs) e (traceAfter t s xs trace)
   unfolding traceAfter
   trace-last trace = trace-append t s xs (e ∷ []) trace
 

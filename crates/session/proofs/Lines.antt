@@ -5,12 +5,12 @@ use mathlib.Core.List.{List, _++_}
 use native.Mathlib.Nat.{zero-add}
 use native.Mathlib.Omega.{arith}
 use lib.ListN.{length, take, length-append}
-use lib.Seq.{take-take, take-all, length-take-le}
+use lib.Seq.{take-take, take-all, length-take-le, take-append-seam}
 use borrow.Author.Tests.{le-leb, lt-leb}
 use Rattle.rulebook.specs.Reasons.{verdict}
 use Rattle.text.specs.declared.output.Laid.{Laid}
 use Rattle.text.specs.Lines.{decimal, decimalLine, hexLines}
-use Rattle.text.specs.Puts.{Put, PutWords}
+use Rattle.text.specs.Puts.{Put, PutWords, lay}
 use Rattle.text.proofs.Digits.{length-hexes}
 use Rattle.text.proofs.Decimal.{decimal-one, length-decimal}
 use Rattle.text.proofs.Lay.{length-lay, lay-more}
@@ -51,6 +51,13 @@ pub put-lines : (room : ℕ) {xs out : List ℕ} {n : ℕ} {after : List ℕ} �
 put-lines room {out = out} h few p =
     let q = le-leb room (length out) h in
     record { count = rw q (p .place ∙ zero-add _); bytes = rw q (p .bytes); inside = omega (arith, p .place) }
+
+-- what stands at the front then
+pub laid-front : (room : ℕ) {xs out : List ℕ} {n : ℕ} {o : List ℕ} → room ≤ length out → PutLines room xs out n o → take n o ≡ xs
+unfolding lay
+laid-front room {out = out} h put =
+    let fits = le-leb room (length out) h in
+    rw (rw fits at (put .bytes), rw fits at (put .count)) (take-append-seam _ _)
 
 -- the first `to` words, where there is room for their lines
 pub words-put : {out : List ℕ} {at : ℕ} {ws : List ℕ} {to : ℕ} {r : Laid} {after : List ℕ} → to ≤ length ws → at + 9 * to ≤ length out

@@ -20,7 +20,7 @@ use Rattle.laws.proofs.Fit.{fits-length}
 use Rattle.laws.proofs.Steps.{words-within, step-fits, callable}
 use Rattle.lists.specs.Runs.{Safe}
 use Rattle.events.specs.declared.Answer.{Answer}
-use Rattle.events.specs.Answers.{numberOf, countOf, Reports}
+use Rattle.events.specs.Answers.{numberOf, countOf, visitsOf, Reports}
 use Rattle.laws.proofs.Play.{stood-table, stood-state}
 use Rattle.manager.proofs.Steps.{safe, small-answer}
 use Rattle.session.specs.Printed.{lines, taken, eventLines, most}
@@ -98,16 +98,19 @@ module _ (t s trace : List ℕ) (e : ℕ) (ready : Ready t s trace) where
     reports : Reports (handle t s [] e) trace r s′ trace′
     reports = rw none at lent
 
-    number-is : n ≡ taken t s e .answer
+    pub number-is : n ≡ taken t s e .answer
     number-is = rw taken-is (hn ∙ reports .answer)
 
-    count-is : m ≡ length (taken t s e .words)
+    pub count-is : m ≡ length (taken t s e .words)
     count-is = rw taken-is (hm ∙ reports .count)
 
-    state-is : s′ ≡ taken t s e .state
+    pub visits-is : (v : ℕ) → v ≡ visitsOf r → v ≡ taken t s e .visits
+    visits-is v hv = rw taken-is (hv ∙ reports .visits)
+
+    pub state-is : s′ ≡ taken t s e .state
     state-is = rw taken-is (reports .state)
 
-    words-are : trace′ ≡ tracedBy t s e trace
+    pub words-are : trace′ ≡ tracedBy t s e trace
     words-are = rw taken-is (reports .words)
 
     pub number-small : n < 10

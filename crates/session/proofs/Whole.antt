@@ -31,7 +31,7 @@ use Rattle.session.proofs.Along.{lines-append, state-append, offered-lo
 
 -- the events that are left are those taken and those left then
 module _ (t s trace bytes : List ℕ) (from n : ℕ) (within : n ≤ length (offered t s (length trace) bytes from)) where
-  left-then : drop from (wordsOf bytes) ≡ take n (offered t s (length trace) bytes from) ++ drop (from + n) (wordsOf bytes)
+  pub left-then : drop from (wordsOf bytes) ≡ take n (offered t s (length trace) bytes from) ++ drop (from + n) (wordsOf bytes)
   unfolding offered
   left-then =
       split (eqb (refusedCall t s (length trace)) 0)
@@ -44,7 +44,7 @@ front : {t s trace es out : List ℕ} {r : Taken} {s₁ w₁ o₁ : List ℕ} �
 unfolding lay
 front p = rw (p .lines, p .bytes) (take-append-seam _ _)
 
-drop-none : (n : ℕ) (xs : List ℕ) → length xs ≤ n → drop n xs ≡ []
+pub drop-none : (n : ℕ) (xs : List ℕ) → length xs ≤ n → drop n xs ≡ []
 drop-none zero [] h = refl
 drop-none zero (x ∷ xs) h = absurd (omega arith)
 drop-none (suc n) [] h = refl
@@ -166,7 +166,7 @@ ready-again ready same p = ready-after _ ready same (p .state)
 -- What a caller of many calls keeps: the state is that of the words before the next call's.
 
 module _ (t s trace bytes : List ℕ) (from n : ℕ) (within : n ≤ length (offered t s (length trace) bytes from)) where
-  next-words : take (from + n) (wordsOf bytes) ≡ take from (wordsOf bytes) ++ take n (offered t s (length trace) bytes from)
+  pub next-words : take (from + n) (wordsOf bytes) ≡ take from (wordsOf bytes) ++ take n (offered t s (length trace) bytes from)
   unfolding offered
   next-words =
       split (eqb (refusedCall t s (length trace)) 0)

@@ -105,7 +105,7 @@ fn take_one(
 }
 
 // Whether table, state and room are refused by none of answers 1 to 3.
-fn ready(t: &[u32], s: &[u32], room: usize) -> bool
+pub fn ready(t: &[u32], s: &[u32], room: usize) -> bool
     ensures { λ r. ⌜ r ≡ eqb (refusedCall (now (t .entry)) (now (s .entry)) room) 0 ⌝ }
 {
     let admission = admit(t, s);

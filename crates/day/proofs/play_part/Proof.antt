@@ -27,8 +27,8 @@ lay-trace-requires c κs =
     let played = after-play (after-end-number c) in
     let sized = after-least (played .before) in
     let a = start sized .args in (
-      count-few _ _ (a .trace .now) _ (a .out .now) _ (sized .least .ensures) _ _ _ _ _ (played .play .ensures),
-      lines-fit _ _ (a .trace .now) _ (a .out .now) _ (sized .least .ensures) _ _ _ _ _ (played .play .ensures),
+      count-few _ _ (a .trace .now) _ (a .out .now) _ (sized .least .ensures) _ _ _ _ _ _ (played .play .ensures),
+      lines-fit _ _ (a .trace .now) _ (a .out .now) _ (sized .least .ensures) _ _ _ _ _ _ (played .play .ensures),
     )
 
 returns : tie.Need-returns
@@ -37,7 +37,7 @@ returns c =
     let played = after-play numbered in
     let sized = after-least (played .before) in
     rw (numbered .end-number .ensures)
-    (tells _ _ _ _ _ _ (sized .least .ensures) _ _ _ _ _ (played .play .ensures) _ _ (c .before .before .lay-trace .ensures))
+    (tells _ _ _ _ _ _ (sized .least .ensures) _ _ _ _ _ _ (played .play .ensures) _ _ (c .before .before .lay-trace .ensures))
 
 pub play-part-spec : {M : Type 1} → statement M
 play-part-spec =

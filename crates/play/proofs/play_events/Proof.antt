@@ -8,22 +8,23 @@ use lib.ListN.{length, take}
 use lib.Seq.{length-take-le}
 use borrow.Author.Needs.{needs}
 use borrow.Rule.Slice.PartAt.{part-to-end}
+use Rattle.day.specs.Printed.{in64}
 use Rattle.play.specs.Kept.{Ready, Told}
-use Rattle.play.proofs.Parts.{told-none, all-some, parts-took, parts-whole, parts-within, ready-again, full-took}
+use Rattle.play.proofs.Parts.{told-none, told-as, all-some, parts-took, parts-whole, parts-within, ready-again, full-took}
 use Rattle.play.proofs.play_events.Statement.{statement}
 use Rattle.play.proofs.play_events.Tie as tie
 
 abbrev Inv-loop : tie.InvT-loop
-Inv-loop t s₀ trace₀ es out₀ taken₀ s trace out taken =
+Inv-loop t s₀ trace₀ es out₀ taken₀ visits₀ s trace out taken visits =
     (length s ≡ length s₀)
     × (length trace ≡ length trace₀)
     × (length out ≡ length out₀)
     × (taken ≤ length es)
     × Ready t s trace out
-    × Told t s₀ (take taken es) taken 0 s
+    × Told t s₀ (take taken es) taken visits 0 s
 
 abbrev μ-loop : tie.MeasureT-loop
-μ-loop t s₀ trace₀ es out₀ taken₀ s trace out taken = length es - taken
+μ-loop t s₀ trace₀ es out₀ taken₀ visits₀ s trace out taken visits = length es - taken
 
 -- The places that the answers cite, each seen from a later one.
 abbrev start : tie.After-slice-known3 Inv-loop μ-loop → tie.Start Inv-loop μ-loop
@@ -38,8 +39,11 @@ after-play-part-from-slice-known6 c = c .before .before .before .before .before 
 abbrev after-play-part-from-struct-known : tie.After-struct-known Inv-loop μ-loop → tie.After-play-part Inv-loop μ-loop
 after-play-part-from-struct-known c = after-play-part-from-slice-known6 (c .before)
 
+abbrev after-wrapping-add-u64 : tie.After-print Inv-loop μ-loop → tie.After-wrapping-add-u64 Inv-loop μ-loop
+after-wrapping-add-u64 c = c .before .before
+
 abbrev after-play-part : tie.After-print Inv-loop μ-loop → tie.After-play-part Inv-loop μ-loop
-after-play-part c = after-play-part-from-struct-known (c .before .before)
+after-play-part c = after-play-part-from-struct-known (after-wrapping-add-u64 c .before)
 
 loop-holds : tie.Need-loop-holds Inv-loop μ-loop
 loop-holds c = (refl, refl, refl, omega arith, start c .pre, told-none _ _ (start c .pre .stands))
@@ -55,27 +59,32 @@ module _ (c : tie.After-play-part Inv-loop μ-loop) where
   within : at-loop c .loop .taken + c .play-part .result .taken ≤ length (begun c .args .es .now)
   within =
       let a = begun c .args in let l = at-loop c .loop in
-      parts-within (a .t .now) (a .s .now) (a .es .now) (l .taken) (part-to-end (a .es .now) (l .taken)) (l .inv .5) (c .play-part .ensures)
+      parts-within (a .t .now) (a .s .now) (a .es .now) (l .taken) (l .visits) (part-to-end (a .es .now) (l .taken)) (l .inv .5) (c .play-part .ensures)
       (l .inv .3)
 
   took : Told (begun c .args .t .now) (begun c .args .s .now)
       (take (at-loop c .loop .taken + c .play-part .result .taken) (begun c .args .es .now))
-      (at-loop c .loop .taken + c .play-part .result .taken) 0 (c .play-part .last .1 .0)
+      (at-loop c .loop .taken + c .play-part .result .taken) (in64 (at-loop c .loop .visits + c .play-part .result .visits)) 0 (c .play-part .last .1 .0)
   took =
       let a = begun c .args in let l = at-loop c .loop in
-      parts-took (a .t .now) (a .s .now) (a .es .now) (l .taken) (part-to-end (a .es .now) (l .taken)) (l .inv .5) (c .play-part .ensures)
+      parts-took (a .t .now) (a .s .now) (a .es .now) (l .taken) (l .visits) (part-to-end (a .es .now) (l .taken)) (l .inv .5) (c .play-part .ensures)
       (l .inv .4 .stands)
+
+-- the visits so far and the part's
+summed : (c : tie.After-print Inv-loop μ-loop) → (let p = after-play-part c in
+    after-wrapping-add-u64 c .wrapping-add-u64 .result ≡ in64 (at-loop p .loop .visits + p .play-part .result .visits))
+summed c = after-wrapping-add-u64 c .wrapping-add-u64 .ensures
 
 add-taken : tie.Need-add-taken Inv-loop μ-loop
 add-taken c = omega (arith, within (after-play-part-from-struct-known c), begun (after-play-part-from-struct-known c) .good .1 .1 .1 .0)
 
 slice-reshare-prefix-print : tie.Need-slice-reshare-prefix-print Inv-loop μ-loop
 slice-reshare-prefix-print c =
-    let p = after-play-part-from-struct-known c .play-part in omega (arith, p .ensures .inside, p .kept .1 .1 .1 .1 .0)
+    let p = after-play-part-from-struct-known (c .before) .play-part in omega (arith, p .ensures .inside, p .kept .1 .1 .1 .1 .0)
 
 slice-aggregate-print : tie.Need-slice-aggregate-print Inv-loop μ-loop
 slice-aggregate-print c =
-    let p = after-play-part-from-struct-known (c .before) .play-part in
+    let p = after-play-part-from-struct-known (c .before .before) .play-part in
     sym (length-take-le _ _ (omega (arith, p .ensures .inside, p .kept .1 .1 .1 .1 .0)))
 
 same-length : tie.Need-same-length Inv-loop μ-loop
@@ -92,7 +101,7 @@ returns c =
     let p = after-play-part (c .before) in
     record {
       all = λ ok. absurd (false≢true ok);
-      some = record { count = at-loop p .loop .taken + p .play-part .result .taken; told = took p };
+      some = record { count = at-loop p .loop .taken + p .play-part .result .taken; told = told-as (summed (c .before)) (took p) };
       within = within p;
     }
 
@@ -109,9 +118,10 @@ returns-2 : tie.Need-returns-2 Inv-loop μ-loop
 returns-2 c =
     let p = after-play-part (c .before .before) in
     let a = begun p .args in let l = at-loop p .loop in
-    let all = parts-whole (a .t .now) (a .s .now) (a .es .now) (l .taken) (part-to-end (a .es .now) (l .taken)) (l .inv .5) (p .play-part .ensures)
+    let all = parts-whole (a .t .now) (a .s .now) (a .es .now) (l .taken) (l .visits) (part-to-end (a .es .now) (l .taken)) (l .inv .5) (p .play-part .ensures)
     (c .if2 .taken) in
-    record { all = λ ok. all; some = all-some all; within = within p }
+    let told = told-as (summed (c .before .before)) all in
+    record { all = λ ok. told; some = all-some told; within = within p }
 
 loop-less : tie.Need-loop-less Inv-loop μ-loop
 loop-less c =
@@ -129,7 +139,7 @@ loop-again c =
       k .1 .1 .1 .0 ∙ i .2,
       within p,
       ready-again _ (i .4) (p .play-part .ensures) (k .1 .0) (k .1 .1 .1 .0),
-      took p,
+      told-as (summed (c .before .before)) (took p),
     )
 
 pub play-events-spec : {M : Type 1} → statement M
@@ -145,6 +155,7 @@ play-events-spec =
     (λ c. search needs)
     (λ c κs. search needs)
     add-taken
+    (λ c κs. search needs)
     slice-reshare-prefix-print
     slice-aggregate-print
     (λ c κs. search needs)

@@ -1,0 +1,2 @@
+-- What the program's functions promise of the state and of the largest counts.
+pub mod Kept
