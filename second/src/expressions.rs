@@ -44,6 +44,26 @@ pub fn evaluate(table: &Table, number: usize, value: &dyn Fn(usize) -> u32) -> b
     }
 }
 
+/// Request Q-10: how many expression words an evaluation visits where the ports have these values,
+/// "counted left before right with the skipping of Q-3", each visit again. A count of its own
+/// beside what the expression gives, for that is evaluated without skipping.
+pub fn visits(table: &Table, number: usize, value: &dyn Fn(usize) -> u32) -> u64 {
+    let Expression::Operator(operator) = table.expression(number) else {
+        return 1;
+    };
+    let argument = |number: u32| visits(table, number as usize, value);
+    let left = evaluate(table, operator.left as usize, value);
+    // "Once the left side settles an AND, OR or NAND, skip the right side."
+    let reads_right = match operator.kind {
+        expression::AND | expression::NAND => left,
+        expression::OR => !left,
+        expression::XOR => true,
+        // NOT's right is a zero field, no argument.
+        _ => false,
+    };
+    1 + argument(operator.left) + if reads_right { argument(operator.right) } else { 0 }
+}
+
 fn holds(condition: Condition, value: u32) -> bool {
     match condition.kind {
         expression::EQUAL => value == condition.value,

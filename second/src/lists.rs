@@ -2,7 +2,7 @@
 
 use std::cmp::Reverse;
 
-use crate::expressions::{evaluate, mentions};
+use crate::expressions::{evaluate, mentions, visits};
 use crate::state::State;
 use crate::words::*;
 
@@ -10,13 +10,14 @@ use crate::words::*;
 #[derive(Debug)]
 pub struct EighthLevel;
 
-/// An event being taken: the state as it changes, the trace as it grows, and the outcomes that are
-/// still to be read.
+/// An event being taken: the state as it changes, the trace as it grows, the outcomes that are
+/// still to be read, and the expression words visited so far.
 pub struct Run<'a> {
     pub table: &'a Table<'a>,
     pub state: State<'a>,
     pub trace: Vec<u32>,
     pub outcomes: &'a [u32],
+    pub visits: u64,
 }
 
 impl Run<'_> {
@@ -40,13 +41,19 @@ impl Run<'_> {
         chosen.into_iter().try_for_each(|list| self.run_list(list, LEVELS))
     }
 
-    /// What a rule gives by the current values; None where it mentions an undefined port.
-    fn result(&self, rule: Rule) -> Option<bool> {
+    /// What a rule gives by the current values; None where it mentions an undefined port. Only
+    /// evaluations visit words, each time again: the tests for ports that are mentioned do not.
+    fn result(&mut self, rule: Rule) -> Option<bool> {
         let expression = rule.expression as usize;
         let undefined = |port: usize| self.state.port(port).defined == 0;
-        let stands = !mentions(self.table, expression, &undefined);
+        if mentions(self.table, expression, &undefined) {
+            return None;
+        }
         let value = |port: usize| self.state.port(port).value;
-        stands.then(|| evaluate(self.table, expression, &value))
+        let (visited, result) =
+            (visits(self.table, expression, &value), evaluate(self.table, expression, &value));
+        self.visits += visited;
+        Some(result)
     }
 
     /// Stores a rule's result and gives the list it starts: the one for that

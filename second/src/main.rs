@@ -1,4 +1,5 @@
-//! `run TABLE EVENTS [OUTCOMES]`, `play TABLE EVENTS`, `test`, `emit SEED COUNT` and `answer`.
+//! `run TABLE EVENTS [OUTCOMES]`, `play TABLE EVENTS`, `cost TABLE EVENTS`, `test`, `emit SEED
+//! COUNT` and `answer`.
 
 use std::io::{self, BufWriter, Write};
 use std::process::ExitCode;
@@ -6,8 +7,8 @@ use std::process::ExitCode;
 use second::cases::Cases;
 use second::{program, stream, testing};
 
-const USAGE: &str = "usage: second run TABLE EVENTS [OUTCOMES] | play TABLE EVENTS | test | \
-                     emit SEED COUNT | answer < CASES";
+const USAGE: &str = "usage: second run TABLE EVENTS [OUTCOMES] | play TABLE EVENTS | \
+                     cost TABLE EVENTS | test | emit SEED COUNT | answer < CASES";
 
 fn main() -> ExitCode {
     let args: Vec<String> = std::env::args().skip(1).collect();
@@ -17,6 +18,9 @@ fn main() -> ExitCode {
         ["run", table, events, outcomes] => run(table, events, Some(outcomes)),
         ["play", table, events] => {
             program::play_files(&mut BufWriter::new(io::stdout().lock()), table, events)
+        }
+        ["cost", table, events] => {
+            program::cost_files(&mut BufWriter::new(io::stdout().lock()), table, events)
         }
         ["test"] if testing::test() => Ok(()),
         ["test"] => return ExitCode::FAILURE,

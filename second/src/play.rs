@@ -15,6 +15,8 @@ pub struct Played {
     pub taken: usize,
     /// How many trace words they wrote together.
     pub count: usize,
+    /// How many expression words they visited together: request Q-10.
+    pub visits: u64,
     /// 0 after the last event, or what the play stopped by.
     pub answer: u32,
 }
@@ -23,11 +25,12 @@ pub struct Played {
 /// events, the day is played on copies, of which only what was taken is handed over.
 pub fn play(table: &[u32], state: &mut [u32], trace: &mut [u32], events: &[u32]) -> Played {
     match day(table, state, trace.len(), events) {
-        Err(answer) => Played { taken: 0, count: 0, answer },
+        Err(answer) => Played { taken: 0, count: 0, visits: 0, answer },
         Ok(day) => {
             state.copy_from_slice(&day.state);
             trace[..day.trace.len()].copy_from_slice(&day.trace);
-            Played { taken: day.taken, count: day.trace.len(), answer: day.answer }
+            let Day { taken, visits, answer, .. } = day;
+            Played { taken, count: day.trace.len(), visits, answer }
         }
     }
 }
@@ -37,6 +40,7 @@ struct Day {
     state: Vec<u32>,
     trace: Vec<u32>,
     taken: usize,
+    visits: u64,
     answer: u32,
 }
 
@@ -45,7 +49,7 @@ fn day(table: &[u32], state: &[u32], room: usize, events: &[u32]) -> Result<Day,
     let (table, b) = accept(table).map_err(|_| 1u32)?;
     let state = State::of(&table, state).filter(State::fits).ok_or(2u32)?;
     // "In play all calls are good."
-    let mut run = Run { table: &table, state, trace: vec![], outcomes: &[] };
+    let mut run = Run { table: &table, state, trace: vec![], outcomes: &[], visits: 0 };
     let (mut taken, mut answer) = (0, 0);
     for &event in events {
         // The room is asked for before the event's word is looked at, and only for an event.
@@ -56,22 +60,24 @@ fn day(table: &[u32], state: &[u32], room: usize, events: &[u32]) -> Result<Day,
         }
         taken += 1;
     }
-    Ok(Day { state: run.state.words, trace: run.trace, taken, answer })
+    let Run { state, trace, visits, .. } = run;
+    Ok(Day { state: state.words, trace, taken, visits, answer })
 }
 
 /// Takes an event, its words behind those of the events before: 0; or the number of its refusal,
 /// and then nothing has changed.
-fn take(run: &mut Run, event: Event) -> u32 {
+pub fn take(run: &mut Run, event: Event) -> u32 {
     let refused = refusal(run.table, event, &[]);
     if refused != 0 {
         return refused;
     }
-    let (state, written) = (run.state.words.clone(), run.trace.len());
+    let (state, written, visits) = (run.state.words.clone(), run.trace.len(), run.visits);
     match run.take(event) {
         Ok(()) => 0,
         Err(_) => {
             run.state.words = state;
             run.trace.truncate(written);
+            run.visits = visits;
             7
         }
     }

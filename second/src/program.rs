@@ -4,10 +4,11 @@ use std::fmt::Write as _;
 use std::io::{self, Write};
 
 use crate::check::accept;
-use crate::play::{TRACE_FULL, play};
-use crate::state::{fresh, start, state_length};
+use crate::lists::Run;
+use crate::play::{TRACE_FULL, play, take};
+use crate::state::{State, fresh, start, state_length};
 use crate::step::step;
-use crate::words::{Section, Table};
+use crate::words::{Event, Section, Table};
 
 /// The whole words of a file, high byte first; bytes past the last are ignored.
 pub fn words(bytes: &[u8]) -> Vec<u32> {
@@ -91,7 +92,7 @@ pub fn write_played(
     let mut state = vec![0; state_length(&shape)];
     fresh(&table, &mut state);
     let mut trace = vec![0; b + spare];
-    let (mut taken, mut answer) = (0, TRACE_FULL);
+    let (mut taken, mut visits, mut answer) = (0, 0, TRACE_FULL);
     // it "can be resumed from that event".
     while answer == TRACE_FULL {
         let played = play(&table, &mut state, &mut trace, &events[taken..]);
@@ -100,10 +101,11 @@ pub fn write_played(
         }
         assert!(played.taken > 0 || played.answer != TRACE_FULL, "the day would never end");
         taken += played.taken;
+        visits += played.visits;
         answer = played.answer;
     }
     write_state(out, &shape, &state)?;
-    writeln!(out, "taken {taken}\nanswer {answer}")
+    writeln!(out, "taken {taken}\nvisits {visits}\nanswer {answer}")
 }
 
 /// A state's words, each with its section's name and its number there.
@@ -121,6 +123,72 @@ fn write_state(out: &mut impl Write, table: &Table, state: &[u32]) -> io::Result
         }
     }
     Ok(())
+}
+
+/// The most words that one evaluation visits: those of a whole tree of seven levels.
+pub const WHOLE_TREE: u64 = 127;
+
+/// The largest number so far, with the first event that has it.
+#[derive(Default)]
+struct Most(Option<(u64, usize)>);
+
+impl Most {
+    fn meet(&mut self, number: u64, event: usize) {
+        if self.0.is_none_or(|(most, _)| number > most) {
+            self.0 = Some((number, event));
+        }
+    }
+
+    fn write(&self, out: &mut impl Write, what: &str, bound: u64) -> io::Result<()> {
+        match self.0 {
+            Some((most, event)) => writeln!(out, "most {what} {most} event {event} bound {bound}"),
+            None => writeln!(out, "most {what} 0 event none bound {bound}"),
+        }
+    }
+}
+
+/// Prints what each event costs, request Q-10, as it goes: from a fresh state, with B trace words
+/// and no outcomes lent. The table is checked once, as in a play; but a refused event, which
+/// changes nothing, is followed by the next as in `run`.
+pub fn write_cost(out: &mut impl Write, table: &[u8], events: &[u8]) -> io::Result<()> {
+    let (table, events) = (words(table), words(events));
+    let (shape, b) = match accept(&table) {
+        Ok(accepted) => accepted,
+        Err((reason, place)) => return write!(out, "{reason}\n{place}\n"),
+    };
+    let mut first = vec![0; state_length(&shape)];
+    fresh(&table, &mut first);
+    let state = State::of(&shape, &first).expect("a fresh state has its length");
+    let mut run = Run { table: &shape, state, trace: vec![], outcomes: &[], visits: 0 };
+    let (mut most_trace, mut most_visits) = (Most::default(), Most::default());
+    for (number, event) in events.into_iter().enumerate() {
+        run.trace.clear();
+        run.visits = 0;
+        let answer = take(&mut run, Event::of(event));
+        let (trace, visits) = (run.trace.len() as u64, run.visits);
+        writeln!(out, "event {number} answer {answer} trace {trace} visits {visits}")?;
+        most_trace.meet(trace, number);
+        most_visits.meet(visits, number);
+    }
+    let evaluations = (shape.count(Section::Rules) + b) as u64;
+    most_trace.write(out, "trace", b as u64)?;
+    // "at most 127 times the sum of R and B".
+    most_visits.write(out, "visits", WHOLE_TREE * evaluations)
+}
+
+/// What is printed of the events' cost, for the two files' bytes.
+pub fn cost(table: &[u8], events: &[u8]) -> String {
+    let mut lines = vec![];
+    write_cost(&mut lines, table, events).expect("memory takes it");
+    String::from_utf8(lines).expect("letters, digits and spaces")
+}
+
+/// Prints the events' cost of two files.
+pub fn cost_files(out: &mut impl Write, table: &str, events: &str) -> Result<(), String> {
+    let (table, events) = (read(table)?, read(events)?);
+    write_cost(out, &table, &events)
+        .and_then(|()| out.flush())
+        .map_err(|why| format!("cannot print: {why}"))
 }
 
 /// Prints the day of two files.

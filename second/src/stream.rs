@@ -47,7 +47,7 @@ pub fn result_words(case: &Case) -> Vec<u32> {
     for (number, &event) in case.events.iter().enumerate() {
         let mut trace = vec![TRACE_FILL; case.room];
         let stepped = step(&case.table, &mut state, &mut trace, event, case.lent(number));
-        words.extend([stepped.answer, stepped.count as u32]);
+        words.extend([stepped.answer, stepped.count as u32, one_word(stepped.visits)]);
         words.extend(&state);
         words.extend(&trace);
     }
@@ -63,11 +63,18 @@ fn play_words(case: &Case) -> Vec<u32> {
     for room in rooms {
         let (mut state, mut trace) = (case.state.clone(), vec![TRACE_FILL; room]);
         let played = play(&case.table, &mut state, &mut trace, first_events(case));
-        words.extend([room as u32, played.taken as u32, played.count as u32, played.answer]);
+        let (taken, count) = (played.taken as u32, played.count as u32);
+        words.extend([room as u32, taken, count, one_word(played.visits), played.answer]);
         words.extend(state);
         words.extend(trace);
     }
     words
+}
+
+/// The visits of an event or of a play in one word: an event visits at most 552,704 words, and a
+/// play here is of twelve events at most.
+fn one_word(visits: u64) -> u32 {
+    u32::try_from(visits).expect("twelve events visit fewer")
 }
 
 fn first_events(case: &Case) -> &[u32] {

@@ -383,15 +383,22 @@ impl<'a> Table<'a> {
 
     /// Every word past the header in the order of its place, with the number
     /// of the thing it belongs to.
-    pub fn words(&self) -> impl Iterator<Item = (usize, Word)> + '_ {
-        SECTIONS.into_iter().flat_map(move |section| {
-            (0..self.count(section)).flat_map(move |number| self.words_of(section, number))
-        })
+    pub fn words(&self) -> impl Iterator<Item = (usize, Word)> + use<> {
+        // Every call checks its table anew, so this is where most time goes.
+        let mut words = Vec::with_capacity(self.stated_length());
+        for section in SECTIONS {
+            for number in 0..self.count(section) {
+                words.push((number, self.first_word(section, number)));
+                if section == Section::Networks {
+                    words.push((number, Word::Waits(self.waits(number))));
+                }
+            }
+        }
+        words.into_iter()
     }
 
-    fn words_of(&self, section: Section, number: usize) -> impl Iterator<Item = (usize, Word)> {
-        let second = (section == Section::Networks).then(|| Word::Waits(self.waits(number)));
-        let first = match section {
+    fn first_word(&self, section: Section, number: usize) -> Word {
+        match section {
             Section::Ports => Word::Port(self.port(number)),
             Section::Networks => Word::Network(self.network(number)),
             Section::Sources => Word::Source(self.source(number)),
@@ -399,7 +406,6 @@ impl<'a> Table<'a> {
             Section::Rules => Word::Rule(self.rule(number)),
             Section::Lists => Word::List(self.list(number)),
             Section::Items => Word::Item(self.item(number)),
-        };
-        std::iter::once(first).chain(second).map(move |word| (number, word))
+        }
     }
 }

@@ -14,6 +14,7 @@ pub mod sequences;
 pub mod states;
 pub mod tables;
 pub mod unreached;
+pub mod visited;
 pub mod ways;
 pub mod wide;
 
@@ -30,6 +31,7 @@ use sequences::sequence;
 use states::{MISFITS, Misfit, fit_state, fresh_state, unfit_state};
 use tables::{PADDING, Plan, fill_items, fill_rules, grow, pad};
 use unreached::{unreached, unreached_and_more, unreached_of_many, unreached_ring};
+use visited::visiting;
 use ways::with_ways;
 use wide::widen;
 
@@ -96,6 +98,7 @@ enum Shape {
     Levels,
     Heard,
     Failing,
+    Visited,
     Reached,
     Unreached,
     SevenDeep,
@@ -112,15 +115,15 @@ enum Shape {
 }
 
 /// The shapes come round in this order, so that every seed meets all of them.
-const ROUND: [Shape; 54] = {
+const ROUND: [Shape; 56] = {
     use Shape::*;
     [
         Small, Rich, Refused, Cleared, AnyState, Unfit, Heard, Failing, Refused, SevenDeep, Wide,
-        Small, Levels, Rich, TwoFaults, Small, BitsFlipped, Refused, Heard, AnyState, Unfit, Rich,
-        Failing, Wide, EightDeep, Unreached, Small, NamesTurned, Dearest, Cleared, Raw, Levels,
-        Rich, Refused, Unfit, Heard, Failing, Reached, Wide, AnyState, Hostile, Cleared, Refused,
-        Limits, Rich, Small, Brimful, NamesTurned, Unreached, Unfit, AnyState, Wide, Failing,
-        Levels,
+        Visited, Small, Levels, Rich, TwoFaults, Small, BitsFlipped, Refused, Heard, AnyState,
+        Unfit, Rich, Failing, Wide, EightDeep, Unreached, Small, NamesTurned, Dearest, Cleared,
+        Raw, Levels, Rich, Refused, Unfit, Heard, Failing, Reached, Wide, AnyState, Hostile,
+        Cleared, Refused, Limits, Rich, Small, Brimful, NamesTurned, Unreached, Unfit, AnyState,
+        Wide, Failing, Levels, Visited,
     ]
 };
 
@@ -158,6 +161,7 @@ fn make(rng: &mut Prng, shape: Shape, round: usize) -> Made {
         Shape::Levels => small_or_alone(rng, leveling),
         Shape::Heard => small_or_alone(rng, hearing),
         Shape::Failing => failed(rng),
+        Shape::Visited => visited(rng),
         Shape::Reached => reached(rng),
         Shape::Unreached => refused_case(rng, not_reached),
         Shape::SevenDeep => seven_deep(rng),
@@ -352,6 +356,14 @@ fn failed(rng: &mut Prng) -> Made {
         base.items.iter_mut().for_each(|item| item.abort = 0);
     }
     let (draft, events) = failing(rng, base);
+    let lending = Lending::often(rng);
+    from_mostly_fresh(rng, &draft, events, lending)
+}
+
+/// Wide expressions in rules and rule items, at times with calls that abort between them.
+fn visited(rng: &mut Prng) -> Made {
+    let base = small_or_empty(rng);
+    let (draft, events) = visiting(rng, base);
     let lending = Lending::often(rng);
     from_mostly_fresh(rng, &draft, events, lending)
 }

@@ -14,7 +14,7 @@ pub struct Choices<'a> {
     mentions: &'a [Ports],
     entry: &'a Entry,
     /// The ports' words when the rules were evaluated: no list had run yet.
-    read: Vec<u32>,
+    pub read: Vec<u32>,
     pub arbitrated: Ports,
     undefined: Ports,
 }

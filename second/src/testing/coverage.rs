@@ -6,6 +6,7 @@ use std::fmt;
 
 use super::failing_rows::{self, Failing};
 use super::heard::{self, Heard};
+use super::visits_rows::{self, Visits};
 use super::{names, play_rows, played};
 use crate::cases::refused::{COST_4097, DEPTH_8_EXPRESSION, DEPTH_8_LIST, RING};
 use crate::cases::states::{MISFITS, Misfit};
@@ -21,6 +22,7 @@ pub enum Row {
     Evaluated(u32),
     Settled(u32),
     NotSettled(u32),
+    Visits(Visits),
     /// The event's value before; whether its port is deferred.
     Clear(u32, u32),
     /// Whether the cleared event's port is deferred.
@@ -193,7 +195,7 @@ pub const EVENTS: [&str; 8] = [
 ];
 pub const ITEMS: [&str; 7] =
     ["outside call", "clear event", "start timer", "stop timer", "network request", "list", "rule"];
-const EXPRESSIONS: [&str; 10] =
+pub const EXPRESSIONS: [&str; 10] =
     ["equal", "not equal", "set", "cleared", "AND", "OR", "XOR", "NAND", "NOT", "at or above"];
 const ARGUMENTS: [&str; 2] = ["left", "right"];
 const EVENT_VALUES: [&str; 2] = ["clear", "set"];
@@ -224,6 +226,7 @@ impl fmt::Display for Row {
             Row::Evaluated(kind) => format!("evaluated: {}", EXPRESSIONS[kind as usize]),
             Row::Settled(kind) => format!("settled by left: {}", EXPRESSIONS[kind as usize]),
             Row::NotSettled(kind) => format!("not settled by left: {}", EXPRESSIONS[kind as usize]),
+            Row::Visits(visits) => visits.to_string(),
             Row::Clear(value, deferred) => {
                 let (event, port) = (EVENT_VALUES[value as usize], PORTS[deferred as usize]);
                 format!("clear marks: {event} event, {port} port")
@@ -284,6 +287,7 @@ impl Coverage {
             .chain((expression::EQUAL..=expression::AT_OR_ABOVE).map(Row::Evaluated))
             .chain(settling.map(Row::Settled))
             .chain(settling.map(Row::NotSettled))
+            .chain(visits_rows::rows().map(Row::Visits))
             .chain([(0, 0), (0, 1), (1, 0), (1, 1)].map(|(value, port)| Row::Clear(value, port)))
             .chain((0..=1).map(Row::ChosenByClear))
             .chain(levels.map(Row::Level))
@@ -301,6 +305,7 @@ impl Coverage {
             .chain(names::ROWS.map(Row::Special))
             .chain(heard::ROWS.map(Row::Special))
             .chain(failing_rows::ROWS.map(Row::Special))
+            .chain(visits_rows::ROWS.map(Row::Special))
             .chain(play_rows::ROWS.map(Row::Special))
             .chain(played::ROWS.map(Row::Special));
         Coverage(rows.map(|row| (row, 0)).collect())
@@ -312,6 +317,13 @@ impl Coverage {
             *self.0.get_mut(row).ok_or(*row)? += 1;
         }
         Ok(())
+    }
+
+    /// Counts what other cases met besides.
+    pub fn add(&mut self, other: &Coverage) {
+        for (row, cases) in &other.0 {
+            *self.0.entry(*row).or_default() += cases;
+        }
     }
 
     pub fn missing(&self) -> Vec<Row> {

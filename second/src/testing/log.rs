@@ -16,6 +16,8 @@ pub struct Entry {
     pub after: Vec<u32>,
     /// The trace words that the count covers.
     pub trace: Vec<u32>,
+    /// The expression words visited.
+    pub visits: u64,
 }
 
 impl Entry {
@@ -46,7 +48,8 @@ pub fn run(case: &Case) -> Vec<Entry> {
         let untouched = trace[written..].iter().all(|&word| word == TRACE_FILL);
         let answer = if untouched { stepped.answer } else { u32::MAX };
         trace.truncate(written);
-        Entry { event: Event::of(event), outcomes, answer, before, after: state.clone(), trace }
+        let (event, after, visits) = (Event::of(event), state.clone(), stepped.visits);
+        Entry { event, outcomes, answer, before, after, trace, visits }
     };
     case.events.iter().enumerate().map(one).collect()
 }

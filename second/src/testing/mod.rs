@@ -2,6 +2,7 @@
 
 mod choices;
 mod clears;
+mod cost;
 pub mod coverage;
 mod demand3;
 mod failing;
@@ -20,6 +21,8 @@ mod reach;
 mod recorded;
 mod skipping;
 mod traces;
+mod visits;
+mod visits_rows;
 mod walk;
 
 use std::panic::catch_unwind;
@@ -29,7 +32,7 @@ use coverage::Coverage;
 
 /// Each seed's first cases are run.
 const SEEDS: [u64; 4] = [1, 2026, 0xC0FFEE, 0x5EED_5EED_5EED_5EED];
-const CASES_EACH: usize = 5400;
+const CASES_EACH: usize = 5600;
 
 #[derive(Default)]
 struct Tally {
@@ -60,9 +63,15 @@ pub fn test() -> bool {
     }
     let fixed = tally.passed + tally.failed;
     let mut coverage = Coverage::new();
-    for seed in SEEDS {
-        for (number, made) in Cases::new(seed).take(CASES_EACH).enumerate() {
-            tally.note(&format!("case {number} of seed {seed}"), generated(&made, &mut coverage));
+    // Two seeds at a time, for the machine has two cores.
+    for seeds in SEEDS.chunks(2) {
+        let ran: Vec<_> = std::thread::scope(|scope| {
+            let threads: Vec<_> = seeds.iter().map(|&s| scope.spawn(move || run_seed(s))).collect();
+            threads.into_iter().map(|thread| thread.join().expect("panics are caught")).collect()
+        });
+        for (outcomes, met) in ran {
+            outcomes.into_iter().for_each(|(name, outcome)| tally.note(&name, outcome));
+            coverage.add(&met);
         }
     }
     let generated = tally.passed + tally.failed - fixed;
@@ -74,6 +83,16 @@ pub fn test() -> bool {
     println!("{fixed} fixed cases, {generated} generated cases");
     println!("{} passed, {} failed", tally.passed, tally.failed);
     tally.failed == 0
+}
+
+/// A seed's first cases, each with its name, and what they met.
+fn run_seed(seed: u64) -> (Vec<(String, Result<(), String>)>, Coverage) {
+    let mut coverage = Coverage::new();
+    let run = |(number, made): (usize, Made)| {
+        (format!("case {number} of seed {seed}"), generated(&made, &mut coverage))
+    };
+    let outcomes = Cases::new(seed).take(CASES_EACH).enumerate().map(run).collect();
+    (outcomes, coverage)
 }
 
 /// A fixed case that was run: whether it held, and what it asked of the rules.

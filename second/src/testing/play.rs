@@ -6,6 +6,7 @@ use super::coverage::{Met, Row};
 use super::demand3::{Side, sides};
 use super::log::{Entry, hold, run};
 use super::play_rows::{self as rows, Seen, meet_refused};
+use super::visits_rows::{PLAY_FULL, PLAY_REFUSED, PLAY_SILENT, special};
 use crate::cases::Case;
 use crate::cases::draft::Draft;
 use crate::play::Played;
@@ -20,6 +21,8 @@ const SINGLE: usize = 8;
 const TIGHT: usize = 16;
 /// "Trace full".
 const FULL: u32 = 3;
+/// A play that took nothing.
+const NOTHING: Played = Played { taken: 0, count: 0, visits: 0, answer: 0 };
 
 /// Tries plays of every kind on a case, whose events `log` has one by one. Q-9: "In play all calls
 /// are good", so the case lends no outcomes.
@@ -41,7 +44,7 @@ fn try_refused(case: &Case, answer: u32, met: &mut Met) -> Result<(), String> {
             let (mut state, mut trace) = (case.state.clone(), vec![TRACE_FILL; room]);
             let played = play(&case.table, &mut state, &mut trace, events);
             let unchanged = state == case.state && trace == vec![TRACE_FILL; room];
-            hold(played == Played { taken: 0, count: 0, answer } && unchanged, || {
+            hold(played == Played { answer, ..NOTHING } && unchanged, || {
                 format!("{played:?} where {answer} was due")
             })?;
         }
@@ -97,6 +100,8 @@ struct Told {
     answer: u32,
     /// The trace words of the events taken.
     words: Vec<u32>,
+    /// The sum of their visits.
+    visits: u64,
 }
 
 /// A play, or several in a row, with every word lent.
@@ -115,7 +120,7 @@ impl Singles<'_> {
     /// What single calls give where each is lent what is free of so many words: answer 3 comes
     /// where that is less than B, before the event's own answer.
     fn told(&self, events: Range<usize>, room: usize) -> Told {
-        let mut told = Told { taken: 0, answer: 0, words: vec![] };
+        let mut told = Told { taken: 0, answer: 0, words: vec![], visits: 0 };
         for entry in &self.log[events] {
             let full = room < told.words.len() + self.b;
             told.answer = if full { FULL } else { entry.answer };
@@ -124,6 +129,7 @@ impl Singles<'_> {
             }
             told.taken += 1;
             told.words.extend(&entry.trace);
+            told.visits += entry.visits;
         }
         told
     }
@@ -141,8 +147,7 @@ impl Singles<'_> {
     }
 
     fn lend(&self, at: usize, room: usize) -> Lent {
-        let played = Played { taken: 0, count: 0, answer: 0 };
-        Lent { state: self.state(at).to_vec(), trace: vec![TRACE_FILL; room], played }
+        Lent { state: self.state(at).to_vec(), trace: vec![TRACE_FILL; room], played: NOTHING }
     }
 
     /// Plays events with what is free of the trace, behind what was played before.
@@ -152,6 +157,7 @@ impl Singles<'_> {
         let next = play(&self.case.table, state, free, &self.case.events[events]);
         played.taken += next.taken;
         played.count += next.count;
+        played.visits += next.visits;
         played.answer = next.answer;
     }
 
@@ -159,7 +165,7 @@ impl Singles<'_> {
     fn held(&self, from: usize, lent: &Lent, told: &Told) -> Result<(), String> {
         let Lent { state, trace, played } = lent;
         let (taken, answer, count) = (told.taken, told.answer, told.words.len());
-        let due = Played { taken, count, answer };
+        let due = Played { taken, count, visits: told.visits, answer };
         hold(*played == due, || format!("{played:?} of {} words, not {due:?}", trace.len()))?;
         hold(state == self.state(from + taken), || format!("state {state:X?} after {due:?}"))?;
         hold(trace[..count] == told.words, || format!("trace {:X?}", &trace[..count]))?;
@@ -173,7 +179,15 @@ impl Singles<'_> {
         self.play_on(&mut lent, events.clone());
         self.held(events.start, &lent, &told)
             .map_err(|what| format!("play of {events:?}: {what}"))?;
-        let Told { taken, answer, .. } = told;
+        let Told { taken, answer, visits, .. } = told;
+        special(
+            met,
+            &[
+                (visits > 0 && answer == FULL, PLAY_FULL),
+                (visits > 0 && answer > FULL, PLAY_REFUSED),
+                (visits > 0 && answer == 0 && told.words.is_empty(), PLAY_SILENT),
+            ],
+        );
         Seen { log: &self.log[events], b: self.b, room, taken, answer }.meet(met);
         Ok(told)
     }
@@ -210,6 +224,7 @@ impl Singles<'_> {
             }
             played.taken += 1;
             played.count += stepped.count;
+            played.visits += stepped.visits;
         }
         let told = self.told(0..first, room);
         self.held(0, &lent, &told).map_err(|what| format!("single calls: {what}"))

@@ -16,7 +16,7 @@ const SECTIONS: &str = "day printed: two words or more in each section";
 
 pub const ROWS: [&str; 6] = [REASON, ENDED, REFUSED, SILENT, SEVERAL, SECTIONS];
 
-fn bytes(words: &[u32]) -> Vec<u8> {
+pub fn bytes(words: &[u32]) -> Vec<u8> {
     words.iter().flat_map(|word| word.to_be_bytes()).collect()
 }
 
@@ -65,7 +65,8 @@ fn due(case: &Case, draft: &Draft, log: &[Entry]) -> String {
     let trace = taken.iter().flat_map(|entry| &entry.trace);
     let trace = trace.map(|word| format!("trace {word:08X}\n"));
     let words = labels(draft).zip(state).map(|(label, word)| format!("{label} {word:08X}\n"));
-    let end = format!("taken {}\nanswer {answer}\n", taken.len());
+    let visits: u64 = taken.iter().map(|entry| entry.visits).sum();
+    let end = format!("taken {}\nvisits {visits}\nanswer {answer}\n", taken.len());
     trace.chain(words).chain([end]).collect()
 }
 

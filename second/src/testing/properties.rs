@@ -8,8 +8,9 @@ use super::levels::{self, Levels};
 use super::log::{Entry, hold, run};
 use super::skipping::Skipping;
 use super::traces::evaluated;
+use super::visits::{Visited, try_refusals};
 use super::walk::{By, Walk};
-use super::{demand3, failing, play, played, ports, reach};
+use super::{cost, demand3, failing, play, played, ports, reach};
 use crate::cases::draft::{Depth, Draft, SEVEN};
 use crate::cases::states::fresh_state;
 use crate::cases::{Case, Known, Made};
@@ -43,6 +44,7 @@ pub fn try_case(made: &Made) -> Result<Met, String> {
         met.insert(Row::Answer(entry.answer));
     }
     failing::try_answers(case, checked, &log, &mut met)?;
+    try_refusals(&log, &mut met)?;
     levels::meet_refused(&case.table, checked, &mut met)?;
     reach::try_reach(&case.table, checked, &mut met)?;
     let (good, calls_good) = with_good_calls(case, &log);
@@ -53,6 +55,7 @@ pub fn try_case(made: &Made) -> Result<Met, String> {
         try_days(made, &good, checked.b, &calls_good, &mut met)?;
     } else {
         played::try_reason(case, checked, &mut met)?;
+        cost::try_reason(case, checked)?;
     }
     Ok(met)
 }
@@ -78,6 +81,7 @@ fn try_days(
     }
     let draft = read(&good.table);
     play::try_struck_out(good, &draft, b, log, met)?;
+    cost::try_cost(good, draft.rules.len(), b, log)?;
     played::try_day(good, &draft, log, met)
 }
 
@@ -191,7 +195,9 @@ fn try_log(
         failing::meet(draft, entry, &walk, met);
         meet(draft, entry, &walk, b, met);
         levels.meet(entry, met);
+        let visited = Visited { draft, mentions, entry, walk: &walk };
         let tried = reach::try_started(draft, entry)
+            .and_then(|()| visited.try_visits(&choices, b, met))
             .and_then(|()| skipping.meet(entry, met))
             .and_then(|()| clears.follow(entry, &choices, met))
             .and_then(|()| heards.follow(entry, met));

@@ -96,6 +96,11 @@ pub fn played(table: &[u8], events: &[u8]) -> String {
     program::played(table, events)
 }
 
+pub fn cost(table: &[u8], events: &[u8]) -> String {
+    note_files(table, events, vec![]);
+    program::cost(table, events)
+}
+
 pub fn result_words(case: &Case) -> Vec<u32> {
     note_case(case.clone());
     stream::result_words(case)

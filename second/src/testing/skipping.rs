@@ -14,6 +14,27 @@ pub fn gives(draft: &Draft, state: &[u32], expression: u32) -> bool {
     Reading::of(draft, state, expression as usize).0
 }
 
+/// What reading an expression was like, where the ports are as in a state.
+pub struct Read {
+    pub gives: bool,
+    /// How many words it visited.
+    pub visits: u64,
+    /// The operators whose skipped side had operators.
+    pub skipped: Vec<u32>,
+    /// Whether it visited an expression twice.
+    pub shared: bool,
+    /// How many levels down it came.
+    pub depth: u32,
+}
+
+pub fn read(draft: &Draft, state: &[u32], expression: u32) -> Read {
+    let (gives, reading) = Reading::of(draft, state, expression as usize);
+    let Reading { visits, skipped, mut met, depth, .. } = reading;
+    met.sort();
+    let shared = met.windows(2).any(|two| two[0] == two[1]);
+    Read { gives, visits, skipped, shared, depth }
+}
+
 /// One reading of an expression where the ports are as in a state.
 struct Reading<'a> {
     draft: &'a Draft,
@@ -22,16 +43,44 @@ struct Reading<'a> {
     read: Ports,
     /// How its operators of the three kinds were settled.
     rows: Vec<Row>,
+    /// How many words it came to, each time again, and which.
+    visits: u64,
+    met: Vec<u32>,
+    /// The operators whose skipped side has operators.
+    skipped: Vec<u32>,
+    /// How deep it stands now, and how deep it came.
+    level: u32,
+    depth: u32,
 }
 
 impl<'a> Reading<'a> {
     fn of(draft: &'a Draft, state: &'a [u32], expression: usize) -> (bool, Self) {
-        let mut reading = Reading { draft, state, read: 0, rows: vec![] };
+        let mut reading = Reading {
+            draft,
+            state,
+            read: 0,
+            rows: vec![],
+            visits: 0,
+            met: vec![],
+            skipped: vec![],
+            level: 0,
+            depth: 0,
+        };
         let gives = reading.gives(expression as u32);
         (gives, reading)
     }
 
     fn gives(&mut self, number: u32) -> bool {
+        self.visits += 1;
+        self.met.push(number);
+        self.level += 1;
+        self.depth = self.depth.max(self.level);
+        let gives = self.comes_to(number);
+        self.level -= 1;
+        gives
+    }
+
+    fn comes_to(&mut self, number: u32) -> bool {
         match self.draft.expressions[number as usize] {
             Expression::Condition(condition) => self.holds(condition),
             Expression::Operator(operator) => {
@@ -64,6 +113,9 @@ impl<'a> Reading<'a> {
         if left != (operator.kind == expression::OR) {
             self.rows.push(Row::NotSettled(operator.kind));
             return self.gives(operator.right);
+        }
+        if let Expression::Operator(_) = self.draft.expressions[operator.right as usize] {
+            self.skipped.push(operator.kind);
         }
         // Counted only where the right side would have turned the result.
         let (right, _) = Reading::of(self.draft, self.state, operator.right as usize);

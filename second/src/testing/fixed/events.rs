@@ -44,7 +44,8 @@ fixed_cases! {
     }
 
     fn no_room_is_enough_where_b_is_0() {
-        assert_eq!(step(&LEAST, &mut [0, 0], &mut [], TICK, &[]), Stepped { answer: 0, count: 0 });
+        let done = Stepped { answer: 0, count: 0, visits: 0 };
+        assert_eq!(step(&LEAST, &mut [0, 0], &mut [], TICK, &[]), done);
     }
 
     fn tick_with_any_other_bit_is_4() {

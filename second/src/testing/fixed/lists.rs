@@ -267,7 +267,7 @@ fixed_cases! {
             let words = plain(&[mode(1)], &[equal(0, 5)], &[rule(1, 0, 0, NONE)], &lists, &items);
             let table = Table::of(&words).expect("a header");
             let state = State::of(&table, &[0, 0]).expect("its length");
-            let mut run = Run { table: &table, state, trace: vec![], outcomes: &[] };
+            let mut run = Run { table: &table, state, trace: vec![], outcomes: &[], visits: 0 };
             assert_eq!(run.take(Event::of(GO)).is_ok(), runs);
         }
     }

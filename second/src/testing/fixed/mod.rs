@@ -1,6 +1,6 @@
 //! Fixed cases: each a few words long, its outcome worked out by hand from
-//! documents 01 and 02 and named after the sentence or reading
-//! it tells apart.
+//! documents 01 and 02 and named after the sentence or
+//! reading it tells apart.
 //!
 //! Expected words stand in hex, so that no layout is judged by itself:
 //! - port state: 80000000 defined, 40000000 marked, value times 00400000, remaining;
@@ -20,7 +20,9 @@ macro_rules! fixed_cases {
 }
 
 mod arbitration;
+mod bound;
 mod clears;
+mod cost;
 mod demand3;
 mod editions;
 mod eights;
@@ -45,6 +47,9 @@ mod states;
 mod streams;
 mod timers;
 mod unreached;
+mod visited;
+mod visits;
+mod visits_played;
 
 use super::recorded::{check, check_state, fresh, step};
 use crate::cases::draft::Draft;
@@ -74,9 +79,14 @@ pub fn all() -> Vec<(&'static str, fn())> {
         editions::CASES,
         failing::CASES,
         eights::CASES,
+        visits::CASES,
+        visited::CASES,
+        bound::CASES,
         play::CASES,
         program::CASES,
         played::CASES,
+        visits_played::CASES,
+        cost::CASES,
         streams::CASES,
         demand3::CASES,
     ]
@@ -285,6 +295,21 @@ impl Play {
         trace
     }
 
+    /// Sends an event that is done; gives the expression words that were visited.
+    #[track_caller]
+    fn visits(&mut self, event: u32) -> u64 {
+        self.visits_with(event, &[])
+    }
+
+    /// The same with outcomes lent.
+    #[track_caller]
+    fn visits_with(&mut self, event: u32, outcomes: &[u32]) -> u64 {
+        let mut trace = vec![0x5555_5555; check(&self.table).b];
+        let stepped = step(&self.table, &mut self.state, &mut trace, event, outcomes);
+        assert_eq!(stepped.answer, 0, "answer to {event:08X}");
+        stepped.visits
+    }
+
     /// Sends an event that is refused and changes nothing; gives the answer.
     #[track_caller]
     fn answer(&mut self, event: u32) -> u32 {
@@ -297,7 +322,7 @@ impl Play {
         let mut trace = vec![0x5555_5555; check(&self.table).b];
         let before = (self.state.clone(), trace.clone());
         let stepped = step(&self.table, &mut self.state, &mut trace, event, outcomes);
-        assert_eq!(stepped.count, 0);
+        assert_eq!((stepped.count, stepped.visits), (0, 0));
         assert_eq!((self.state.clone(), trace), before);
         stepped.answer
     }

@@ -16,7 +16,7 @@ fn marked_state(port: &str, network: &str) -> String {
 }
 
 fn marked_request() -> String {
-    format!("{TRACE}{}taken 1\nanswer 0\n", marked_state("00000000", "80000000"))
+    format!("{TRACE}{}taken 1\nvisits 1\nanswer 0\n", marked_state("00000000", "80000000"))
 }
 
 /// Printed with B trace words and so many more lent to each call.
@@ -27,7 +27,7 @@ fn played_with(spare: usize, table: &[u32], events: &[u32]) -> String {
 }
 
 fixed_cases! {
-    fn played_marked_request_prints_trace_state_taken_and_answer() {
+    fn played_marked_request_prints_trace_state_taken_visits_and_answer() {
         assert_eq!(played(&bytes(&MARKED), &bytes(&[0x1100_0500])), marked_request());
     }
 
@@ -43,7 +43,7 @@ fixed_cases! {
     fn played_marked_run_prints_the_state_once_and_last() {
         let events = [0x1100_0500, 0, 0x5100_0000, 0, 0, 0, 0, 0, 0, 0, 0];
         let state = marked_state("80800000", "98000000");
-        let lines = format!("{TRACE}{state}taken 11\nanswer 0\n");
+        let lines = format!("{TRACE}{state}taken 11\nvisits 1\nanswer 0\n");
         assert_eq!(played(&bytes(&MARKED), &bytes(&events)), lines);
     }
 
@@ -51,7 +51,7 @@ fixed_cases! {
         // Requests of 5 and 6 turn the marked rule, whose list is triggered: two runs of three.
         let events = [0x1100_0500, 0x1100_0600, 0, 0x1100_0500, 0x1100_0500];
         let state = marked_state("80800000", "90000005");
-        let lines = format!("{TRACE}{TRACE}{state}taken 5\nanswer 0\n");
+        let lines = format!("{TRACE}{TRACE}{state}taken 5\nvisits 4\nanswer 0\n");
         assert_eq!(played(&bytes(&MARKED), &bytes(&events)), lines);
     }
 
@@ -69,7 +69,8 @@ fixed_cases! {
         let events = [send(WAKEUP, 1, 0), send(WAKEUP, 2, 1), request(0, 4, 5), TICK];
         let lines = "port 0 00000000\nport 1 00000000\nport 2 80400000\nport 3 80800000\n\
                      port 4 81400000\nrule 0 40000000\nrule 1 40000000\nnetwork 0 00000000\n\
-                     network 1 00000000\nsource 0 40000008\nsource 1 80000000\ntaken 4\nanswer 0\n";
+                     network 1 00000000\nsource 0 40000008\nsource 1 80000000\n\
+                     taken 4\nvisits 2\nanswer 0\n";
         assert_eq!(played(&bytes(&table), &bytes(&events)), lines);
     }
 
@@ -77,11 +78,11 @@ fixed_cases! {
         let table = plain(&[initial(1, 11); 12], &[equal(0, 5)], &[rule(1, 0, NONE, NONE)], &[], &[]);
         let lines = played(&bytes(&table), &bytes(&[TICK; 17]));
         let ports: String = (0..12).map(|number| format!("port {number} 82C00000\n")).collect();
-        assert_eq!(lines, format!("{ports}rule 0 00000000\ntaken 17\nanswer 0\n"));
+        assert_eq!(lines, format!("{ports}rule 0 00000000\ntaken 17\nvisits 0\nanswer 0\n"));
     }
 
     fn played_without_events_prints_the_fresh_state() {
-        let lines = format!("{FRESH}taken 0\nanswer 0\n");
+        let lines = format!("{FRESH}taken 0\nvisits 0\nanswer 0\n");
         assert_eq!(played(&bytes(&MARKED), &[]), lines);
         assert_eq!(played(&bytes(&MARKED), &[0x11, 0, 5]), lines);
     }
@@ -104,10 +105,10 @@ fixed_cases! {
     fn played_refused_event_prints_its_answer_and_ends_the_day() {
         let state = marked_state("00000000", "80000000");
         for (event, answer) in [(0x2100_0500, 4), (0x2100_0000, 5), (0x1200_0500, 6)] {
-            let lines = format!("{TRACE}{state}taken 1\nanswer {answer}\n");
+            let lines = format!("{TRACE}{state}taken 1\nvisits 1\nanswer {answer}\n");
             let events = [0x1100_0500, event, 0, 0x5100_0000];
             assert_eq!(played(&bytes(&MARKED), &bytes(&events)), lines);
-            let lines = format!("{FRESH}taken 0\nanswer {answer}\n");
+            let lines = format!("{FRESH}taken 0\nvisits 0\nanswer {answer}\n");
             assert_eq!(played(&bytes(&MARKED), &bytes(&[event, 0x1100_0500])), lines);
         }
     }
@@ -115,8 +116,8 @@ fixed_cases! {
     fn played_is_the_same_however_often_it_is_resumed() {
         let turns = [0x1100_0500, 0x1100_0600, 0, 0x1100_0500, 0x1100_0700, 0x1100_0500];
         let state = "port 0 81400000\nport 1 80800000\nrule 0 40000000\nnetwork 0 90000005\n";
-        let done = format!("{TRACE}{TRACE}{TRACE}{state}taken 6\nanswer 0\n");
-        let refused = format!("{TRACE}{TRACE}{TRACE}{state}taken 6\nanswer 6\n");
+        let done = format!("{TRACE}{TRACE}{TRACE}{state}taken 6\nvisits 5\nanswer 0\n");
+        let refused = format!("{TRACE}{TRACE}{TRACE}{state}taken 6\nvisits 5\nanswer 6\n");
         let stopped = [&turns[..], &[0x1200_0500, 0]].concat();
         assert_eq!(played(&bytes(&MARKED), &bytes(&turns)), done);
         assert_eq!(played(&bytes(&MARKED), &bytes(&stopped)), refused);
@@ -145,15 +146,15 @@ fixed_cases! {
         let trace = lines.lines().take_while(|line| line.starts_with("trace ")).count();
         assert_eq!(trace, 20 * 4096);
         assert_eq!(lines.lines().nth(trace), Some("port 0 81400000"));
-        assert_eq!(lines.lines().count(), trace + 17 + 2);
-        assert!(lines.ends_with("rule 15 40000000\ntaken 20\nanswer 0\n"));
+        assert_eq!(lines.lines().count(), trace + 17 + 3);
+        assert!(lines.ends_with("rule 15 40000000\ntaken 20\nvisits 320\nanswer 0\n"));
     }
 
     /// B is 0: nothing is lent but what is spare.
     fn played_without_lists_prints_no_trace() {
         let table = plain(&[mode(1)], &[equal(0, 5)], &[rule(1, 0, NONE, NONE)], &[], &[]);
         let events = [0x1100_0500, 0, 0x1100_0500];
-        let lines = "port 0 81400000\nrule 0 40000000\ntaken 3\nanswer 0\n";
+        let lines = "port 0 81400000\nrule 0 40000000\ntaken 3\nvisits 2\nanswer 0\n";
         assert_eq!(played(&bytes(&table), &bytes(&events)), lines);
         assert_eq!(played_with(0, &table, &events), lines);
     }
@@ -162,7 +163,7 @@ fixed_cases! {
         let (good, bad) =
             (file("day-good", &bytes(&MARKED)), file("day-bad", &bytes(&MARKED[..11])));
         let events = file("day-refused", &bytes(&[0x1200_0500]));
-        let refused = format!("{FRESH}taken 0\nanswer 6\n");
+        let refused = format!("{FRESH}taken 0\nvisits 0\nanswer 6\n");
         for (table, lines) in [(&good, &refused[..]), (&bad, "4\n0\n")] {
             let output = start("play", table, &events);
             assert_eq!(String::from_utf8_lossy(&output.stdout), lines);

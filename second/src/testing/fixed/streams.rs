@@ -27,12 +27,12 @@ fixed_cases! {
 
     fn stream_of_its_results() {
         let trace = [0xF100_0000, 0x4100_0002, 0x0100_1234, 0x5555_5555];
-        // Reason, place, B; fresh and its words; the state's check; answer, count, words.
-        let single = [&[0, 0, 3][..], &[0, 0, 0, 0, 0], &[0], &[0, 3], &AFTER, &trace].concat();
-        // Room, taken, count, answer, words: the case's room, B, and a word less.
-        let own = [&[4, 1, 3, 0][..], &AFTER, &trace].concat();
-        let least = [&[3, 1, 3, 0][..], &AFTER, &trace[..3]].concat();
-        let full = [&[2, 0, 0, 3][..], &[0; 4], &[0x5555_5555; 2]].concat();
+        // Reason, place, B; fresh and its words; the state's check; answer, count, visits, words.
+        let single = [&[0, 0, 3][..], &[0, 0, 0, 0, 0], &[0], &[0, 3, 1], &AFTER, &trace].concat();
+        // Room, taken, count, visits, answer, words: the case's room, B, and a word less.
+        let own = [&[4, 1, 3, 1, 0][..], &AFTER, &trace].concat();
+        let least = [&[3, 1, 3, 1, 0][..], &AFTER, &trace[..3]].concat();
+        let full = [&[2, 0, 0, 0, 3][..], &[0; 4], &[0x5555_5555; 2]].concat();
         let expected = [single, vec![3], own, least, full].concat();
         assert_eq!(result_words(&marked_case(4)), expected);
     }
@@ -48,28 +48,28 @@ fixed_cases! {
         let good = [0xF100_0000, 0x0100_1234, 0x4100_0002];
         let failed = [0x8140_0000, 0, 0x4000_0000, 0, 0xF100_0000, 0x0100_1234, 0x5555_5555];
         let before = [0, 0, 3, 0, 0, 0, 0, 0, 0];
-        let own = [&[3, 1, 3, 0][..], &AFTER, &good].concat();
-        let full = [&[2, 0, 0, 3][..], &[0; 4], &[0x5555_5555; 2]].concat();
+        let own = [&[3, 1, 3, 1, 0][..], &AFTER, &good].concat();
+        let full = [&[2, 0, 0, 0, 3][..], &[0; 4], &[0x5555_5555; 2]].concat();
         let plays = [&[2][..], &own, &full].concat();
-        let expected = [&before[..], &[0, 2], &failed, &plays].concat();
+        let expected = [&before[..], &[0, 2, 1], &failed, &plays].concat();
         assert_eq!(result_words(&case(&[1])), expected);
-        let expected = [&before[..], &[0, 3], &AFTER, &good, &plays].concat();
+        let expected = [&before[..], &[0, 3, 1], &AFTER, &good, &plays].concat();
         assert_eq!(result_words(&case(&[0, 1])), expected);
         let unwritten = [0, 0, 0, 0, 0x5555_5555, 0x5555_5555, 0x5555_5555];
-        let expected = [&before[..], &[8, 0], &unwritten, &plays].concat();
+        let expected = [&before[..], &[8, 0, 0], &unwritten, &plays].concat();
         assert_eq!(result_words(&case(&[0, 2])), expected);
     }
 
     fn stream_of_refusals() {
         let unwritten = [[0; 4].as_slice(), &[0x5555_5555; 2]].concat();
-        let single = [&[0, 0, 3][..], &[0, 0, 0, 0, 0], &[0], &[3, 0], &unwritten].concat();
-        let own = [&[2, 0, 0, 3][..], &unwritten].concat();
+        let single = [&[0, 0, 3][..], &[0, 0, 0, 0, 0], &[0], &[3, 0, 0], &unwritten].concat();
+        let own = [&[2, 0, 0, 0, 3][..], &unwritten].concat();
         let least =
-            [&[3, 1, 3, 0][..], &AFTER, &[0xF100_0000, 0x4100_0002, 0x0100_1234]].concat();
+            [&[3, 1, 3, 1, 0][..], &AFTER, &[0xF100_0000, 0x4100_0002, 0x0100_1234]].concat();
         assert_eq!(result_words(&marked_case(2)), [single, vec![2], own, least].concat());
         let bad = Case { table: MARKED[..11].to_vec(), state: vec![7; 2], ..marked_case(1) };
-        let single = [4, 0, 0, 1, 0xAAAA_AAAA, 0xAAAA_AAAA, 1, 1, 0, 7, 7, 0x5555_5555];
-        let play = [1, 1, 0, 0, 1, 7, 7, 0x5555_5555];
+        let single = [4, 0, 0, 1, 0xAAAA_AAAA, 0xAAAA_AAAA, 1, 1, 0, 0, 7, 7, 0x5555_5555];
+        let play = [1, 1, 0, 0, 0, 1, 7, 7, 0x5555_5555];
         assert_eq!(result_words(&bad), [&single[..], &play].concat());
     }
 
@@ -92,7 +92,7 @@ fixed_cases! {
         let case = Case { events, ..marked_case(5) };
         assert_eq!(play_rooms(&case)[..3], [5, 21, 20]);
         let twelve = result_words(&Case { events: case.events[..12].to_vec(), ..case.clone() });
-        let plays = 1 + play_rooms(&case).iter().map(|room| 4 + 4 + room).sum::<usize>();
+        let plays = 1 + play_rooms(&case).iter().map(|room| 5 + 4 + room).sum::<usize>();
         let all = result_words(&case);
         assert_eq!(all[all.len() - plays..], twelve[twelve.len() - plays..]);
     }
