@@ -1,7 +1,8 @@
 //! Links the proved code of another commit beside today's, where
 //! HERRINGCART_BEFORE names its archive. `tools/bench COMMIT` makes it and gives
-//! its calls other names. Without the variable nothing is linked. That
-//! HERRINGCART_BEFORE_TAKES is `outcomes` says that its event call takes them.
+//! its calls other names. Without the variable nothing is linked. What stands in
+//! HERRINGCART_BEFORE_TAKES says what its event call has that older ones have not:
+//! `outcomes`, and `visits`.
 
 use std::env;
 use std::path::PathBuf;
@@ -12,7 +13,7 @@ const TAKES: &str = "HERRINGCART_BEFORE_TAKES";
 fn main() {
     println!("cargo::rerun-if-env-changed={VARIABLE}");
     println!("cargo::rerun-if-env-changed={TAKES}");
-    println!("cargo::rustc-check-cfg=cfg(before, before_takes_outcomes)");
+    println!("cargo::rustc-check-cfg=cfg(before, before_takes_outcomes, before_counts_visits)");
     let Some(archive) = env::var_os(VARIABLE).filter(|path| !path.is_empty()) else {
         return;
     };
@@ -29,7 +30,11 @@ fn main() {
     println!("cargo::rustc-link-search=native={}", folder.display());
     println!("cargo::rustc-link-lib=static={name}");
     println!("cargo::rustc-cfg=before");
-    if env::var(TAKES).is_ok_and(|takes| takes == "outcomes") {
-        println!("cargo::rustc-cfg=before_takes_outcomes");
+    let takes = env::var(TAKES).unwrap_or_default();
+    for (word, name) in [("outcomes", "before_takes_outcomes"), ("visits", "before_counts_visits")]
+    {
+        if takes.split(' ').any(|taken| taken == word) {
+            println!("cargo::rustc-cfg={name}");
+        }
     }
 }

@@ -76,6 +76,15 @@ def steps(text, length):
     return [(answer, printed[:length], printed[length:]) for answer, printed in found]
 
 
+def costs(text):
+    """What `cost` printed: (number, answer, trace words, visits) of each event; and by its name each most, its event and its bound."""
+    events = re.findall(r"^event (\d+) answer (\d+) trace (\d+) visits (\d+)$", text, re.M)
+    most = re.findall(r"^most (trace|visits) (\d+) event (\d+|none) bound (\d+)$", text, re.M)
+    assert len(text.splitlines()) == len(events) + len(most) and len(most) == 2, "a line that cost does not print"
+    return ([tuple(map(int, event)) for event in events],
+            {name: (int(number), None if event == "none" else int(event), int(bound)) for name, number, event, bound in most})
+
+
 def trace_owner(word):
     return field(word, 4, 4)
 

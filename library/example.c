@@ -1,5 +1,6 @@
-/* Runs document 01's marked table through the library, and the same in edition 2 with a call that fails; prints what each
- * call gives and holds it against the documents. Leaves with status 1 at the first difference. */
+/* Runs document 01's marked table through the library, the same in edition 2 with a call that fails, and a table whose rules visit
+ * more than one expression word; prints what each call gives and holds it against the documents. Leaves with status 1 at the first
+ * difference. */
 #include "herringcart.h"
 
 #include <inttypes.h>
@@ -38,7 +39,8 @@ static void expect_words(const char *what, const uint32_t *given, const uint32_t
         expect(what, given[i], expected[i]);
 }
 
-/* What document 01 says of one event: its answer, the state after it, the trace words written. */
+/* What the documents say of one event: its answer, the state after it, the trace words written, and the expression words
+ * visited: the rule has one, a condition, and only the request arbitrates its port. */
 struct expected {
     const char *what;
     uint32_t event;
@@ -47,17 +49,20 @@ struct expected {
     uint32_t state[STATE_WORDS];
     size_t count;
     uint32_t trace[BOUND];
+    uint32_t visits;
 };
 
 static void take(const struct expected *e)
 {
-    uint32_t trace[BOUND] = {UNTOUCHED, UNTOUCHED, UNTOUCHED};
+    uint32_t trace[BOUND] = {UNTOUCHED, UNTOUCHED, UNTOUCHED}, visits = 99;
     size_t count = 99;
     /* no outcomes: the length is 0, and the address any but null */
-    uint32_t answer = herringcart_take_event(table, TABLE_WORDS, state, STATE_WORDS, trace, e->room, table, 0, e->event, &count);
-    printf("%s, event %08" PRIX32 ": answer %" PRIu32 ", count %zu\n", e->what, e->event, answer, count);
+    uint32_t answer =
+        herringcart_take_event(table, TABLE_WORDS, state, STATE_WORDS, trace, e->room, table, 0, e->event, &count, &visits);
+    printf("%s, event %08" PRIX32 ": answer %" PRIu32 ", count %zu, visits %" PRIu32 "\n", e->what, e->event, answer, count, visits);
     expect("answer", answer, e->answer);
     expect("count", count, e->count);
+    expect("visits", visits, e->visits);
     expect_words("state", state, e->state, STATE_WORDS);
     expect_words("trace", trace, e->trace, e->count);
     for (size_t i = e->count; i < BOUND; i++)
@@ -110,11 +115,13 @@ static void events(void)
     expect("all fields", herringcart_event(HERRINGCART_WAKEUP_CLEAR, 15, 0xAB, 0xCD), 0x6FABCD00);
     static const uint32_t large[][4] = {{16, 0, 0, 0}, {0, 16, 0, 0}, {0, 0, 256, 0}, {0, 0, 0, 256}};
     for (size_t i = 0; i < sizeof large / sizeof *large; i++) {
-        uint32_t trace[BOUND] = {0}, word = herringcart_event(large[i][0], large[i][1], large[i][2], large[i][3]);
+        uint32_t trace[BOUND] = {0}, visits = 99, word = herringcart_event(large[i][0], large[i][1], large[i][2], large[i][3]);
         size_t count = 99;
         expect("a field too large", word, 0xFFFFFFFF);
-        expect("its answer", herringcart_take_event(table, TABLE_WORDS, state, STATE_WORDS, trace, BOUND, table, 0, word, &count),
+        expect("its answer",
+               herringcart_take_event(table, TABLE_WORDS, state, STATE_WORDS, trace, BOUND, table, 0, word, &count, &visits),
                HERRINGCART_MALFORMED_EVENT);
+        expect("its visits", visits, 0);
     }
 }
 
@@ -129,21 +136,25 @@ static void play(void)
     for (size_t room = 2 * BOUND; room >= 2 * BOUND - 1; room--) {
         uint32_t trace[2 * BOUND];
         size_t taken = 99, count = 99, from = 0;
+        uint64_t visits = 99;
         memset(trace, 0x55, sizeof trace);
         expect("fresh", herringcart_make_fresh(table, TABLE_WORDS, state, STATE_WORDS), 0);
-        uint32_t end = herringcart_play(table, TABLE_WORDS, state, STATE_WORDS, trace, room, day, length, &taken, &count);
-        printf("play in %zu words: answer %" PRIu32 ", taken %zu, count %zu\n", room, end, taken, count);
+        uint32_t end = herringcart_play(table, TABLE_WORDS, state, STATE_WORDS, trace, room, day, length, &taken, &count, &visits);
+        printf("play in %zu words: answer %" PRIu32 ", taken %zu, count %zu, visits %" PRIu64 "\n", room, end, taken, count, visits);
         expect_words("trace", trace, words, BOUND);
         expect("count", count, BOUND);
+        expect("visits", visits, 1);
         for (size_t i = BOUND; i < 2 * BOUND; i++)
             expect("a trace word past the count", trace[i], UNTOUCHED);
         if (room < 2 * BOUND) {
             expect("answer", end, HERRINGCART_TRACE_FULL);
             expect("taken", taken, 1);
             from = taken;
-            end = herringcart_play(table, TABLE_WORDS, state, STATE_WORDS, trace, room, day + from, length - from, &taken, &count);
-            printf("resumed: answer %" PRIu32 ", taken %zu, count %zu\n", end, taken, count);
+            end = herringcart_play(table, TABLE_WORDS, state, STATE_WORDS, trace, room, day + from, length - from, &taken, &count,
+                                   &visits);
+            printf("resumed: answer %" PRIu32 ", taken %zu, count %zu, visits %" PRIu64 "\n", end, taken, count, visits);
             expect("count", count, 0);
+            expect("visits", visits, 0);
         }
         expect("answer", end, HERRINGCART_MALFORMED_EVENT);
         expect("the refused event", from + taken, 6);
@@ -180,18 +191,54 @@ static void outcomes(void)
     };
     for (size_t i = 0; i < sizeof all / sizeof *all; i++) {
         const struct lent *e = &all[i];
-        uint32_t trace[ROOM] = {UNTOUCHED, UNTOUCHED, UNTOUCHED, UNTOUCHED};
+        uint32_t trace[ROOM] = {UNTOUCHED, UNTOUCHED, UNTOUCHED, UNTOUCHED}, visits = 99;
         size_t count = 99;
         expect("fresh", herringcart_make_fresh(failing, WORDS, state, STATE_WORDS), 0);
-        uint32_t answer = herringcart_take_event(failing, WORDS, state, STATE_WORDS, trace, ROOM, e->outcomes, e->words, 0x11000500, &count);
-        printf("outcomes, %s: answer %" PRIu32 ", count %zu\n", e->what, answer, count);
+        uint32_t answer = herringcart_take_event(failing, WORDS, state, STATE_WORDS, trace, ROOM, e->outcomes, e->words, 0x11000500,
+                                                 &count, &visits);
+        printf("outcomes, %s: answer %" PRIu32 ", count %zu, visits %" PRIu32 "\n", e->what, answer, count, visits);
         expect("answer", answer, e->answer);
         expect("count", count, e->count);
+        expect("visits", visits, e->answer == HERRINGCART_DONE ? 1 : 0);
         expect_words("state", state, e->answer ? fresh : done, STATE_WORDS);
         expect_words("trace", trace, words, e->count);
         for (size_t w = e->count; w < ROOM; w++)
             expect("a trace word past the count", trace[w], UNTOUCHED);
     }
+}
+
+/* Port 0, asked for 5, has both rules arbitrated. Rule 0 is (port 0 = 5) AND ((port 0 = 9) OR NOT (port 1 = 5)): true, six words.
+ * Rule 1 is the same with NAND for AND and starts no list. Rule 0's list evaluates rule 1 again. With 4 asked for, the left side settles
+ * AND and NAND: two words for each rule, and no list runs. Refused, nothing is visited. */
+static void visits(void)
+{
+    enum { WORDS = 16, STATE = 4, ROOM = 2 };
+    static const uint32_t shared[WORDS] = {
+        0x01020000, 0x00070002, 0x00010001, 0x11000000, 0x11000000, 0x00005000, 0x00009000, 0x00105000,
+        0x80008000, 0x50004003, 0x40000004, 0x70000004, 0x100500FF, 0x1006FFFF, 0x10000001, 0x60010000,
+    };
+    static const struct {
+        uint32_t event, answer, visits;
+    } asked[] = {{0x11000500, 0, 18}, {0x11000400, 0, 4}, {0x12000500, 6, 0}, {0, 0, 0}};
+    uint32_t mine[STATE], trace[ROOM] = {0}, bound = 99;
+    size_t place = 99, taken = 99, count = 99;
+    uint64_t sum = 99;
+    expect("reason", herringcart_check_table(shared, WORDS, &place, &bound), HERRINGCART_ACCEPTED);
+    expect("B", bound, ROOM);
+    expect("fresh", herringcart_make_fresh(shared, WORDS, mine, STATE), 0);
+    for (size_t i = 0; i < sizeof asked / sizeof *asked; i++) {
+        uint32_t visited = 99;
+        uint32_t answer =
+            herringcart_take_event(shared, WORDS, mine, STATE, trace, ROOM, shared, 0, asked[i].event, &count, &visited);
+        printf("visits, event %08" PRIX32 ": answer %" PRIu32 ", visits %" PRIu32 "\n", asked[i].event, answer, visited);
+        expect("answer", answer, asked[i].answer);
+        expect("visits", visited, asked[i].visits);
+    }
+    static const uint32_t day[] = {0x11000400, 0x11000500, 0, 0x11000400};
+    uint32_t words[4 * ROOM] = {0};
+    expect("played", herringcart_play(shared, WORDS, mine, STATE, words, 4 * ROOM, day, 4, &taken, &count, &sum), 0);
+    printf("visits of a play: %" PRIu64 "\n", sum);
+    expect("visits of a play", sum, 4 + 18 + 0 + 4);
 }
 
 /* Another archive than this header's may take other arguments: nothing is called with it. */
@@ -208,23 +255,23 @@ static void version(void)
 int main(void)
 {
     static const struct expected refused[] = {
-        {"malformed", 0x21000500, BOUND, HERRINGCART_MALFORMED_EVENT, {0}, 0, {0}},
-        {"no event port", 0x21000000, BOUND, HERRINGCART_NO_SUCH_THING, {0}, 0, {0}},
-        {"another's port", 0x12000500, BOUND, HERRINGCART_OTHER_OWNER, {0}, 0, {0}},
-        {"two words of room", 0x11000500, 2, HERRINGCART_SHORT_TRACE, {0}, 0, {0}},
+        {"malformed", 0x21000500, BOUND, HERRINGCART_MALFORMED_EVENT, {0}, 0, {0}, 0},
+        {"no event port", 0x21000000, BOUND, HERRINGCART_NO_SUCH_THING, {0}, 0, {0}, 0},
+        {"another's port", 0x12000500, BOUND, HERRINGCART_OTHER_OWNER, {0}, 0, {0}, 0},
+        {"two words of room", 0x11000500, 2, HERRINGCART_SHORT_TRACE, {0}, 0, {0}, 0},
     };
     static const struct expected run[] = {
-        {"request", 0x11000500, BOUND, 0, {0x81400000, 0, 0x40000000, 0x80000000}, 3, {0xF1000000, 0x41000002, 0x01001234}},
-        {"tick", 0, BOUND, 0, {0x81400000, 0x80800000, 0x40000000, 0x90000005}, 0, {0}},
-        {"bus-off", 0x51000000, BOUND, 0, {0x81400000, 0xC0C00000, 0x40000000, 0xA0080003}, 0, {0}},
-        {"tick 1", 0, BOUND, 0, {0x81400000, 0x80C00000, 0x40000000, 0xA0080002}, 0, {0}},
-        {"tick 2", 0, BOUND, 0, {0x81400000, 0x80C00000, 0x40000000, 0xA0080001}, 0, {0}},
-        {"tick 3, check again", 0, BOUND, 0, {0x81400000, 0x80800000, 0x40000000, 0x90080005}, 0, {0}},
-        {"tick 4", 0, BOUND, 0, {0x81400000, 0x80800000, 0x40000000, 0x90080004}, 0, {0}},
-        {"tick 5", 0, BOUND, 0, {0x81400000, 0x80800000, 0x40000000, 0x90080003}, 0, {0}},
-        {"tick 6", 0, BOUND, 0, {0x81400000, 0x80800000, 0x40000000, 0x90080002}, 0, {0}},
-        {"tick 7", 0, BOUND, 0, {0x81400000, 0x80800000, 0x40000000, 0x90080001}, 0, {0}},
-        {"tick 8, settled", 0, BOUND, 0, {0x81400000, 0x80800000, 0x40000000, 0x98000000}, 0, {0}},
+        {"request", 0x11000500, BOUND, 0, {0x81400000, 0, 0x40000000, 0x80000000}, 3, {0xF1000000, 0x41000002, 0x01001234}, 1},
+        {"tick", 0, BOUND, 0, {0x81400000, 0x80800000, 0x40000000, 0x90000005}, 0, {0}, 0},
+        {"bus-off", 0x51000000, BOUND, 0, {0x81400000, 0xC0C00000, 0x40000000, 0xA0080003}, 0, {0}, 0},
+        {"tick 1", 0, BOUND, 0, {0x81400000, 0x80C00000, 0x40000000, 0xA0080002}, 0, {0}, 0},
+        {"tick 2", 0, BOUND, 0, {0x81400000, 0x80C00000, 0x40000000, 0xA0080001}, 0, {0}, 0},
+        {"tick 3, check again", 0, BOUND, 0, {0x81400000, 0x80800000, 0x40000000, 0x90080005}, 0, {0}, 0},
+        {"tick 4", 0, BOUND, 0, {0x81400000, 0x80800000, 0x40000000, 0x90080004}, 0, {0}, 0},
+        {"tick 5", 0, BOUND, 0, {0x81400000, 0x80800000, 0x40000000, 0x90080003}, 0, {0}, 0},
+        {"tick 6", 0, BOUND, 0, {0x81400000, 0x80800000, 0x40000000, 0x90080002}, 0, {0}, 0},
+        {"tick 7", 0, BOUND, 0, {0x81400000, 0x80800000, 0x40000000, 0x90080001}, 0, {0}, 0},
+        {"tick 8, settled", 0, BOUND, 0, {0x81400000, 0x80800000, 0x40000000, 0x98000000}, 0, {0}, 0},
     };
     version();
     check();
@@ -236,6 +283,7 @@ int main(void)
         take(&run[i]);
     play();
     outcomes();
+    visits();
     printf("as the documents have it\n");
     return 0;
 }

@@ -4,24 +4,25 @@
  * docs/TABLES.md has the layout of every word, and what to do about each reason and answer. Every call takes any
  * words: it checks them for itself, and a refusal leaves every word of state and trace as it was.
  *
- * What version 4.0 changes for a caller:
+ * What version 5.0 changes for a caller:
  *
- *   - herringcart_take_event lends outcomes, behind the trace: how each outside call of this event ends. A caller that has
- *     none gives a length of 0, and any address that is not null:
+ *   - herringcart_take_event and herringcart_play report visits behind the count, the expression words visited (below). It is
+ *     always written, so a caller that does not want it lends a variable all the same:
  *
- *         3.2  herringcart_take_event(table, words, state, n, trace, room, event, &count)
  *         4.0  herringcart_take_event(table, words, state, n, trace, room, outcomes, calls, event, &count)
- *         4.0  herringcart_take_event(table, words, state, n, trace, room, table, 0, event, &count)      with none
+ *         5.0  herringcart_take_event(table, words, state, n, trace, room, outcomes, calls, event, &count, &visits)
  *
- *     With none, a table of edition 1 gives what it gave in 3.2, answer, state and trace.
- *   - Answer 8, HERRINGCART_BAD_OUTCOME: an outcome word above 1.
- *   - A table may be of edition 2, where an outside call may have abort: if it fails, the list that holds it stops there.
- *     Tables of edition 1 are as they were. Reason 2 is now an edition other than 1 or 2.
- *   - herringcart_version is new. All other calls are as they were; in herringcart_play every call is good.
+ *         4.0  herringcart_play(table, words, state, n, trace, room, events, length, &taken, &count)
+ *         5.0  herringcart_play(table, words, state, n, trace, room, events, length, &taken, &count, &visits)
+ *
+ *     The event's visits are a uint32_t, the play's a uint64_t.
+ *   - HERRINGCART_MOST_VISITS is new. Nothing else differs: every table, answer, state, trace and count is 4.0's.
+ *
+ * docs/CHANGES.md says what the versions before changed; since 4.0 an event call lends outcomes.
  *
  * The linker does not look at arguments. A program that was compiled with the header of another version may link with this
- * archive, and its event calls then hand over the wrong words: compile it anew. So that this is found, a program compares
- * the two versions at its start, the header's and the archive's:
+ * archive, and its event calls and plays then hand over the wrong words, or the archive writes visits to an address that nobody
+ * gave it: compile it anew. So that this is found, a program compares the two versions at its start, the header's and the archive's:
  *
  *         if (herringcart_version() != HERRINGCART_VERSION_NUMBER) ...do not go on...
  *
@@ -31,13 +32,13 @@
  * no call can check for itself:
  *
  *   - No pointer is null, for a length of 0 neither: any aligned address other than null will do there.
- *   - uint32_t pointers are aligned for uint32_t, size_t pointers for size_t.
+ *   - uint32_t pointers are aligned for uint32_t, size_t pointers for size_t, uint64_t pointers for uint64_t.
  *   - Each array is valid for its whole length for as long as the call runs: table, events, outcomes and a `const` state to
  *     read, state and trace to read and write. All words of state and trace must have been written once before they are lent,
  *     with whatever values: the trace's too, for the call may read it.
  *   - An array is at most PTRDIFF_MAX bytes long.
- *   - What a call writes (state, trace, *place, *bound, *count, *taken) overlaps nothing else lent in the same call.
- *     Table, events, outcomes and a `const` state may overlap.
+ *   - What a call writes (state, trace, *place, *bound, *count, *taken, *visits) overlaps nothing else lent in the same call:
+ *     visits neither count nor taken. Table, events, outcomes and a `const` state may overlap.
  *   - While the call runs, no other thread, interrupt or device writes what is lent, and none reads what the call
  *     writes. The table may stand in read-only memory, and any number of calls may read it at the same time.
  *
@@ -46,8 +47,24 @@
  *
  * That each call ends and what it gives is proved of the Rattle functions. The compiler and its back end are trusted.
  * A call takes at most HERRINGCART_STACK_BYTES of stack. That is measured, not proved: stack.c, run by the gate, makes
- * the calls go as deep as a table can. The deepest took 9.1 KiB, for lists and expressions nest at most seven deep and
+ * the calls go as deep as a table can. The deepest took 9.3 KiB, for lists and expressions nest at most seven deep and
  * the local arrays have 1 KiB each.
+ *
+ * Visits are how many expression words an event's evaluations look at, for whoever reckons how long an event can take. That the number
+ * is the one of the rules is proved, and so is the most that it can be:
+ *
+ *   - A condition is 1. An operator is 1 and its left side's visits, and its right side's where the left has not settled it: false settles
+ *     AND and NAND, true settles OR, and nothing settles XOR. NOT is 1 and its left side's.
+ *   - Every evaluation counts each time: of each rule that arbitration evaluates, and of each rule item that evaluates its rule. A word
+ *     that rules share, or that one expression names twice, counts as often as it is visited.
+ *   - An event visits at most 127 * (R + B) words, R the table's rules and B as herringcart_check_table gives it: an evaluation at
+ *     most 127, for expressions nest seven deep at most. So never more than HERRINGCART_MOST_VISITS. A refused event visits 0.
+ *   - Three things are no evaluation and do not count, though they take time: the check of table and state; the test whether a rule
+ *     mentions a port that is arbitrated, made of every rule that is not nested-only; and, while some port of the table is undefined, the
+ *     test whether a rule mentions such a port, made of the rules that passed the first test and by each rule item. A test reads up to 127
+ *     expression words, both sides of each operator, until it meets such a port. A rule item that meets an undefined one evaluates nothing
+ *     and counts 0.
+ *     So the most that an event can take is measured, not reckoned from its visits alone.
  *
  * What a call costs: all but herringcart_state_words and herringcart_version check the whole table each time, for nothing is
  * kept. Measured on an Arm Neoverse N1 an event takes some 30 ns for each word of the table (docs/BENCHMARKS.md): 0.4 us with 12 words,
@@ -67,8 +84,8 @@
 
 /* The version of this header and of the archive beside it. docs/CHANGES.md says what each version changes. The number is
  * what herringcart_version of that archive gives. */
-#define HERRINGCART_VERSION "4.0"
-#define HERRINGCART_VERSION_MAJOR 4
+#define HERRINGCART_VERSION "5.0"
+#define HERRINGCART_VERSION_MAJOR 5
 #define HERRINGCART_VERSION_MINOR 0
 #define HERRINGCART_VERSION_NUMBER (UINT32_C(65536) * HERRINGCART_VERSION_MAJOR + HERRINGCART_VERSION_MINOR)
 
@@ -80,6 +97,9 @@ extern "C" {
 #define HERRINGCART_TABLE_WORDS 3185
 #define HERRINGCART_STATE_WORDS 360
 #define HERRINGCART_TRACE_WORDS 4096
+
+/* The most expression words that an event can visit, 127 * (256 + 4096). */
+#define HERRINGCART_MOST_VISITS 552704
 
 /* The most stack a call takes, in bytes. */
 #define HERRINGCART_STACK_BYTES 16384
@@ -174,7 +194,7 @@ uint32_t herringcart_check_state(const uint32_t *table, size_t table_words, cons
 
 /* Takes one event. Gives the first answer from 1 to 8 that holds, in their order, or else 0: the event is done, the
  * state is the next one, and the first *count words of the trace are what was done; the later ones are unchanged.
- * Always writes *count, 0 for a refused event.
+ * Always writes *count and *visits, the expression words visited: both 0 for a refused event.
  *
  * outcomes says how the outside calls of this event end, each word HERRINGCART_GOOD or HERRINGCART_FAILED. In a table of
  * edition 2 every outside call that runs, with abort or without, takes the next word, in the order in which the calls run
@@ -184,19 +204,22 @@ uint32_t herringcart_check_state(const uint32_t *table, size_t table_words, cons
  * use; but a word above 1 anywhere among them is HERRINGCART_BAD_OUTCOME, of a tick and in edition 1 too. */
 uint32_t herringcart_take_event(const uint32_t *table, size_t table_words, uint32_t *state, size_t state_words,
                                 uint32_t *trace, size_t trace_words, const uint32_t *outcomes, size_t outcome_words,
-                                uint32_t event, size_t *count);
+                                uint32_t event, size_t *count, uint32_t *visits);
 
 /* Plays recorded events one after the other, as herringcart_take_event would take them one by one, each with what the ones before it
  * left of the trace and with no outcomes, so that every outside call is good; table and state are checked once. Gives what ended it: 0
  * if every event was taken; 1 or 2 if table or state is not in order, also where there are no events; or, before an event,
  * HERRINGCART_TRACE_FULL if fewer than B trace words are free, else 4, 5 or 6 if that event is refused. Always writes *taken, how many
- * events were taken: the event that ended it is events[*taken]; and *count, how many words they wrote together. These stand at the
- * front of the trace, and the later ones are unchanged; the state is the one after the last event taken.
+ * events were taken: the event that ended it is events[*taken]; *count, how many words they wrote together, which stand at the
+ * front of the trace, and the later ones are unchanged; and *visits, how many expression words they visited together, the sum of what
+ * single calls report. The state is the one after the last event taken. With table or state not in order all three are 0. The sum is
+ * modulo 2^64, so it is exact for up to 33,375,448,836,465 events, 2^64 / HERRINGCART_MOST_VISITS.
  *
  * A play that ends with HERRINGCART_TRACE_FULL is resumed from that event: call again with events + *taken, the state as it stands and the
  * trace to be written anew. With at least B words lent, each call takes an event or ends otherwise. */
 uint32_t herringcart_play(const uint32_t *table, size_t table_words, uint32_t *state, size_t state_words, uint32_t *trace,
-                          size_t trace_words, const uint32_t *events, size_t event_words, size_t *taken, size_t *count);
+                          size_t trace_words, const uint32_t *events, size_t event_words, size_t *taken, size_t *count,
+                          uint64_t *visits);
 
 #ifdef __cplusplus
 }

@@ -1,11 +1,4 @@
-/* Prints what `./herringcart run TABLE EVENTS` prints, with outcomes lent to the event calls, which that command does not do:
- *
- *     lend OUTCOMES TABLE EVENTS
- *
- * OUTCOMES is a file of words, the high byte first: for each event in order the number of outcome words that its call lends,
- * then these words. Where the file ends, no more are lent; bytes past the last whole word of a file are ignored.
- *
- * Status 0, for a table with a reason too; 2 where a file cannot be read, or the archive is not of this header's version. */
+/* `./herringcart run` with outcomes lent; `lend --help` says how it is used. */
 #include "herringcart.h"
 
 #include <errno.h>
@@ -13,6 +6,17 @@
 #include <stdio.h>
 #include <stdlib.h>
 #include <string.h>
+
+static const char usage[] =
+    "lend OUTCOMES TABLE EVENTS\n"
+    "\n"
+    "Prints what `./herringcart run TABLE EVENTS` prints, with outcomes lent to the event calls, which that command does not do.\n"
+    "\n"
+    "OUTCOMES is a file of words, the high byte first: for each event in order the number of outcome words that its call lends,\n"
+    "then these words. Where the file ends, no more are lent; bytes past the last whole word of a file are ignored.\n"
+    "\n"
+    "Status: 0, for a table with a reason too; 2 where a file cannot be read or the output not be written, where the words are\n"
+    "wrong, or where the archive is not of this header's version.\n";
 
 struct words {
     uint32_t *at;
@@ -74,11 +78,12 @@ static void take_all(struct words table, struct words events, struct words outco
 {
     static uint32_t state[HERRINGCART_STATE_WORDS], trace[HERRINGCART_TRACE_WORDS];
     size_t length = herringcart_state_words(table.at, table.length), count;
+    uint32_t visits; /* always written, though nothing is printed of them */
     herringcart_make_fresh(table.at, table.length, state, length);
     for (size_t i = 0; i < events.length; i++) {
         struct words lent = next_outcomes(&outcomes);
         printf("%" PRIu32 "\n", herringcart_take_event(table.at, table.length, state, length, trace, bound, lent.at, lent.length,
-                                                       events.at[i], &count));
+                                                       events.at[i], &count, &visits));
         print_words(state, length);
         print_words(trace, count);
     }
@@ -88,8 +93,13 @@ int main(int words, char **word)
 {
     size_t place;
     uint32_t bound, reason;
+    if (words == 2 && (strcmp(word[1], "--help") == 0 || strcmp(word[1], "-h") == 0)) {
+        if (fputs(usage, stdout) < 0 || fflush(stdout) != 0)
+            trouble("standard output", strerror(errno));
+        return 0;
+    }
     if (words != 4)
-        trouble("three words are needed", "lend OUTCOMES TABLE EVENTS");
+        trouble("three words are needed", "lend OUTCOMES TABLE EVENTS; lend --help says more");
     if (herringcart_version() != HERRINGCART_VERSION_NUMBER)
         trouble("the archive", "it is not of version " HERRINGCART_VERSION ", which the header is of");
     struct words outcomes = read_words(word[1]), table = read_words(word[2]), events = read_words(word[3]);

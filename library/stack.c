@@ -25,7 +25,7 @@ static uint32_t table[TABLE_WORDS];
 static uint32_t state[STATE_WORDS];
 static uint32_t trace[HERRINGCART_TRACE_WORDS];
 static size_t place, count;
-static uint32_t bound;
+static uint32_t bound, visits;
 
 static void make_table(uint32_t edition)
 {
@@ -73,13 +73,14 @@ static uint32_t play(void)
 {
     static const uint32_t day[] = {0x10000500};
     static size_t taken;
-    return herringcart_play(table, TABLE_WORDS, state, STATE_WORDS, trace, bound, day, 1, &taken, &count);
+    static uint64_t sum;
+    return herringcart_play(table, TABLE_WORDS, state, STATE_WORDS, trace, bound, day, 1, &taken, &count, &sum);
 }
 
 static uint32_t take_event(void)
 {
     static const uint32_t outcomes[] = {HERRINGCART_FAILED};
-    return herringcart_take_event(table, TABLE_WORDS, state, STATE_WORDS, trace, bound, outcomes, 1, 0x10000500, &count);
+    return herringcart_take_event(table, TABLE_WORDS, state, STATE_WORDS, trace, bound, outcomes, 1, 0x10000500, &count, &visits);
 }
 
 static _Alignas(65536) unsigned char stack[STACK];
@@ -144,6 +145,12 @@ static int measure(uint32_t edition)
     size_t expected = 2 * LEVELS + (edition == 2 ? 1 : 2) + 2 * (LISTS - LEVELS);
     if (count != expected) {
         printf("%zu trace words, not %zu\n", count, expected);
+        exit(1);
+    }
+    /* The rules that start lists have one condition each; of the rule items each evaluated a whole tree, seven deep. */
+    uint32_t visited = RULES - LEVELS + LEVELS * ((1 << LEVELS) - 1);
+    if (visits != visited) {
+        printf("%u visits, not %u\n", (unsigned)visits, (unsigned)visited);
         exit(1);
     }
     return more;

@@ -5,10 +5,12 @@ mod plays;
 use std::fmt;
 
 use second::cases::Case;
+use second::program::WHOLE_TREE;
 use second::state::state_length;
 use second::stream::{STATE_FILL, TRACE_FILL};
-use second::words::{HEADER, Table};
+use second::words::{HEADER, Section, Table};
 
+use crate::nearest::Visited;
 use crate::subject::Subject;
 
 /// The first thing the two sides say differently.
@@ -66,6 +68,12 @@ fn as_word(number: usize) -> u32 {
     u32::try_from(number).unwrap_or(u32::MAX)
 }
 
+/// Visits beside words: two of them, the higher first. None of a side that does not count them.
+fn visits_words(subject: &impl Subject, visits: u64) -> Vec<u32> {
+    let words = vec![(visits >> 32) as u32, visits as u32];
+    if subject.counts_visits() { words } else { vec![] }
+}
+
 /// Fails with both sides' words where they differ.
 fn same(what: impl FnOnce() -> String, proved: &[u32], second: &[u32]) -> Result<(), Difference> {
     if proved == second {
@@ -84,8 +92,16 @@ fn same_lent(what: &dyn Fn() -> String, proved: &Lent, second: &Lent) -> Result<
     same(|| format!("{}, outside what was lent", what()), &proved.0, &second.0)
 }
 
-/// Everything both sides say of a case, in the order of the calls.
-pub fn compare(subject: &impl Subject, case: &Case) -> Result<(), Difference> {
+/// the most that an event of the table visits, 127 (R + B); 0 where the table has a reason, for then none is taken.
+pub fn bound(table: &[u32]) -> u64 {
+    let check = second::check(table);
+    let evaluations = Table::of(table).map_or(0, |read| read.count(Section::Rules) + check.b);
+    if check.reason == 0 { WHOLE_TREE * evaluations as u64 } else { 0 }
+}
+
+/// Everything both sides say of a case, in the order of the calls. Gives how near its bound it came.
+pub fn compare(subject: &impl Subject, case: &Case) -> Result<Visited, Difference> {
+    let mut visited = Visited { most: 0, bound: bound(&case.table) };
     let untouched = Lent::of(&case.table);
     let mut table = untouched.clone();
     compare_check(subject, table.words())?;
@@ -97,11 +113,17 @@ pub fn compare(subject: &impl Subject, case: &Case) -> Result<(), Difference> {
         let what = |part: &str| format!("event {number} ({event:08X}), {part}");
         let (room, outcomes) = (case.room, case.lent(number));
         let called = Called { table: table.words(), room, outcomes, event };
-        compare_event(subject, called, &mut states, &what)?;
+        let visits = compare_event(subject, called, &mut states, &what)?;
+        // Two sides that are wrong alike would else not show.
+        let within = visits.min(visited.bound);
+        let bounded = || what("visits, which are at most 127 (R + B)");
+        same(bounded, &[as_word(visits as usize)], &[as_word(within as usize)])?;
+        visited.most = visited.most.max(visits);
         same_lent(&|| what("table"), &table, &untouched)?;
     }
     plays::compare_plays(subject, table.words(), case)?;
-    same_lent(&|| "table after the plays".into(), &table, &untouched)
+    same_lent(&|| "table after the plays".into(), &table, &untouched)?;
+    Ok(visited)
 }
 
 fn compare_check(subject: &impl Subject, table: &[u32]) -> Result<(), Difference> {
@@ -142,13 +164,13 @@ struct Called<'a> {
     event: u32,
 }
 
-/// One event; the states, the proved side's first, are passed on.
+/// One event; the states, the proved side's first, are passed on. Gives its visits.
 fn compare_event(
     subject: &impl Subject,
     Called { table, room, outcomes, event }: Called,
     [state, judged]: &mut [Lent; 2],
     what: &dyn Fn(&str) -> String,
-) -> Result<(), Difference> {
+) -> Result<u64, Difference> {
     let mut trace = Lent::filled(room, TRACE_FILL);
     let mut expected = trace.clone();
     let untouched = Lent::of(outcomes);
@@ -160,7 +182,13 @@ fn compare_event(
         &[proved.number, as_word(proved.count)],
         &[second.answer, as_word(second.count)],
     )?;
+    same(
+        || what("visits"),
+        &visits_words(subject, proved.visits.into()),
+        &visits_words(subject, second.visits),
+    )?;
     same_lent(&|| what("state"), state, judged)?;
     same_lent(&|| what("trace"), &trace, &expected)?;
-    same_lent(&|| what("outcomes"), &lent, &untouched)
+    same_lent(&|| what("outcomes"), &lent, &untouched)?;
+    Ok(second.visits)
 }

@@ -12,6 +12,7 @@ use second::testing::run_fixed;
 
 use crate::differ::compare;
 use crate::generated::told;
+use crate::nearest::Nearest;
 use crate::subject::Proved;
 
 /// Where found cases are kept: in the source, for they are fixed cases.
@@ -24,15 +25,16 @@ pub fn fixed() -> Result<(), String> {
     std::panic::set_hook(Box::new(|_| {}));
     let ran = run_fixed();
     let fixed = ran.len();
-    let mut seen = BTreeSet::new();
+    let (mut seen, mut nearest) = (BTreeSet::new(), Nearest::default());
     for case in ran {
         case.outcome.map_err(|what| format!("fixed case {}: {what}", case.name))?;
         for asked in case.asked.iter().filter(|&asked| seen.insert(case_words(asked))) {
-            compare(&Proved, asked).map_err(|_| told(case.name, asked))?;
+            let visited = compare(&Proved, asked).map_err(|_| told(case.name, asked))?;
+            nearest.meet(visited, || case.name.into());
         }
     }
     let found = replay(&folder())?;
-    println!("{fixed} fixed cases asked {} things: no difference", seen.len());
+    println!("{fixed} fixed cases asked {} things: no difference\n{nearest}", seen.len());
     println!("{found} found cases: no difference");
     Ok(())
 }

@@ -4,7 +4,8 @@ use second::cases::{Case, Cases};
 use second::testing;
 use second::testing::coverage::Coverage;
 
-use crate::differ::{Words, compare};
+use crate::differ::{Words, bound, compare};
+use crate::nearest::Nearest;
 use crate::number;
 use crate::shrink::smallest_difference;
 use crate::subject::Proved;
@@ -15,21 +16,22 @@ pub fn cases(pairs: &[&str]) -> Result<(), String> {
     if !rest.is_empty() {
         return Err("each seed needs its count".into());
     }
-    let mut coverage = Coverage::new();
+    let (mut coverage, mut nearest) = (Coverage::new(), Nearest::default());
     let (mut cases, mut events) = (0, 0);
     for [seed, count] in pairs {
         let (seed, count): (u64, usize) = (number(seed)?, number(count)?);
         for (place, made) in Cases::new(seed).take(count).enumerate() {
-            compare(&Proved, &made.case)
-                .map_err(|_| told(&format!("case {place} of seed {seed}"), &made.case))?;
+            let name = || format!("case {place} of seed {seed}");
+            let visited = compare(&Proved, &made.case).map_err(|_| told(&name(), &made.case))?;
+            nearest.meet(visited, name);
             testing::generated(&made, &mut coverage)
-                .map_err(|what| format!("case {place} of seed {seed}, second program: {what}"))?;
+                .map_err(|what| format!("{}, second program: {what}", name()))?;
             events += made.case.events.len();
         }
         cases += count;
     }
     println!("cases  coverage\n{coverage}");
-    println!("{cases} cases, {events} events: no difference");
+    println!("{cases} cases, {events} events: no difference\n{nearest}");
     match &coverage.missing()[..] {
         [] => Ok(()),
         missing => Err(missing.iter().map(|row| format!("no case met: {row}\n")).collect()),
@@ -41,12 +43,24 @@ pub fn told(name: &str, case: &Case) -> String {
     let (case, difference) = smallest_difference(&Proved, case);
     let Case { table, state, room, events, .. } = &case;
     format!(
-        "{name}, made smaller:\ntable: {}\nstate: {}\nroom: {room}\nevents: {}\noutcomes: {}\n{difference}",
+        "{name}, made smaller:\ntable: {}\nstate: {}\nroom: {room}\nevents: {}\noutcomes: {}\nvisits: {}\n{difference}",
         Words(table),
         Words(state),
         Words(events),
-        outcomes(&case)
+        outcomes(&case),
+        visits(&case)
     )
+}
+
+/// What each event visits by the second program, and the most that the table allows.
+fn visits(case: &Case) -> String {
+    let (mut state, mut trace) = (case.state.clone(), vec![0; case.room]);
+    let mut visits = |number: usize| {
+        let (event, lent) = (case.events[number], case.lent(number));
+        second::step(&case.table, &mut state, &mut trace, event, lent).visits.to_string()
+    };
+    let visits: Vec<_> = (0..case.events.len()).map(&mut visits).collect();
+    format!("{} by the second program, each at most {}", visits.join("; "), bound(&case.table))
 }
 
 /// The outcomes that each event lends, event after event.

@@ -8,10 +8,10 @@ use second::cases::draft::Draft;
 use second::cases::prng::Prng;
 use second::cases::sequences::sequence;
 use second::cases::tables::{Plan, grow};
-use second::program::{played, printed};
+use second::program::{cost, played, printed};
 use second::words::Table;
 
-use crate::bench::{MARKED, example};
+use crate::bench::{MARKED, example, marked_run};
 use crate::programs::{Program, bytes, expected};
 
 /// The events of one of the program's blocks, which has 65,536 bytes.
@@ -48,6 +48,7 @@ pub fn long(kind: &str, folder: &str, command: &[&str]) -> Result<(), String> {
                 events = taken(&table, &events);
                 play_shows(&table, &events)
             }
+            "cost" => cost_shows(&table, &events),
             _ => shows(&table, &events),
         };
         let compared = moves(&table, &events)
@@ -56,7 +57,7 @@ pub fn long(kind: &str, folder: &str, command: &[&str]) -> Result<(), String> {
         compared.map_err(|what| format!("{name}: {what}"))?;
         println!("{kind}, {name}: {} events: the same bytes", events.len());
     }
-    Ok(())
+    if kind == "cost" { costliest_in_the_middle(&program) } else { Ok(()) }
 }
 
 fn draft(table: &[u32]) -> Result<Draft, String> {
@@ -104,6 +105,38 @@ fn shows(table: &[u32], events: &[u32]) -> Result<(), String> {
     Ok(())
 }
 
+/// Fails where every block costs from the fresh state what it costs in its place: few events cost more or less by the state
+/// that a block starts from, so one block is enough. The numbers of the events are left out, for a block's own start at 0.
+fn cost_shows(table: &[u32], events: &[u32]) -> Result<(), String> {
+    let costs = |events: &[u32]| -> Vec<String> {
+        let text = cost(&bytes(table, 0), &bytes(events, 0));
+        let lines = text.lines().filter_map(|line| line.strip_prefix("event "));
+        lines.map(|line| line.trim_start_matches(char::is_numeric).into()).collect()
+    };
+    let whole = costs(events);
+    let mut blocks = whole.chunks(BLOCK).zip(events.chunks(BLOCK)).skip(1);
+    if blocks.any(|(whole, block)| whole != costs(block)) {
+        return Ok(());
+    }
+    Err("no block shows the state it starts from".into())
+}
+
+/// Three blocks of ticks with one request in the second: a program that forgets at a block what was largest so far, or that keeps what
+/// the first block had, names another event at its end.
+fn costliest_in_the_middle(program: &Program) -> Result<(), String> {
+    let mut events = vec![0; 2 * BLOCK + 1];
+    events[BLOCK + 7] = marked_run()[0];
+    let (table, events) = (bytes(&MARKED, 0), bytes(&events, 0));
+    let named =
+        format!("most trace 3 event {0} bound 3\nmost visits 1 event {0} bound 508\n", BLOCK + 7);
+    if !cost(&table, &events).ends_with(&named) {
+        return Err("the second program names another event as the costliest".into());
+    }
+    program.compare(&table, &events)?;
+    println!("cost, the costliest event in the middle: the same bytes");
+    Ok(())
+}
+
 /// Those of the events that are answered 0, which goes by table and event alone; as many as two blocks and the start of a third need.
 fn taken(table: &[u32], events: &[u32]) -> Vec<u32> {
     let mut state = vec![0; herringcart::state_words(table)];
@@ -128,7 +161,8 @@ fn play_shows(table: &[u32], events: &[u32]) -> Result<(), String> {
         let forgetful = [traced(&before), traced(&rest)].concat();
         // The last lines before `taken` are the state's; the count of a forgetful play is right.
         let state = |text: &str| -> Vec<String> {
-            let last = |line: &&str| !line.starts_with("trace ") && !line.starts_with("taken ");
+            let counts = ["trace ", "taken ", "visits "];
+            let last = |line: &&str| !counts.iter().any(|count| line.starts_with(count));
             text.lines().filter(last).map(String::from).collect()
         };
         if forgetful == traced(&whole) && state(&rest) == state(&whole) {

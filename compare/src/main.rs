@@ -6,6 +6,7 @@ mod found;
 mod generated;
 mod hunt;
 mod long;
+mod nearest;
 mod programs;
 mod shrink;
 mod subject;
@@ -18,8 +19,9 @@ const USAGE: &str = "usage: compare cases SEED COUNT [SEED COUNT ...]
        compare hunt SECONDS
        compare run TABLE EVENTS [OUTCOMES]
        compare play TABLE EVENTS
-       compare programs run|play DIR COUNT SEED PROGRAM...
-       compare long run|play DIR PROGRAM...
+       compare cost TABLE EVENTS
+       compare programs run|play|cost DIR COUNT SEED PROGRAM...
+       compare long run|play|cost DIR PROGRAM...
        compare day DIR PROGRAM...
        compare bench
        compare bench-programs PROGRAM...
@@ -48,6 +50,7 @@ fn main() -> ExitCode {
         ["run", table, events] => programs::run(table, events, None),
         ["run", table, events, outcomes] => programs::run(table, events, Some(outcomes)),
         ["play", table, events] => programs::play(table, events),
+        ["cost", table, events] => programs::cost(table, events),
         ["programs", kind, folder, count, seed, ref program @ ..] if !program.is_empty() => {
             programs::programs(kind, folder, count, seed, program)
         }
@@ -67,8 +70,8 @@ fn main() -> ExitCode {
         Ok(()) => ExitCode::SUCCESS,
         Err(message) => {
             eprintln!("compare: {message}");
-            // as the programs that these two stand in for: a file cannot be read
-            let trouble = matches!(args[0], "run" | "play");
+            // as the programs that these stand in for: a file cannot be read
+            let trouble = matches!(args[0], "run" | "play" | "cost");
             if trouble { ExitCode::from(2) } else { ExitCode::FAILURE }
         }
     }

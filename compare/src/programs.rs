@@ -9,7 +9,7 @@ use std::time::Duration;
 
 use herringcart::End;
 use second::cases::{Case, Cases};
-use second::program::{played, printed, words};
+use second::program::{self, played, printed, words};
 
 use crate::differ::Words;
 use crate::number;
@@ -69,10 +69,11 @@ fn played_by_library(table: &[u32], events: &[u32]) -> String {
     let mut state = vec![0; herringcart::state_words(table)];
     let mut trace = vec![0; 2 * check.bound as usize];
     herringcart::make_fresh(table, &mut state);
-    let (mut lines, mut taken) = (String::new(), 0);
+    let (mut lines, mut taken, mut visits) = (String::new(), 0, 0);
     let end = loop {
         let played = herringcart::play(table, &mut state, &mut trace, &events[taken..]);
         taken += played.taken;
+        visits += played.visits;
         for word in &trace[..played.count] {
             let _ = writeln!(lines, "trace {word:08X}");
         }
@@ -87,19 +88,56 @@ fn played_by_library(table: &[u32], events: &[u32]) -> String {
             let _ = writeln!(lines, "{name} {number} {word:08X}");
         }
     }
-    let _ = writeln!(lines, "taken {taken}\nanswer {}", end.number());
+    let _ = writeln!(lines, "taken {taken}\nvisits {visits}\nanswer {}", end.number());
+    lines
+}
+
+/// `cost` over the proved library, in this process.
+pub fn cost(table: &str, events: &str) -> Result<(), String> {
+    let lines = cost_by_library(&read(table)?, &read(events)?);
+    io::stdout().lock().write_all(lines.as_bytes()).map_err(|why| format!("cannot print: {why}"))
+}
+
+fn cost_by_library(table: &[u32], events: &[u32]) -> String {
+    let check = herringcart::check_table(table);
+    if !check.accepted() {
+        return format!("{}\n{}\n", check.reason, check.place);
+    }
+    let mut state = vec![0; herringcart::state_words(table)];
+    let mut trace = vec![0; check.bound as usize];
+    herringcart::make_fresh(table, &mut state);
+    let (mut lines, mut costs) = (String::new(), vec![]);
+    for (number, &event) in events.iter().enumerate() {
+        let answer = herringcart::take_event(table, &mut state, &mut trace, &[], event);
+        let (count, visits) = (answer.count as u32, answer.visits);
+        let _ = writeln!(
+            lines,
+            "event {number} answer {} trace {count} visits {visits}",
+            answer.number
+        );
+        costs.push([count, visits]);
+    }
+    let rules = table[1] & 0xFFFF;
+    let bounds = [check.bound, 127 * (rules + check.bound)];
+    for (at, name) in ["trace", "visits"].into_iter().enumerate() {
+        let most = costs.iter().map(|cost| cost[at]).max().unwrap_or(0);
+        let first = costs.iter().position(|cost| cost[at] == most);
+        let event = first.map_or("none".into(), |number| number.to_string());
+        let _ = writeln!(lines, "most {name} {most} event {event} bound {}", bounds[at]);
+    }
     lines
 }
 
 /// What the second program prints for the bytes of a table and of its events.
 pub type Expected = fn(&[u8], &[u8]) -> String;
 
-/// What `run` and `play` are compared with, by their names.
+/// What `run`, `play` and `cost` are compared with, by their names.
 pub fn expected(name: &str) -> Result<Expected, String> {
     match name {
         "run" => Ok(printed),
         "play" => Ok(played),
-        _ => Err(format!("neither run nor play: {name}")),
+        "cost" => Ok(program::cost),
+        _ => Err(format!("neither run nor play nor cost: {name}")),
     }
 }
 

@@ -4,6 +4,11 @@
 use herringcart::{Answer, Check, Played};
 
 pub trait Subject {
+    /// Whether its visits are compared: a side that was made before Q-10 reports none.
+    fn counts_visits(&self) -> bool {
+        true
+    }
+
     fn check(&self, table: &[u32]) -> Check {
         herringcart::check_table(table)
     }

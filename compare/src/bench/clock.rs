@@ -6,10 +6,14 @@ use herringcart::{Answer, Check};
 use crate::subject::Subject;
 use crate::yardstick;
 
-/// A fresh state is not timed and stays the proved one. The base's calls are all good.
+/// A fresh state is not timed and stays the proved one. The base's calls are all good, and nobody counts visits.
 pub struct Clock;
 
 impl Subject for Clock {
+    fn counts_visits(&self) -> bool {
+        false
+    }
+
     fn check(&self, table: &[u32]) -> Check {
         match yardstick::check_table(table) {
             Ok(bound) => Check { reason: 0, place: 0, bound },
@@ -30,8 +34,8 @@ impl Subject for Clock {
         event: u32,
     ) -> Answer {
         match yardstick::take_event(table, state, trace, event) {
-            Ok(count) => Answer { number: 0, count },
-            Err(number) => Answer { number, count: 0 },
+            Ok(count) => Answer { number: 0, count, visits: 0 },
+            Err(number) => Answer { number, count: 0, visits: 0 },
         }
     }
 }

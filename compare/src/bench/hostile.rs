@@ -8,6 +8,9 @@ use super::wide::{self, LEAVES, tree};
 /// A list's most items, and the most lists.
 const FULL: usize = 255;
 
+/// The most lists of as many items that B leaves room for.
+pub const LISTS: u32 = 16;
+
 /// A table that is slow, and an event that is slow on it if it is accepted.
 pub struct Hostile {
     pub name: String,
@@ -48,6 +51,7 @@ pub fn all() -> Vec<Hostile> {
         plain("expressions, the last 8 deep", expressions(8)),
         plain("expressions, and rules beside a row of seven", both()),
         asked("255 lists chosen at once, last one first", chosen()),
+        asked("4,080 rule items, the most visits", rule_items(same_rules(repeated()))),
         asked("4,080 rule items of expressions 7 deep", rule_items(expressions(7))),
         asked("4,080 rule items, no branch shared", rule_items(unshared())),
         asked("4,080 rule items, conditions at or above", rule_items(leveled(expressions(7)))),
@@ -274,6 +278,19 @@ fn undefined(mut draft: Draft) -> Draft {
     draft
 }
 
+/// One rule on a whole tree of XOR that is seven words: each joins the one before with itself, the first is a condition on port 1.
+pub fn repeated() -> Draft {
+    let mut draft = least();
+    let leaf = Expression::Condition(Condition { port: 1, ..Default::default() });
+    let join = |below| {
+        let operator = Operator { kind: expression::XOR, left: below, right: below };
+        Expression::Operator(operator)
+    };
+    draft.expressions = [leaf].into_iter().chain((0..LEVELS - 1).map(join)).collect();
+    draft.rules = vec![rule(LEVELS - 1, NO_LIST, NO_LIST)];
+    draft
+}
+
 /// As many rules as there can be, each as the only one there is.
 fn same_rules(mut draft: Draft) -> Draft {
     draft.rules.resize(256, draft.rules[0]);
@@ -283,10 +300,10 @@ fn same_rules(mut draft: Draft) -> Draft {
 /// One event starts 16 lists of 255 rule items each, and each item visits its
 /// rule's expression, the whole of it where that is a tree of XOR: the most that
 /// a run can evaluate, for a rule item without lists costs one trace word.
-fn rule_items(mut draft: Draft) -> Draft {
-    const LISTS: u32 = 16;
+pub fn rule_items(mut draft: Draft) -> Draft {
     // The first rules start the lists, the others are in the lists' items.
-    let item = |i| Item::naming(item::RULE, LISTS + i % (256 - LISTS));
+    let others = draft.rules.len() as u32 - LISTS;
+    let item = |i| Item::naming(item::RULE, LISTS + i % others);
     draft.items = (0..FULL as u32).map(item).collect();
     draft.lists = vec![List { first: 0, count: 255, ..Default::default() }; LISTS as usize];
     for (list, rule) in (0..LISTS).zip(&mut draft.rules) {

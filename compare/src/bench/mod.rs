@@ -13,6 +13,7 @@ mod sized;
 mod tests;
 mod times;
 mod timing;
+mod visits;
 mod wide;
 
 use std::fs;
@@ -25,8 +26,14 @@ pub use clock::Clock;
 pub use day::{bench_day, day};
 use hostile::Hostile;
 pub use programs::programs;
-use times::Times;
+use times::{Run, Times};
 use timing::{Work, best};
+
+/// The names of the columns, each at its width.
+const ROWS: &str =
+    " words     B   trace   visits    before    proved yardstick    second    p/b    p/y    p/s";
+const HOSTILE_ROWS: &str =
+    " words reason   visits     check    before     event yardstick    second    p/b    p/y";
 
 /// Hostile tables stay under 2 ms a call.
 const MOST: f64 = 2_000_000.0;
@@ -54,15 +61,14 @@ fn target() -> PathBuf {
 }
 
 pub fn bench() -> Result<(), String> {
-    println!("ns per event, best of five, the sides in turn; trace words per event; before is the");
+    println!(
+        "ns per event, best of five, the sides in turn; trace words and visits per event; before is the"
+    );
     println!(
         "proved code of the commit that tools/bench was given; p/b, p/y and p/s are the proved"
     );
     println!("code's time by before's, the yardstick's and the second program's");
-    println!(
-        "{:<44}{:>6}{:>6}{:>8}{:>10}{:>10}{:>10}{:>10}{:>7}{:>7}{:>7}",
-        "", "words", "B", "trace", "before", "proved", "yardstick", "second", "p/b", "p/y", "p/s"
-    );
+    println!("{:<44}{ROWS}", "");
     row("marked table, its run", &MARKED, &marked_run(), &[])?;
     match example("truck") {
         Some([table, events]) => row("truck, its run", &table, &events, &[])?,
@@ -86,12 +92,15 @@ pub fn bench() -> Result<(), String> {
         let name = format!("64 conditions, {}", wide.name);
         row(&name, &draft.words(), &[wide::request(&draft)], &[])?;
     }
+    visits::prices()?;
     hostile_tables()
 }
 
-fn times(name: &str, table: &[u32], events: &[u32], outcomes: &[u32]) -> Result<Times, String> {
-    Times::of(before::LINKED.as_ref(), &Clock, table, events, outcomes)
-        .map_err(|what| format!("{name}: {what}"))
+/// The times of runs that take turns.
+fn times<const RUNS: usize>(name: &str, runs: [Run; RUNS]) -> Result<[Times; RUNS], String> {
+    let times = Times::of(before::LINKED.as_ref(), &Clock, &runs);
+    let times = times.map_err(|what| format!("{name}: {what}"))?;
+    times.try_into().map_err(|_| format!("{name}: not a time for each run"))
 }
 
 /// One line of an accepted table, the outcomes lent with each event.
@@ -100,14 +109,14 @@ fn row(name: &str, table: &[u32], events: &[u32], outcomes: &[u32]) -> Result<()
     if check.reason != 0 {
         return Err(format!("{name}: {check:?}"));
     }
-    let times = times(name, table, events, outcomes)?;
+    let [times] = times(name, [Run::fresh(table, events, outcomes)])?;
     let [before, by_before, why] = times.beside(&times.before, 1.0, 0);
     let [yardstick, by_yardstick, why_too] = times.beside(&times.yardstick, 1.0, 0);
-    let Times { proved, second, written, .. } = times;
-    let (words, b, trace) = (table.len(), check.b, written as f64 / events.len() as f64);
-    let by_second = proved / second;
+    let Times { proved, second, written, visits, .. } = times;
+    let (words, b, by_second) = (table.len(), check.b, proved / second);
+    let [trace, visits] = [written as f64, visits as f64].map(|all| all / events.len() as f64);
     println!(
-        "{name:<44}{words:>6}{b:>6}{trace:>8.1}{before:>10}{proved:>10.0}{yardstick:>10}\
+        "{name:<44}{words:>6}{b:>6}{trace:>8.1}{visits:>9.1}{before:>10}{proved:>10.0}{yardstick:>10}\
          {second:>10.0}{by_before:>7}{by_yardstick:>7}{by_second:>7.2}{why}{why_too}"
     );
     Ok(())
@@ -116,10 +125,7 @@ fn row(name: &str, table: &[u32], events: &[u32], outcomes: &[u32]) -> Result<()
 /// The tables made to be slow, by the proved check and by event.
 fn hostile_tables() -> Result<(), String> {
     println!("hostile tables: microseconds a call, best of five, the sides in turn");
-    println!(
-        "{:<44}{:>6}{:>7}{:>10}{:>10}{:>10}{:>10}{:>10}{:>7}{:>7}",
-        "", "words", "reason", "check", "before", "event", "yardstick", "second", "p/b", "p/y"
-    );
+    println!("{:<44}{HOSTILE_ROWS}", "");
     let (mut slowest, mut accepted): (f64, _) = (0.0, (0.0, String::new()));
     for hostile in hostile::all() {
         let (reason, time) = hostile_row(&hostile)?;
@@ -137,21 +143,21 @@ fn hostile_tables() -> Result<(), String> {
 /// check and event.
 fn hostile_row(hostile: &Hostile) -> Result<(u32, f64), String> {
     let (name, words) = (&hostile.name, hostile.draft.words());
-    let times = times(name, &words, &[hostile.event], &[])?;
+    let [times] = times(name, [Run::fresh(&words, &[hostile.event], &[])])?;
     let mut check: Work = Box::new(|| {
         black_box(herringcart::check_table(black_box(&words)));
         1
     });
-    let [check] = best([Some(&mut check)]);
+    let check = best(&mut [Some(&mut check)])[0];
     let [before, by_before, why] = times.beside(&times.before, 1000.0, 1);
     let [yardstick, by_yardstick, why_too] = times.beside(&times.yardstick, 1000.0, 1);
     let [checked, event, second] = [check, times.proved, times.second].map(|ns| ns / 1000.0);
-    let (length, reason) = (words.len(), second::check(&words).reason);
+    let (length, reason, visits) = (words.len(), second::check(&words).reason, times.visits);
     let proved = check.max(times.proved);
     let flag = if proved > MOST { " OVER" } else { "" };
     println!(
-        "{name:<44}{length:>6}{reason:>7}{checked:>10.1}{before:>10}{event:>10.1}{yardstick:>10}\
-         {second:>10.1}{by_before:>7}{by_yardstick:>7}{flag}{why}{why_too}"
+        "{name:<44}{length:>6}{reason:>7}{visits:>9}{checked:>10.1}{before:>10}{event:>10.1}\
+         {yardstick:>10}{second:>10.1}{by_before:>7}{by_yardstick:>7}{flag}{why}{why_too}"
     );
     Ok((reason, proved))
 }

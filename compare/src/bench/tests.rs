@@ -7,6 +7,7 @@ use second::cases::draft::Draft;
 use second::words::*;
 
 use super::*;
+use crate::differ::bound;
 use crate::subject::{Proved, Subject};
 
 /// Has another place for a refused table and another answer for a bus-off.
@@ -34,8 +35,8 @@ impl Subject for Other {
 /// What is said where there is no time, else nothing: of the yardstick, and of
 /// the code before in the same words.
 fn said(table: &[u32], events: &[u32]) -> String {
-    let times =
-        Times::of(Some(&Other), &Other, table, events, &[]).expect("the proved code is right");
+    let runs = [Run::fresh(table, events, &[])];
+    let times = &Times::of(Some(&Other), &Other, &runs).expect("the proved code is right")[0];
     let [time, ratio, why] = times.beside(&times.yardstick, 1.0, 0);
     assert_eq!((time == "-", ratio == "-"), (!why.is_empty(), !why.is_empty()));
     let before = times.beside(&times.before, 1.0, 0);
@@ -62,7 +63,8 @@ fn a_clock_that_refuses_a_table_otherwise_has_no_time() {
 
 #[test]
 fn without_a_commit_there_is_no_time_before_and_nothing_is_said() {
-    let times = Times::of(None::<&Proved>, &Proved, &MARKED, &marked_run(), &[]).expect("right");
+    let runs = [Run::fresh(&MARKED, &marked_run(), &[])];
+    let times = &Times::of(None::<&Proved>, &Proved, &runs).expect("right")[0];
     assert_eq!(times.beside(&times.before, 1.0, 0), ["-", "-", ""]);
     assert!(times.yardstick.is_ok());
 }
@@ -83,6 +85,15 @@ fn after_lending(draft: &Draft, event: u32, outcomes: &[u32]) -> (Vec<u32>, Vec<
     assert!(answer.done(), "{answer:?}");
     trace.truncate(answer.count);
     (state, trace)
+}
+
+/// What an event on a fresh state visits.
+fn visits_after(draft: &Draft, event: u32) -> u32 {
+    let words = draft.words();
+    let mut state = vec![0; herringcart::state_words(&words)];
+    assert_eq!(herringcart::make_fresh(&words, &mut state), 0);
+    let mut trace = vec![0; herringcart::check_table(&words).bound as usize];
+    herringcart::take_event(&words, &mut state, &mut trace, &[], event).visits
 }
 
 /// The value of an expression on a fresh state, and the words that are visited
@@ -149,7 +160,7 @@ fn of_rule_items() -> Vec<Hostile> {
 
 #[test]
 fn each_of_4080_rule_items_is_reached_and_evaluated() {
-    assert_eq!(of_rule_items().len(), 9);
+    assert_eq!(of_rule_items().len(), 10);
     for Hostile { name, draft, event } in of_rule_items() {
         let (_, trace) = after(&draft, event);
         let mut expected = vec![];
@@ -168,10 +179,43 @@ fn each_of_4080_rule_items_is_reached_and_evaluated() {
 
 #[test]
 fn rule_items_visit_as_many_words_as_their_row_says() {
-    for Hostile { name, draft, .. } in of_rule_items() {
+    for Hostile { name, draft, event } in of_rule_items() {
         let visits = if name.contains("first") { 7 } else { 127 };
         let roots = draft.rules.iter().map(|rule| rule.expression as usize);
         assert!(roots.into_iter().all(|root| visited(&draft, root).1 == visits), "{name}");
+        // All rules are arbitrated.
+        assert_eq!(visits_after(&draft, event), visits as u32 * (256 + 4080), "{name}");
+    }
+}
+
+#[test]
+fn the_row_of_the_most_visits_comes_near_the_bound() {
+    let rows = of_rule_items();
+    let row = rows.iter().find(|row| row.name.ends_with("the most visits")).expect("the row");
+    let words = row.draft.words();
+    assert_eq!(
+        (row.draft.expressions.len(), row.draft.rules.len(), row.draft.lists.len()),
+        (7, 256, 16)
+    );
+    assert_eq!(bound(&words), herringcart::MOST_VISITS.into());
+    assert_eq!(visits_after(&row.draft, row.event), 550_672);
+}
+
+#[test]
+fn two_events_that_give_the_price_of_a_visit_differ_in_their_visits_alone() {
+    for visits::Priced { name, fewer, more } in visits::all() {
+        let [(_, less_trace), (_, more_trace)] =
+            [&fewer, &more].map(|row| after(&row.draft, row.event));
+        let [less, most] = [&fewer, &more].map(|row| visits_after(&row.draft, row.event));
+        // 17 rules are arbitrated and 4,080 items run; b, which is the result, may differ.
+        let each = if name.starts_with("AND") { 7 } else { 63 };
+        assert_eq!((less, most), (4097 * each, 4097 * 127), "{name}");
+        let without_results = |trace: &[u32]| trace.iter().map(|word| word >> 16).collect();
+        let [left, right]: [Vec<u32>; 2] = [&less_trace, &more_trace].map(|t| without_results(t));
+        assert_eq!((left.len(), &left), (4096, &right), "{name}");
+        let [left, right] = [&fewer, &more].map(|row| row.draft.words());
+        let differ = left.iter().zip(&right).filter(|(left, right)| left != right).count();
+        assert!(left.len() == right.len() && differ <= 17, "{name}: {differ} words");
     }
 }
 

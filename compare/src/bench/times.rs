@@ -13,41 +13,34 @@ use crate::subject::{Proved, Subject};
 /// which is nothing where there is no such side.
 pub type Time = Result<f64, String>;
 
-/// Of each side, and how many trace words a run writes.
+/// Of each side, and how many trace words a run writes and expression words it visits.
 pub struct Times {
     pub proved: f64,
     pub before: Time,
     pub yardstick: Time,
     pub second: f64,
     pub written: usize,
+    pub visits: u64,
 }
 
 impl Times {
-    /// Of a run from a fresh state, again and again, each event with the same
-    /// outcomes. The proved code, the one before and the clock are first held
-    /// against the second program on this very run.
+    /// Of runs from a fresh state, again and again; all of them take turns. The
+    /// proved code, the one before and the clock are first held against the
+    /// second program on these very runs.
     pub fn of(
         before: Option<&impl Subject>,
         clock: &impl Subject,
-        table: &[u32],
-        events: &[u32],
-        outcomes: &[u32],
-    ) -> Result<Self, Difference> {
-        let run = Run::fresh(table, events, outcomes);
-        compare(&Proved, &run.case)?;
-        let mut proved = run.by(|t, s, r, o, e| Proved.step(t, s, r, o, e).count);
-        let mut second = run.by(|t, s, r, o, e| second::step(t, s, r, e, o).count);
-        let mut before = before.ok_or_else(String::new).and_then(|side| run.held("before", side));
-        let mut clock = run.held("yardstick", clock);
-        let times =
-            best([Some(&mut proved), before.as_mut().ok(), clock.as_mut().ok(), Some(&mut second)]);
-        Ok(Times {
-            proved: times[0],
-            before: before.map(|_| times[1]),
-            yardstick: clock.map(|_| times[2]),
-            second: times[3],
-            written: run.written(),
-        })
+        runs: &[Run],
+    ) -> Result<Vec<Self>, Difference> {
+        for run in runs {
+            compare(&Proved, &run.case)?;
+        }
+        let mut all: Vec<_> = runs.iter().map(|run| Sides::of(run, before, clock)).collect();
+        let mut works: Vec<_> = all.iter_mut().flat_map(Sides::works).collect();
+        let times = best(&mut works);
+        let (times, _) = times.as_chunks();
+        let timed = runs.iter().zip(all).zip(times);
+        Ok(timed.map(|((run, sides), &times)| sides.timed(run, times)).collect())
     }
 
     /// Another side's time, in so many of the unit's nanoseconds, the proved
@@ -63,15 +56,47 @@ impl Times {
     }
 }
 
+/// A run by each side that computes what the second program does.
+struct Sides<'a> {
+    proved: Work<'a>,
+    before: Result<Work<'a>, String>,
+    clock: Result<Work<'a>, String>,
+    second: Work<'a>,
+}
+
+impl<'a> Sides<'a> {
+    fn of(run: &'a Run, before: Option<&'a impl Subject>, clock: &'a impl Subject) -> Self {
+        Sides {
+            proved: run.by(|t, s, r, o, e| Proved.step(t, s, r, o, e).count),
+            before: before.ok_or_else(String::new).and_then(|side| run.held("before", side)),
+            clock: run.held("yardstick", clock),
+            second: run.by(|t, s, r, o, e| second::step(t, s, r, e, o).count),
+        }
+    }
+
+    fn works(&mut self) -> [Option<&mut Work<'a>>; 4] {
+        let (before, clock) = (self.before.as_mut().ok(), self.clock.as_mut().ok());
+        [Some(&mut self.proved), before, clock, Some(&mut self.second)]
+    }
+
+    /// With the times of its works.
+    fn timed(self, run: &Run, [proved, before, yardstick, second]: [f64; 4]) -> Times {
+        let (written, visits) = run.counted();
+        let (before, yardstick) = (self.before.map(|_| before), self.clock.map(|_| yardstick));
+        Times { proved, before, yardstick, second, written, visits }
+    }
+}
+
 /// A run, and the words that are lent for it: the same to all sides, for where
 /// words stand can change a time.
-struct Run {
+pub struct Run {
     case: Case,
     state_and_trace: RefCell<[Vec<u32>; 2]>,
 }
 
 impl Run {
-    fn fresh(table: &[u32], events: &[u32], outcomes: &[u32]) -> Self {
+    /// From a fresh state, each event with the same outcomes.
+    pub fn fresh(table: &[u32], events: &[u32], outcomes: &[u32]) -> Self {
         let mut state = vec![0; herringcart::state_words(table)];
         second::fresh(table, &mut state);
         let (room, table, events) = (second::check(table).b, table.to_vec(), events.to_vec());
@@ -104,13 +129,16 @@ impl Run {
         Ok(self.by(|t, s, r, o, e| side.step(t, s, r, o, e).count))
     }
 
-    fn written(&self) -> usize {
+    /// The trace words and the visits of the run, by the second program.
+    fn counted(&self) -> (usize, u64) {
         let [state, trace] = &mut *self.state_and_trace.borrow_mut();
         state.copy_from_slice(&self.case.state);
-        let calls = self.case.events.iter().zip(&self.case.outcomes);
-        let step = |(&event, outcomes): (&u32, &Vec<u32>)| {
-            second::step(&self.case.table, state, trace, event, outcomes).count
-        };
-        calls.map(step).sum()
+        let (mut written, mut visits) = (0, 0);
+        for (&event, outcomes) in self.case.events.iter().zip(&self.case.outcomes) {
+            let stepped = second::step(&self.case.table, state, trace, event, outcomes);
+            written += stepped.count;
+            visits += stepped.visits;
+        }
+        (written, visits)
     }
 }

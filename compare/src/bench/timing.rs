@@ -12,8 +12,8 @@ pub type Work<'a> = Box<dyn FnMut() -> usize + 'a>;
 
 /// Nanoseconds for one of the calls that each makes; without end for none. They
 /// take turns, so that a machine that grows slower does so for all alike.
-pub fn best<const SIDES: usize>(mut works: [Option<&mut Work>; SIDES]) -> [f64; SIDES] {
-    let mut least = [f64::INFINITY; SIDES];
+pub fn best(works: &mut [Option<&mut Work>]) -> Vec<f64> {
+    let mut least = vec![f64::INFINITY; works.len()];
     for _ in 0..REPEATS {
         for (work, least) in works.iter_mut().zip(&mut least) {
             let Some(work) = work else { continue };

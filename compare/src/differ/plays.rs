@@ -5,7 +5,7 @@ use herringcart::{End, Played};
 use second::cases::Case;
 use second::stream::{PLAYED, TRACE_FILL, play_rooms};
 
-use super::{Difference, Lent, as_word, same, same_lent};
+use super::{Difference, Lent, as_word, same, same_lent, visits_words};
 use crate::subject::Subject;
 
 /// How many of a case's events its plays are cut at, unless it is one of those that are cut at every event; each cut is two plays.
@@ -89,6 +89,11 @@ impl<S: Subject> Plays<'_, S> {
             || what("answer, taken, count"),
             &[proved.end.number(), as_word(proved.taken), as_word(proved.count)],
             &[second.answer, as_word(second.taken), as_word(second.count)],
+        )?;
+        same(
+            || what("visits"),
+            &visits_words(self.subject, proved.visits),
+            &visits_words(self.subject, second.visits),
         )?;
         same_lent(&|| what("state"), state, judged)?;
         same_lent(&|| what("trace"), &trace, &expected)?;

@@ -1,10 +1,12 @@
 //! A side made wrong on purpose is found and its case made small.
 
 use herringcart::{Answer, End, Played};
+use second::cases::draft::Draft;
 use second::cases::{Case, Cases};
 use second::words::*;
 
 use super::{LIMIT, smallest, smallest_difference};
+use crate::bench::MARKED;
 use crate::differ::compare;
 use crate::subject::{Proved, Subject};
 
@@ -225,4 +227,133 @@ impl Subject for LaysOver {
 fn words_laid_over_earlier_ones_are_found() {
     let small = found(&LaysOver);
     assert!(small.events.len() <= 3, "{small:X?}");
+}
+
+/// The visits of the rules that arbitration evaluates, alone: of the table without its lists, which `alter` may change further.
+fn arbitrated(table: &[u32], state: &[u32], event: u32, alter: impl Fn(&mut Draft)) -> u32 {
+    let Some(read) = Table::of(table).filter(|_| herringcart::check_table(table).accepted()) else {
+        return 0;
+    };
+    let mut draft = Draft { lists: vec![], items: vec![], ..Draft::of(&read) };
+    for rule in &mut draft.rules {
+        (rule.true_list, rule.false_list) = (NO_LIST, NO_LIST);
+    }
+    alter(&mut draft);
+    herringcart::take_event(&draft.words(), &mut state.to_vec(), &mut [], &[], event).visits
+}
+
+/// Counts both sides of every operator, of the rules that arbitration evaluates.
+struct CountsSkipped;
+
+impl Subject for CountsSkipped {
+    fn step(
+        &self,
+        table: &[u32],
+        state: &mut [u32],
+        trace: &mut [u32],
+        outcomes: &[u32],
+        event: u32,
+    ) -> Answer {
+        // Nothing settles an XOR.
+        let whole = arbitrated(table, state, event, |draft| {
+            for expression in &mut draft.expressions {
+                if let Expression::Operator(operator) = expression
+                    && operator.kind != expression::NOT
+                {
+                    operator.kind = expression::XOR;
+                }
+            }
+        });
+        let answer = herringcart::take_event(table, state, trace, outcomes, event);
+        let visits = if answer.done() { answer.visits.max(whole) } else { answer.visits };
+        Answer { visits, ..answer }
+    }
+}
+
+#[test]
+fn skipped_side_that_is_counted_is_found_and_its_case_made_small() {
+    let small = found(&CountsSkipped);
+    assert_eq!(small.events.len(), 1, "{small:X?}");
+    // A port, a condition, an operator of which it is both sides, and a rule.
+    assert_eq!(small.table.len(), 7, "{small:X?}");
+}
+
+/// Forgets what rule items visit.
+struct ForgetsRuleItems;
+
+impl Subject for ForgetsRuleItems {
+    fn step(
+        &self,
+        table: &[u32],
+        state: &mut [u32],
+        trace: &mut [u32],
+        outcomes: &[u32],
+        event: u32,
+    ) -> Answer {
+        let visits = arbitrated(table, state, event, |_| {});
+        let answer = herringcart::take_event(table, state, trace, outcomes, event);
+        if answer.done() { Answer { visits, ..answer } } else { answer }
+    }
+}
+
+#[test]
+fn rule_items_that_are_not_counted_are_found_and_their_case_made_small() {
+    let small = found(&ForgetsRuleItems);
+    assert_eq!(small.events.len(), 1, "{small:X?}");
+    // A port, a condition, two rules, a list and its item.
+    assert_eq!(small.table.len(), 9, "{small:X?}");
+}
+
+/// Reports a visit of an event that another owner's thing is asked by.
+struct VisitsRefused;
+
+impl Subject for VisitsRefused {
+    fn step(
+        &self,
+        table: &[u32],
+        state: &mut [u32],
+        trace: &mut [u32],
+        outcomes: &[u32],
+        event: u32,
+    ) -> Answer {
+        let answer = herringcart::take_event(table, state, trace, outcomes, event);
+        Answer { visits: answer.visits + u32::from(answer.number == 6), ..answer }
+    }
+}
+
+#[test]
+fn visit_of_a_refused_event_is_found_and_its_case_made_small() {
+    let small = found(&VisitsRefused);
+    // Two ports, one of another owner, a condition and a rule.
+    assert_eq!((small.events.len(), small.table.len()), (1, 7), "{small:X?}");
+}
+
+/// Of a play reports what its last event visits.
+struct VisitsOfTheLast;
+
+impl Subject for VisitsOfTheLast {
+    fn play(&self, table: &[u32], state: &mut [u32], trace: &mut [u32], events: &[u32]) -> Played {
+        let before = state.to_vec();
+        let played = herringcart::play(table, state, trace, events);
+        let Some(last) = played.taken.checked_sub(1) else { return played };
+        let (mut state, mut trace) = (before, trace.to_vec());
+        let but_one = herringcart::play(table, &mut state, &mut trace, &events[..last]);
+        Played { visits: played.visits - but_one.visits, ..played }
+    }
+}
+
+#[test]
+fn play_that_forgets_earlier_visits_is_found_and_its_case_made_small() {
+    let small = found(&VisitsOfTheLast);
+    // The second event may visit nothing.
+    assert_eq!((small.events.len(), small.table.len()), (2, 6), "{small:X?}");
+}
+
+#[test]
+fn what_is_told_of_a_case_says_its_visits() {
+    let events = vec![0x1100_0500, 0, 0x1200_0500];
+    let case =
+        Case { table: MARKED.to_vec(), state: vec![0; 4], room: 3, events, ..Default::default() };
+    let told = crate::generated::told("name", &case);
+    assert!(told.contains("\nvisits: 1; 0; 0 by the second program, each at most 508\n"), "{told}");
 }

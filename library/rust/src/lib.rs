@@ -22,6 +22,8 @@
 //! let answer = herringcart::take_event(&table, &mut state, &mut trace, &[], 0x1100_0500);
 //! assert_eq!(answer.number, 0);
 //! assert_eq!(trace[..answer.count], [0xF100_0000, 0x4100_0002, 0x0100_1234]);
+//! // Its rule has one condition.
+//! assert_eq!(answer.visits, 1);
 //! ```
 #![no_std]
 
@@ -43,6 +45,10 @@ impl Check {
     }
 }
 
+/// The most expression words that an event can visit: 127 times R + B, for a
+/// table with as many rules and as large a B as there can be.
+pub const MOST_VISITS: u32 = 127 * (256 + 4096);
+
 /// What an event is answered with.
 #[derive(Clone, Copy, PartialEq, Eq, Debug)]
 pub struct Answer {
@@ -53,6 +59,13 @@ pub struct Answer {
     pub number: u32,
     /// How many words were written at the front of the trace; 0 if refused.
     pub count: usize,
+    /// How many expression words were visited, at most `MOST_VISITS`; 0 if
+    /// refused. A condition is 1. An operator is 1 and its left side's visits,
+    /// and its right side's where the left has not settled it; NOT is 1 and its
+    /// left side's. Every evaluation counts each time, of arbitrated rules and of
+    /// rule items. The tests for ports that are arbitrated or undefined are no
+    /// evaluation and do not count, though they take time.
+    pub visits: u32,
 }
 
 impl Answer {
@@ -96,6 +109,9 @@ pub struct Played {
     pub taken: usize,
     /// How many words they wrote at the front of the trace.
     pub count: usize,
+    /// How many expression words they visited together, modulo 2^64: exact for
+    /// up to 2^64 / `MOST_VISITS` events.
+    pub visits: u64,
 }
 
 mod c {
@@ -133,6 +149,7 @@ mod c {
             outcome_words: usize,
             event: u32,
             count: *mut usize,
+            visits: *mut u32,
         ) -> u32;
         pub fn herringcart_play(
             table: *const u32,
@@ -145,6 +162,7 @@ mod c {
             event_words: usize,
             taken: *mut usize,
             count: *mut usize,
+            visits: *mut u64,
         ) -> u32;
     }
 }
@@ -153,8 +171,8 @@ mod c {
 // valid for its whole length, which is at most isize::MAX bytes; what is lent
 // as &mut overlaps nothing else; and the borrows last for the whole call.
 
-// The calls always write these; were one not to, no 0 may hide it.
-const UNWRITTEN: (usize, u32) = (usize::MAX, u32::MAX);
+// The calls always write what else they give, into locals that start as the
+// largest number: were one not to, no 0 may hide it.
 
 /// The version that this wrapper's declarations are of, as `version` gives the
 /// archive's.
@@ -176,7 +194,7 @@ pub fn version() -> u32 {
 
 /// Checks a table: its first reason and place, or 0 and B.
 pub fn check_table(table: &[u32]) -> Check {
-    let (mut place, mut bound) = UNWRITTEN;
+    let (mut place, mut bound) = (usize::MAX, u32::MAX);
     // SAFETY: see above; place and bound are locals of their own.
     let reason =
         unsafe { c::herringcart_check_table(table.as_ptr(), table.len(), &mut place, &mut bound) };
@@ -206,7 +224,8 @@ pub fn check_state(table: &[u32], state: &[u32]) -> u32 {
 }
 
 /// Takes one event. Done, the state is the next one and the trace's first
-/// `count` words are new; refused, no word has changed.
+/// `count` words are new; refused, no word has changed, and `count` and `visits`
+/// are 0.
 ///
 /// `outcomes` says how its outside calls end, 0 good and 1 failed. In a table of
 /// edition 2 every outside call takes the next word, in the order in which they
@@ -219,8 +238,8 @@ pub fn take_event(
     outcomes: &[u32],
     event: u32,
 ) -> Answer {
-    let (mut count, _) = UNWRITTEN;
-    // SAFETY: see above; count is a local of its own.
+    let (mut count, mut visits) = (usize::MAX, u32::MAX);
+    // SAFETY: see above; count and visits are locals of their own.
     let number = unsafe {
         c::herringcart_take_event(
             table.as_ptr(),
@@ -233,9 +252,10 @@ pub fn take_event(
             outcomes.len(),
             event,
             &mut count,
+            &mut visits,
         )
     };
-    Answer { number, count }
+    Answer { number, count, visits }
 }
 
 /// Plays events one after the other, table and state checked once, until none
@@ -244,8 +264,8 @@ pub fn take_event(
 /// trace; the event that ended it changed nothing. A play that ends with
 /// `TraceFull` is resumed with `&events[taken..]`.
 pub fn play(table: &[u32], state: &mut [u32], trace: &mut [u32], events: &[u32]) -> Played {
-    let (mut taken, mut count) = (UNWRITTEN.0, UNWRITTEN.0);
-    // SAFETY: see above; taken and count are locals of their own.
+    let (mut taken, mut count, mut visits) = (usize::MAX, usize::MAX, u64::MAX);
+    // SAFETY: see above; taken, count and visits are locals of their own.
     let number = unsafe {
         c::herringcart_play(
             table.as_ptr(),
@@ -258,6 +278,7 @@ pub fn play(table: &[u32], state: &mut [u32], trace: &mut [u32], events: &[u32])
             events.len(),
             &mut taken,
             &mut count,
+            &mut visits,
         )
     };
     let end = match number {
@@ -270,5 +291,5 @@ pub fn play(table: &[u32], state: &mut [u32], trace: &mut [u32], events: &[u32])
         6 => End::NotItsOwner,
         _ => unreachable!("the call gives no other number, which is proved"),
     };
-    Played { end, taken, count }
+    Played { end, taken, count, visits }
 }

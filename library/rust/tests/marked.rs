@@ -22,7 +22,7 @@ fn take(state: &mut [u32], event: u32) -> (Answer, [u32; 3]) {
 
 fn quiet(state: &mut [u32], events: &[u32]) {
     for &event in events {
-        assert_eq!(take(state, event), (Answer { number: 0, count: 0 }, [UNTOUCHED; 3]));
+        assert_eq!(take(state, event), (Answer { number: 0, count: 0, visits: 0 }, [UNTOUCHED; 3]));
     }
 }
 
@@ -34,7 +34,7 @@ fn the_marked_run() {
     assert_eq!(make_fresh(&TABLE, &mut state), 0);
     assert_eq!((state, check_state(&TABLE, &state)), ([0; 4], 0));
     let (answer, trace) = take(&mut state, REQUEST);
-    assert_eq!(answer, Answer { number: 0, count: 3 });
+    assert_eq!(answer, Answer { number: 0, count: 3, visits: 1 });
     assert_eq!(trace, [0xF100_0000, 0x4100_0002, 0x0100_1234]);
     assert_eq!(state, [0x8140_0000, 0, 0x4000_0000, 0x8000_0000]);
     quiet(&mut state, &[TICK]);
@@ -62,11 +62,14 @@ fn heard_ends_the_check() {
 fn the_marked_refusals_change_nothing() {
     let mut state = [0; 4];
     for (event, number) in [(0x2100_0500, 4), (0x2100_0000, 5), (0x1200_0500, 6)] {
-        assert_eq!(take(&mut state, event), (Answer { number, count: 0 }, [UNTOUCHED; 3]));
+        assert_eq!(
+            take(&mut state, event),
+            (Answer { number, count: 0, visits: 0 }, [UNTOUCHED; 3])
+        );
     }
     let mut short = [UNTOUCHED; 2];
     let answer = take_event(&TABLE, &mut state, &mut short, &[], REQUEST);
-    assert_eq!((answer, short), (Answer { number: 3, count: 0 }, [UNTOUCHED; 2]));
+    assert_eq!((answer, short), (Answer { number: 3, count: 0, visits: 0 }, [UNTOUCHED; 2]));
     assert_eq!(take_event(&TABLE[..11], &mut state, &mut short, &[], REQUEST).number, 1);
     assert_eq!(take_event(&TABLE, &mut state[..3], &mut short, &[], REQUEST).number, 2);
     assert_eq!(state, [0; 4]);
@@ -91,7 +94,7 @@ fn the_run_played_until_a_refused_event() {
     let day = [REQUEST, TICK, BUS_OFF, TICK, TICK, TICK, 0x1200_0500, TICK];
     let (mut state, mut trace) = ([0; 4], [UNTOUCHED; 6]);
     let played = play(&TABLE, &mut state, &mut trace, &day);
-    assert_eq!(played, Played { end: End::NotItsOwner, taken: 6, count: 3 });
+    assert_eq!(played, Played { end: End::NotItsOwner, taken: 6, count: 3, visits: 1 });
     assert_eq!((played.end.number(), state), (6, LAST));
     assert_eq!(trace, [0xF100_0000, 0x4100_0002, 0x0100_1234, UNTOUCHED, UNTOUCHED, UNTOUCHED]);
 }
@@ -101,10 +104,10 @@ fn a_full_trace_is_resumed_from_its_event() {
     let day = [REQUEST, TICK, BUS_OFF, TICK, TICK, TICK];
     let (mut state, mut trace) = ([0; 4], [UNTOUCHED; 5]);
     let played = play(&TABLE, &mut state, &mut trace, &day);
-    assert_eq!(played, Played { end: End::TraceFull, taken: 1, count: 3 });
+    assert_eq!(played, Played { end: End::TraceFull, taken: 1, count: 3, visits: 1 });
     assert_eq!(state, [0x8140_0000, 0, 0x4000_0000, 0x8000_0000]);
     let rest = play(&TABLE, &mut state, &mut trace, &day[played.taken..]);
-    assert_eq!(rest, Played { end: End::Done, taken: 5, count: 0 });
+    assert_eq!(rest, Played { end: End::Done, taken: 5, count: 0, visits: 0 });
     assert_eq!(state, LAST);
 }
 
@@ -121,7 +124,7 @@ fn what_ends_a_play_changes_nothing() {
     ] {
         let (mut state, mut trace) = ([0; 4], [UNTOUCHED; 3]);
         let played = play(table, &mut state[..words], &mut trace[..room], events);
-        assert_eq!(played, Played { end, taken: 0, count: 0 });
+        assert_eq!(played, Played { end, taken: 0, count: 0, visits: 0 });
         assert_eq!((state, trace), ([0; 4], [UNTOUCHED; 3]));
     }
 }

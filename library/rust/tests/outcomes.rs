@@ -43,17 +43,17 @@ fn take(table: &[u32], outcomes: &[u32], event: u32) -> (Answer, [u32; 4], [u32;
 }
 
 fn refused(number: u32) -> (Answer, [u32; 4], [u32; 4]) {
-    (Answer { number, count: 0 }, FRESH, [UNTOUCHED; 4])
+    (Answer { number, count: 0, visits: 0 }, FRESH, [UNTOUCHED; 4])
 }
 
 #[test]
 fn a_failed_call_with_abort_stops_its_list() {
-    let all = (Answer { number: 0, count: 4 }, DONE, WORDS);
+    let all = (Answer { number: 0, count: 4, visits: 1 }, DONE, WORDS);
     for outcomes in [&[][..], &[GOOD], &[GOOD, GOOD], &[GOOD, FAILED], &[GOOD, GOOD, FAILED]] {
         assert_eq!(take(&two(), outcomes, REQUEST), all, "{outcomes:?}");
     }
     let [start, ask, call, _] = WORDS;
-    let stopped = (Answer { number: 0, count: 3 }, DONE, [start, ask, call, UNTOUCHED]);
+    let stopped = (Answer { number: 0, count: 3, visits: 1 }, DONE, [start, ask, call, UNTOUCHED]);
     for outcomes in [&[FAILED][..], &[FAILED, GOOD], &[FAILED, FAILED]] {
         assert_eq!(take(&two(), outcomes, REQUEST), stopped, "{outcomes:?}");
     }
@@ -82,7 +82,7 @@ fn an_outcome_above_1_is_refused_wherever_it_stands() {
 fn in_play_all_calls_are_good() {
     let (mut state, mut trace) = (FRESH, [UNTOUCHED; 4]);
     let played = play(&two(), &mut state, &mut trace, &[REQUEST]);
-    assert_eq!(played, Played { end: End::Done, taken: 1, count: 4 });
+    assert_eq!(played, Played { end: End::Done, taken: 1, count: 4, visits: 1 });
     assert_eq!((state, trace), (DONE, WORDS));
 }
 
