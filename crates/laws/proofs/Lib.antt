@@ -29,3 +29,4 @@ pub mod Cleared
 pub mod Levels
 pub mod Reached
 pub mod Started
+pub mod NeverSeven
