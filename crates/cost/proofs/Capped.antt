@@ -16,11 +16,12 @@ use Rattle.words.specs.declared.sections.Layout.{Layout}
 use Rattle.words.specs.declared.sections.List.{List as ListRead}
 use Rattle.words.specs.Sections.{Laid, ListAt}
 use Rattle.walks.proofs.Walks.{sum-turn, sum-end}
+use Rattle.laws.specs.Facts.{Nested}
 use Rattle.laws.proofs.Tests.{split, clash, and-left, and-right, or-elim}
 use Rattle.laws.proofs.Nesting.{nests-list, nests-rule, cost-list, cost-rule, cost-act}
 use Rattle.nesting.specs.Depths.{foundBy, Depths}
 use Rattle.nesting.proofs.Levels.{within-more, within-absent, found-yes, set-all}
-use Rattle.cost.specs.Costs.{capped, costIn, nextCost, Costs, Nested}
+use Rattle.cost.specs.Costs.{capped, costIn, nextCost, Costs}
 
 -- numbers that are equal once held, and what is made of them
 

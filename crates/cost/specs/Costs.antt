@@ -6,9 +6,9 @@ use mathlib.Core.List.{List}
 use lib.Dec.{eqb}
 use lib.ListN.{length}
 use Rattle.rulebook.specs.Words.{word}
-use Rattle.rulebook.specs.Table.{lists}
 use Rattle.rulebook.specs.Expressions.{deepest}
 use Rattle.rulebook.specs.Reasons.{listWithin, listCost, costWithin}
+use Rattle.laws.specs.Facts.{Nested}
 use Rattle.words.specs.declared.sections.Layout.{Layout}
 use Rattle.nesting.specs.Depths.{Searched}
 
@@ -27,10 +27,6 @@ nextCost t depths costs d l = cond (eqb (word depths l) (d + 1)) (capped (listCo
 pub record Costs (d : ℕ) (t costs : List ℕ) : Type 0 where
   pub long : length costs ≡ 256
   pub says : (l : ℕ) → listWithin d t l ≡ true → word costs l ≡ capped (costWithin deepest t l)
-
--- every list keeps rule 7
-abbrev pub Nested : List ℕ → Type 0
-Nested t = (l : ℕ) → l < lists t → listWithin deepest t l ≡ true
 
 -- a table with the depths of its lists, and the costs of those that are at most d deep
 pub record Costed (d : ℕ) (t : List ℕ) (h : Layout) (depths costs : List ℕ) : Type 0 where

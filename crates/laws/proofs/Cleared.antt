@@ -93,7 +93,6 @@ module _ (t : List ℕ) (f : Facts t) (p : ℕ) (b : p < ports t) where
           there = rw (length-set (x .state) _ _) (q .there);
           mark = λ c. result-elsewhere t p b (itemA t i) _ (x .state) (q .mark (one-more C _ (x .words) (kind-apart itemRule _ _ _ (λ z. omega arith)) c));
         };
-        deep = λ x q. record { there = q .there; mark = q .mark };
       }
 
   -- An arbitration: a mark that it does not clear comes through.

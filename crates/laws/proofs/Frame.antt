@@ -1,7 +1,7 @@
--- The frame of a run: a run from x is what x has written in front of the run from x's state and unread outcomes alone. Room and depth of
+-- The frame of a run: a run from x is what x has written in front of the run from x's state and unread outcomes alone. Room and visits of
 -- each part of a run follow from it. Assumes nothing.
 use mathlib.Core.Path.{_≡_, refl, sym, _∙_, ap}
-use mathlib.Core.Bool.{Bool, true, false, _||_, or-false, or-true, or-assoc}
+use mathlib.Core.Bool.{Bool}
 use mathlib.Core.List.{List, [], _∷_, _++_, append-nil, append-assoc}
 use Prim.Native.Nat.{ℕ, zero, suc, _+_}
 use native.Mathlib.Nat.{zero-add, add-zero, add-assoc}
@@ -9,7 +9,7 @@ use lib.Dec.{eqb}
 use Rattle.rulebook.specs.Words.{until}
 use Rattle.rulebook.specs.Table.{noList, listOwner, firstItem, itemCount, itemKind, itemA, itemRule}
 use Rattle.rulebook.specs.State.{undefinedResult}
-use Rattle.rulebook.specs.Lists.{Run, start, become, emit, tooDeep, leave, visit, traceWord, traceListStart, effect, unread, act, stops, unready, resultIn}
+use Rattle.rulebook.specs.Lists.{Run, start, become, emit, leave, visit, traceWord, traceListStart, effect, unread, act, stops, unready, resultIn}
 use Rattle.rulebook.specs.Lists.{visitsIn, choiceIn, setResult, judge}
 use Rattle.rulebook.specs.Lists.{runChoice, runRule, runItem, runItems, runList}
 use Rattle.rulebook.specs.Arbitration.{runIf, runChosen}
@@ -23,8 +23,7 @@ afresh x = start (x .outcomes) (x .state)
 
 -- run y, with what x has written in front
 abbrev pub over : Run → Run → Run
-over x y =
-    record { state = y .state; words = x .words ++ y .words; deep = x .deep || y .deep; outcomes = y .outcomes; visits = x .visits + y .visits }
+over x y = record { state = y .state; words = x .words ++ y .words; outcomes = y .outcomes; visits = x .visits + y .visits }
 
 abbrev pub Framed : (Run → Run) → Type 0
 Framed f = (x : Run) → f x ≡ over x (f (afresh x))
@@ -32,26 +31,23 @@ Framed f = (x : Run) → f x ≡ over x (f (afresh x))
 pub framed-words : {f : Run → Run} → Framed f → (x : Run) → f x .words ≡ x .words ++ f (afresh x) .words
 framed-words h x = ap (λ (y : Run). y .words) (h x)
 
--- nothing done, a word written with the state and the outcomes changed by what they are, a list too deep
+-- nothing done, a word written with the state and the outcomes changed by what they are
 
 pub framed-none : Framed (λ x. x)
-framed-none x = rw (append-nil, or-false, add-zero)
+framed-none x = rw (append-nil, add-zero)
 
 pub framed-put : (e : List ℕ → List ℕ) (w : List ℕ → ℕ) (u : List ℕ → List ℕ)
     → Framed (λ x. leave (u (x .outcomes)) (become (e (x .state)) (emit (w (x .state)) x)))
-framed-put e w u x = rw (or-false, add-zero)
+framed-put e w u x = rw add-zero
 
 -- a word written and a number of visits made, both by what the state is, which is changed
 framed-judged : (e : List ℕ → List ℕ) (w n : List ℕ → ℕ) → Framed (λ x. visit (n (x .state)) (become (e (x .state)) (emit (w (x .state)) x)))
-framed-judged e w n x = rw (or-false, zero-add)
-
-framed-deep : Framed tooDeep
-framed-deep x = rw (append-nil, or-true, add-zero)
+framed-judged e w n x = rw zero-add
 
 -- one after the other
 
 over-over : (x y z : Run) → over (over x y) z ≡ over x (over y z)
-over-over x y z = rw (append-assoc, or-assoc, add-assoc)
+over-over x y z = rw (append-assoc, add-assoc)
 
 pub framed-then : (f g : Run → Run) → Framed f → Framed g → Framed (λ x. g (f x))
 framed-then f g a b x =
@@ -124,7 +120,7 @@ module _ (t : List ℕ) (below : ℕ → Run → Run) (h : (l : ℕ) → Framed 
 
 pub list-framed : (t : List ℕ) (d l : ℕ) → Framed (runList d t l)
 unfolding runList runItems
-list-framed t zero l = framed-deep
+list-framed t zero l = framed-none
 list-framed t (suc d) l =
     framed-then (emit (traceWord traceListStart (listOwner t l) l 0))
     (until (firstItem t l) (itemCount t l) (stops t) (runItem (runList d t) t (listOwner t l)))

@@ -11,7 +11,7 @@ pub mod Cases
 pub mod Order
 pub mod Runs
 pub mod Nesting
-pub mod Deep
+pub mod MoreLevels
 pub mod Frame
 pub mod Cost
 pub mod Fit
@@ -29,4 +29,3 @@ pub mod Cleared
 pub mod Levels
 pub mod Reached
 pub mod Started
-pub mod NeverSeven

@@ -15,14 +15,14 @@ use Rattle.rulebook.specs.Reasons.{bound, accepted}
 use Rattle.rulebook.specs.State.{fits}
 use Rattle.rulebook.specs.Events.{happen}
 use Rattle.rulebook.specs.Step.{refusedState, refusedCall, refusedEvent, firstFault}
-use Rattle.rulebook.specs.Step.{refusal, conclude, finish, heeded, handle, step}
+use Rattle.rulebook.specs.Step.{refusal, conclude, heeded, handle, step}
 use Rattle.rulebook.specs.Play.{Play, ending, onto, goesOn, playOn, play}
 use Rattle.laws.specs.Sequence.{Each}
 use Rattle.laws.proofs.Tests.{split}
 use Rattle.laws.proofs.Facts.{facts}
 use Rattle.laws.proofs.Happen.{taken-event}
 use Rattle.laws.proofs.FitEvents.{happen-fits}
-use Rattle.laws.proofs.Steps.{step-in-parts, event-refused, event-small, happen-shallow, happen-paid, done}
+use Rattle.laws.proofs.Steps.{step-in-parts, event-refused, event-small, happen-paid, done}
 
 -- What answers 1 and 2 let through, and what they end.
 
@@ -86,8 +86,8 @@ module _ (t s : List ℕ) (room : ℕ) (os : List ℕ) (e : ℕ) (ok : accepted 
   step-refused h n = in-room h ∙ rw (ne-eqb _ _ n)
 
   pub step-done : bound t ≤ room → refusedEvent t os e ≡ 0 → step t s room os e ≡ done t os e s
-  unfolding handle conclude finish
-  step-done h z = in-room h ∙ rw (eq-eqb _ _ z, happen-shallow t (facts t ok) e (heeded t os) s)
+  unfolding handle conclude
+  step-done h z = in-room h ∙ rw (eq-eqb _ _ z)
 
 -- no outcomes are lent, none are heeded
 pub none-heeded : (t : List ℕ) → heeded t [] ≡ []

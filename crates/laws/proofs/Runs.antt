@@ -11,7 +11,7 @@ use Rattle.rulebook.specs.Words.{word}
 use Rattle.rulebook.specs.Table.{ports, networks, rules, lists, items, portKind, portEvent, portTimer, reload, noList, listOwner, firstItem, itemCount}
 use Rattle.rulebook.specs.Table.{itemKind, itemA, itemB, itemList, itemRule}
 use Rattle.rulebook.specs.State.{timerStopped, timerStarted, undefinedResult}
-use Rattle.rulebook.specs.Lists.{Run, start, visit, emit, tooDeep, traceWord, traceListStart, setPort, networkIn, asking, setNetwork, effect, act, stops}
+use Rattle.rulebook.specs.Lists.{Run, start, visit, emit, traceWord, traceListStart, setPort, networkIn, asking, setNetwork, effect, act, stops}
 use Rattle.rulebook.specs.Lists.{unready, choiceIn}
 use Rattle.rulebook.specs.Lists.{choice, setResult, judge, runChoice, runRule, runItem, runItems, runList}
 use Rattle.rulebook.specs.Arbitration.{unmarked, unmarkPort, unmarkPorts, evaluated, storeResult, storeResults, ruleVisits, chosen, order}
@@ -45,7 +45,6 @@ pub record KeptByActs (t : List ℕ) (Q : Run → Type 0) : Type 0 where
       → Q (emit (traceWord itemRule (listOwner t l) (itemA t i) undefinedResult) x)
   pub judge : (l i : ℕ) (x : Run) → Within t l i → itemKind t i ≡ itemRule → unready t (x .state) (itemA t i) ≡ false → Q x
       → Q (judge t (listOwner t l) (itemA t i) x)
-  pub deep : (x : Run) → Q x → Q (tooDeep x)
 
 module _ (t : List ℕ) (f : Facts t) (Q : Run → Type 0) (k : KeptByActs t Q) where
   -- what a list that is named keeps
@@ -76,7 +75,7 @@ module _ (t : List ℕ) (f : Facts t) (Q : Run → Type 0) (k : KeptByActs t Q) 
 
   pub list-keeps : (d : ℕ) → Keeps (runList d t)
   unfolding runList runItems
-  list-keeps zero l x h q = k .deep x q
+  list-keeps zero l x h q = q
   list-keeps (suc d) l x h q =
       until-keeps Q (stops t) (runItem (runList d t) t (listOwner t l)) (firstItem t l) (itemCount t l) _
       (λ i y a b c. item-keeps (runList d t) (list-keeps d) l i y (record { list = h; from = a; below = b }) c) (k .listStart l x h q)
@@ -123,7 +122,6 @@ module _ (t : List ℕ) (f : Facts t) (P : List ℕ → Type 0) (k : KeptByWrite
         undefined = λ l i x w e q. q;
         judge = λ l i x w e u q. k .store (itemA t i) _ (x .state) (rule-there t i (f .item i (item-there t f l i w) .1) e)
             (result-small t (x .state) (itemA t i)) q;
-        deep = λ x q. q;
       }
 
   pub unmark-keeps : (q : ℕ → Bool) (s : List ℕ) → P s → P (unmarkPorts t q s)

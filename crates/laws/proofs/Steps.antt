@@ -1,5 +1,6 @@
--- The step: what a refusal and a done call are, answer 7 never comes, the words are at most B, states stay fit. Assumes nothing.
-use mathlib.Core.Path.{_≡_, refl}
+-- The step: what a refusal and a done call are, which answers it gives, the words are at most B, states stay fit. Assumes nothing.
+use mathlib.Core.Path.{_≡_, refl, sym}
+use mathlib.Core.Logic.{_⊎_, inl, inr}
 use mathlib.Core.Bool.{true, false, cond, and-false}
 use mathlib.Core.List.{List, []}
 use Prim.Native.Nat.{ℕ, _+_, _-_, _≤_, _<_}
@@ -13,17 +14,17 @@ use Rattle.rulebook.specs.Table.{ports, networks, sources, rules, portKind, por
 use Rattle.rulebook.specs.Reasons.{portFields, bound, accepted}
 use Rattle.rulebook.specs.State.{stateLength, Thing, aPort, aRule, aNetwork, aSource, thing, portFits, networkFits, sourceFits, thingFits, fits, freshPort}
 use Rattle.rulebook.specs.State.{freshThing, freshAt, fresh}
+use Rattle.rulebook.specs.Lists.{Run}
 use Rattle.rulebook.specs.Events.{request, tick, arbitrateMarked, happen}
 use Rattle.rulebook.specs.Step.{refusedState, refusedCall, wellFormed, known, sentByOwner, outcomesKnown, present, firstFault, refusedEvent, Result}
-use Rattle.rulebook.specs.Step.{refusal, finish}
+use Rattle.rulebook.specs.Step.{refusal}
 use Rattle.rulebook.specs.Step.{conclude, heeded, handle, step}
 use Rattle.laws.specs.Facts.{Facts}
 use Rattle.laws.specs.Callable.{Callable}
-use Rattle.laws.proofs.Tests.{split, part-of, cond-yes}
+use Rattle.laws.proofs.Tests.{split, clash, part-of, cond-yes}
 use Rattle.laws.proofs.Walks.{listed-length, listed-at}
 use Rattle.laws.proofs.Facts.{facts}
 use Rattle.laws.proofs.Fields.{digit-small}
-use Rattle.laws.proofs.Deep.{arbitrate-shallow}
 use Rattle.laws.proofs.Cost.{written, arbitrate-paid}
 use Rattle.laws.proofs.Fit.{port-packed, rule-packed, fits-from}
 use Rattle.laws.proofs.FitKept.{Fits, plain-ok, timer-ok, timer-deferred}
@@ -42,48 +43,26 @@ callable t s room h =
     (λ b. let z : 2 ≡ 0 = rw (a, b) at h in absurd (omega arith)))
     (λ a. let z : 1 ≡ 0 = rw a at h in absurd (omega arith))
 
-pub call-small : (t s : List ℕ) (room : ℕ) → refusedCall t s room ≤ 3
-unfolding refusedCall refusedState
-call-small t s room =
-    split (accepted t)
-    (λ a. split (fits t s)
-    (λ b. split (ltb room (bound t)) (λ c. rw (a, b, c) (omega arith)) (λ c. rw (a, b, c) (omega arith)))
-    (λ b. rw (a, b) (omega arith)))
-    (λ a. rw a (omega arith))
+-- What holds of the answers 0, 4, 8, 5 and 6 holds of the one that an event gets; 8 comes only where an outcome is lent.
 
--- answers 4, 8, 5 and 6; 8 not where none is lent
+pub event-cases {ℓ} : (P : ℕ → Type ℓ) (t os : List ℕ) (e : ℕ) → P 0 → P 4 → (outcomesKnown os ≡ false → P 8) → P 5 → P 6 → P (refusedEvent t os e)
+unfolding refusedEvent
+event-cases P t os e p₀ p₄ p₈ p₅ p₆ =
+    split (wellFormed e)
+    (λ a. split (outcomesKnown os)
+    (λ d. split (known t e)
+    (λ b. split (sentByOwner t e) (λ c. rw (a, d, b, c) p₀) (λ c. rw (a, d, b, c) p₆))
+    (λ b. rw (a, d, b) p₅))
+    (λ d. rw (a, d) (p₈ d)))
+    (λ a. rw a p₄)
 
 pub event-refused : (t os : List ℕ) (e : ℕ) → (refusedEvent t os e ≡ 0 → ⊥) → 4 ≤ refusedEvent t os e
-unfolding refusedEvent
-event-refused t os e n =
-    split (wellFormed e)
-    (λ a. split (outcomesKnown os)
-    (λ d. split (known t e)
-    (λ b. split (sentByOwner t e) (λ c. absurd (n (rw (a, d, b, c)))) (λ c. rw (a, d, b, c) (omega arith)))
-    (λ b. rw (a, d, b) (omega arith)))
-    (λ d. rw (a, d) (omega arith)))
-    (λ a. rw a (omega arith))
+event-refused t os e =
+    event-cases (λ k. (k ≡ 0 → ⊥) → 4 ≤ k) t os e (λ n. absurd (n refl)) (λ n. omega arith) (λ d n. omega arith) (λ n. omega arith) (λ n. omega arith)
 
-pub event-not-seven : (t os : List ℕ) (e : ℕ) → refusedEvent t os e ≡ 7 → ⊥
-unfolding refusedEvent
-event-not-seven t os e =
-    split (wellFormed e)
-    (λ a. split (outcomesKnown os)
-    (λ d. split (known t e)
-    (λ b. split (sentByOwner t e) (λ c. rw (a, d, b, c) (λ z. omega arith)) (λ c. rw (a, d, b, c) (λ z. omega arith)))
-    (λ b. rw (a, d, b) (λ z. omega arith)))
-    (λ d. rw (a, d) (λ z. omega arith)))
-    (λ a. rw a (λ z. omega arith))
-
--- none lent
 pub event-small : (t : List ℕ) (e : ℕ) → refusedEvent t [] e ≤ 6
-unfolding refusedEvent outcomesKnown all
-event-small t e =
-    split (wellFormed e)
-    (λ a. split (known t e)
-    (λ b. split (sentByOwner t e) (λ c. rw (a, b, c) (omega arith)) (λ c. rw (a, b, c) (omega arith)))
-    (λ b. rw (a, b) (omega arith)))
-    (λ a. rw a (omega arith))
+unfolding outcomesKnown all
+event-small t e = event-cases (λ k. k ≤ 6) t [] e (omega arith) (omega arith) (λ d. clash refl d) (omega arith) (omega arith)
 
 -- an event that is taken with outcomes lent is taken with none
 pub none-lent : (t os : List ℕ) (e : ℕ) → refusedEvent t os e ≡ 0 → refusedEvent t [] e ≡ 0
@@ -102,19 +81,37 @@ step-in-parts t s room os e =
     (λ b. rw (a, b)))
     (λ a. rw a)
 
--- A run of one event: never deep, at most B words.
+-- The answer is the first fault: 0 to 6, or 8, and 8 not where none is lent.
+
+conclude-answer : (fault : ℕ) (s : List ℕ) (x : Run) → conclude fault s x .answer ≡ fault
+unfolding conclude
+conclude-answer fault s x = split (eqb fault 0) (λ a. rw a (sym (eqb-true _ _ a))) (λ a. rw a)
+
+pub fault-is : (t s : List ℕ) (room : ℕ) (os : List ℕ) (e : ℕ) → step t s room os e .answer ≡ firstFault t s room os e
+unfolding step
+fault-is t s room os e = conclude-answer _ s _
+
+answer-cases {ℓ} : (P : ℕ → Type ℓ) (t s : List ℕ) (room : ℕ) (os : List ℕ) (e : ℕ)
+    → P (refusedEvent t os e) → P 1 → P 2 → P 3 → P (step t s room os e .answer)
+unfolding firstFault refusedEvent
+answer-cases P t s room os e later p₁ p₂ p₃ =
+    rw (fault-is t s room os e)
+    (split (accepted t)
+    (λ a. split (fits t s) (λ b. split (ltb room (bound t)) (λ c. rw (a, b, c) p₃) (λ c. rw (a, b, c) later)) (λ b. rw (a, b) p₂))
+    (λ a. rw a p₁))
+
+pub answer-small : (t s : List ℕ) (room : ℕ) (os : List ℕ) (e : ℕ) → (step t s room os e .answer ≤ 6) ⊎ (step t s room os e .answer ≡ 8)
+answer-small t s room os e =
+    answer-cases (λ k. (k ≤ 6) ⊎ (k ≡ 8)) t s room os e
+    (event-cases (λ k. (k ≤ 6) ⊎ (k ≡ 8)) t os e (inl (omega arith)) (inl (omega arith)) (λ d. inr refl) (inl (omega arith)) (inl (omega arith)))
+    (inl (omega arith)) (inl (omega arith)) (inl (omega arith))
+
+pub small-answer : (t s : List ℕ) (room e : ℕ) → step t s room [] e .answer ≤ 6
+small-answer t s room e = answer-cases (λ k. k ≤ 6) t s room [] e (event-small t e) (omega arith) (omega arith) (omega arith)
+
+-- A run of one event writes at most B words.
 
 module _ (t : List ℕ) (f : Facts t) where
-  request-shallow : (p v : ℕ) (os s : List ℕ) → request t p v os s .deep ≡ false
-  unfolding request
-  request-shallow p v os s = split (eqb (deferred t p) 1) (λ e. rw e) (λ e. rw e (arbitrate-shallow t f _ os _))
-
-  pub happen-shallow : (e : ℕ) (os s : List ℕ) → happen t e os s .deep ≡ false
-  unfolding tick arbitrateMarked
-  happen-shallow e os s =
-      happen-cases (λ x. x .deep ≡ false) t e os s (λ k. arbitrate-shallow t f _ os _) (λ k. request-shallow _ _ os s) (λ k. request-shallow _ _ os s)
-      (λ k. refl)
-
   request-paid : (p v : ℕ) (os s : List ℕ) → written (request t p v os s) ≤ bound t
   unfolding request
   request-paid p v os s = split (eqb (deferred t p) 1) (λ e. rw e (omega arith)) (λ e. rw e (arbitrate-paid t f _ os _))
@@ -132,41 +129,36 @@ abbrev pub done : List ℕ → List ℕ → ℕ → List ℕ → Result
 done t os e s = let x = happen t e (heeded t os) s in record { answer = 0; state = x .state; words = x .words; visits = x .visits }
 
 pub step-cases {ℓ} : (P : Result → Type ℓ) (t s : List ℕ) (room : ℕ) (os : List ℕ) (e : ℕ)
-    → ((k : ℕ) → 1 ≤ k → (k ≡ 7 → ⊥) → P (refusal k s))
+    → ((k : ℕ) → 1 ≤ k → P (refusal k s))
     → (Callable t s room → Taken t e → P (done t os e s))
     → P (step t s room os e)
-unfolding handle conclude finish
+unfolding handle conclude
 step-cases P t s room os e refused takes =
     split (eqb (refusedCall t s room) 0)
-    (λ a. let c = callable t s room (eqb-true _ _ a) in
-    split (eqb (refusedEvent t os e) 0)
-    (λ b. rw (step-in-parts, a, b, happen-shallow t (facts t (c .table)) e (heeded t os) s) (takes c (taken-event t os e (eqb-true _ _ b))))
-    (λ b. let n = eqb-false _ _ b in rw (step-in-parts, a, b) (refused (refusedEvent t os e) (at-least-one _ n) (event-not-seven t os e))))
-    (λ a. let n = eqb-false _ _ a in let m = call-small t s room in
-    rw (step-in-parts, a) (refused (refusedCall t s room) (at-least-one _ n) (λ z. omega arith)))
+    (λ a. split (eqb (refusedEvent t os e) 0)
+    (λ b. rw (step-in-parts, a, b) (takes (callable t s room (eqb-true _ _ a)) (taken-event t os e (eqb-true _ _ b))))
+    (λ b. rw (step-in-parts, a, b) (refused (refusedEvent t os e) (at-least-one _ (eqb-false _ _ b)))))
+    (λ a. rw (step-in-parts, a) (refused (refusedCall t s room) (at-least-one _ (eqb-false _ _ a))))
   where
     at-least-one : (k : ℕ) → (k ≡ 0 → ⊥) → 1 ≤ k
     at-least-one k n = omega arith
 
--- Answer 7 never comes; a refusal changes nothing and writes nothing; the words are at most B; states stay fit.
-
-pub never-seven : (t s : List ℕ) (room : ℕ) (os : List ℕ) (e : ℕ) → step t s room os e .answer ≡ 7 → ⊥
-never-seven t s room os e = step-cases (λ r. r .answer ≡ 7 → ⊥) t s room os e (λ k a b. b) (λ c w z. omega arith)
+-- A refusal changes nothing and writes nothing; the words are at most B; states stay fit.
 
 pub refusal-changes-nothing : (t s : List ℕ) (room : ℕ) (os : List ℕ) (e : ℕ) → (step t s room os e .answer ≡ 0 → ⊥)
     → (step t s room os e .state ≡ s) × (step t s room os e .words ≡ []) × (step t s room os e .visits ≡ 0)
 refusal-changes-nothing t s room os e =
-    step-cases (λ r. (r .answer ≡ 0 → ⊥) → (r .state ≡ s) × (r .words ≡ []) × (r .visits ≡ 0)) t s room os e (λ k a b n. (refl, refl, refl))
+    step-cases (λ r. (r .answer ≡ 0 → ⊥) → (r .state ≡ s) × (r .words ≡ []) × (r .visits ≡ 0)) t s room os e (λ k a n. (refl, refl, refl))
     (λ c w n. absurd (n refl))
 
 -- Q-9: "State once, over both editions, that the trace fits in B words"
 pub words-within : (t s : List ℕ) (room : ℕ) (os : List ℕ) (e : ℕ) → accepted t ≡ true → length (step t s room os e .words) ≤ bound t
 words-within t s room os e h =
-    step-cases (λ r. length (r .words) ≤ bound t) t s room os e (λ k a b. omega arith) (λ c w. happen-paid t (facts t h) e (heeded t os) s)
+    step-cases (λ r. length (r .words) ≤ bound t) t s room os e (λ k a. omega arith) (λ c w. happen-paid t (facts t h) e (heeded t os) s)
 
 pub step-fits : (t s : List ℕ) (room : ℕ) (os : List ℕ) (e : ℕ) → accepted t ≡ true → Fits t s → Fits t (step t s room os e .state)
 step-fits t s room os e h f =
-    step-cases (λ r. Fits t (r .state)) t s room os e (λ k a b. f) (λ c w. happen-fits t (facts t h) e (heeded t os) s w f)
+    step-cases (λ r. Fits t (r .state)) t s room os e (λ k a. f) (λ c w. happen-fits t (facts t h) e (heeded t os) s w f)
 
 -- every word of the state belongs to a thing that is there
 pub thing-present : (t : List ℕ) (i : ℕ) → i < stateLength t → present t (thing t i) ≡ true

@@ -69,7 +69,6 @@ module _ (t : List ℕ) (f : Facts t) (p : ℕ) (b : p < ports t) (is : portKind
           there = rw (length-set (x .state) _ _) (q .there);
           mark = λ n. result-elsewhere t p b (itemA t i) _ (x .state) (q .mark (fewer _ (x .words) n));
         };
-        deep = λ x q. record { there = q .there; mark = q .mark };
       }
 
   -- An arbitration that has p, or finds it unmarked.

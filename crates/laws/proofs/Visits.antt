@@ -152,7 +152,6 @@ acts-visited t r =
       undefined = λ l i x w e p. wrote r _ x (undefined-gives-none _ _) p;
       judge = λ l i x w e u p. judged r _ _ x (judged-gives _ _ _ (result-small t (x .state) _)) (rule-visits-some t (x .state) _)
           (rule-visits-most t (x .state) _) p;
-      deep = λ x p. p;
     }
 
 module _ (t : List ℕ) (f : Facts t) where
@@ -220,19 +219,19 @@ module _ (t s : List ℕ) (room : ℕ) (os : List ℕ) (e : ℕ) where
   -- of R and the words that are written
   pub step-counted : step t s room os e .visits ≤ 127 * (rules t + length (step t s room os e .words))
   step-counted =
-      step-cases (λ r. r .visits ≤ 127 * (rules t + length (r .words))) t s room os e (λ k a b. omega arith)
+      step-cases (λ r. r .visits ≤ 127 * (rules t + length (r .words))) t s room os e (λ k a. omega arith)
       (λ c w. happen-counted t (facts t (c .table)) e (heeded t os) s)
 
   -- "at most 127 times the sum of R and B"
   pub step-within : step t s room os e .visits ≤ 127 * (rules t + bound t)
   step-within =
-      step-cases (λ r. r .visits ≤ 127 * (rules t + bound t)) t s room os e (λ k a b. omega arith)
+      step-cases (λ r. r .visits ≤ 127 * (rules t + bound t)) t s room os e (λ k a. omega arith)
       (λ c w. happen-within t (facts t (c .table)) e (heeded t os) s)
 
   -- "so never above 552,704", whatever is handed in
   pub step-most : step t s room os e .visits ≤ 552704
   step-most =
-      step-cases (λ r. r .visits ≤ 552704) t s room os e (λ k a b. omega arith) (λ c w. happen-most t (facts t (c .table)) e (heeded t os) s)
+      step-cases (λ r. r .visits ≤ 552704) t s room os e (λ k a. omega arith) (λ c w. happen-most t (facts t (c .table)) e (heeded t os) s)
 
 -- of a play, event by event
 pub play-most : (t : List ℕ) → accepted t ≡ true → (es s : List ℕ) (room : ℕ) → fits t s ≡ true

@@ -1,5 +1,5 @@
 -- The walks over the n numbers i, i + 1, ..: what each says of every number, and by what it is shown. Assumes nothing.
-use mathlib.Core.Path.{_≡_, refl, _∙_, ap}
+use mathlib.Core.Path.{_≡_, refl, sym, _∙_, ap}
 use mathlib.Core.Bool.{Bool, true, false}
 use mathlib.Core.Logic.{_⊎_, ⊎-elim}
 use Prim.Native.Nat.{ℕ, zero, suc, _+_, _-_, _≤_, _<_}
@@ -111,6 +111,19 @@ until-keeps P last f i (suc n) a k h =
     let one = k i a (omega arith) (omega arith) h in
     split (last i a) (λ e. rw (until-last last f i n a e) one)
     (λ e. rw (until-next last f i n a e) (until-keeps P last f (suc i) n (f i a) (λ j x b c. k j x (omega arith) (omega arith)) one))
+
+-- two walks whose turns are the same
+pub until-same : {A : Type 0} (last : ℕ → A → Bool) (f g : ℕ → A → A) (i n : ℕ) (a : A) → ((j : ℕ) (x : A) → i ≤ j → j < i + n → f j x ≡ g j x)
+    → until i n last f a ≡ until i n last g a
+unfolding until
+until-same last f g i zero a k = refl
+until-same last f g i (suc n) a k =
+    let one = k i a (omega arith) (omega arith) in
+    split (last i a) (λ e. until-last last f i n a e ∙ one ∙ sym (until-last last g i n a e))
+    (λ e. until-next last f i n a e
+    ∙ ap (until (suc i) n last f) one
+    ∙ until-same last f g (suc i) n (g i a) (λ j x b c. k j x (omega arith) (omega arith))
+    ∙ sym (until-next last g i n a e))
 
 pub each-alike {ℓ} : {A B : Type 0} (R : A → B → Type ℓ) (f : ℕ → A → A) (g : ℕ → B → B) (i n : ℕ) (a : A) (b : B)
     → ((j : ℕ) (x : A) (y : B) → i ≤ j → j < i + n → R x y → R (f j x) (g j y)) → R a b → R (each i n f a) (each i n g b)

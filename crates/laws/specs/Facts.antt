@@ -45,6 +45,10 @@ pub record ListFacts (t : List ℕ) (l : ℕ) : Type 0 where
   pub nested : listWithin deepest t l ≡ true
   pub owned : (i : ℕ) → firstItem t l ≤ i → i < firstItem t l + itemCount t l → itemOwned t (listOwner t l) i ≡ true
 
+-- every list keeps rule 7
+abbrev pub Nested : List ℕ → Type 0
+Nested t = (l : ℕ) → l < lists t → listWithin deepest t l ≡ true
+
 pub record Facts (t : List ℕ) : Type 0 where
   pub counts : Counts t
   pub exact : length t ≡ tableLength t

@@ -8,4 +8,4 @@ pub mod Callable
 pub mod Cleared
 pub mod Levels
 pub mod Reached
-pub mod NeverSeven
+pub mod MoreLevels

@@ -12,32 +12,28 @@ use Rattle.rulebook.specs.Expressions.{deepest, mentions, holds, visited
 use Rattle.rulebook.specs.State.{ruleIndex, networkIndex, definedOf, valueOf, timerStopped, timerStarted}
 use Rattle.rulebook.specs.State.{resultOf, undefinedResult, Network, networkOf, packPort, packRule, packNetwork}
 
--- A run so far, x below: the state, the trace words written, whether a list would have started at an eighth level, the outcome words that
--- no call has read yet, and how many expression words its evaluations have visited.
+-- A run so far, x below: the state, the trace words written, the outcome words that no call has read yet, and how many expression words
+-- its evaluations have visited.
 pub record Run : Type 0 where
   pub state : List ℕ
   pub words : List ℕ
-  pub deep : Bool
   pub outcomes : List ℕ
   pub visits : ℕ
 
 abbrev pub start : List ℕ → List ℕ → Run
-start os s = record { state = s; words = []; deep = false; outcomes = os; visits = 0 }
+start os s = record { state = s; words = []; outcomes = os; visits = 0 }
 
 abbrev pub become : List ℕ → Run → Run
-become s x = record { state = s; words = x .words; deep = x .deep; outcomes = x .outcomes; visits = x .visits }
+become s x = record { state = s; words = x .words; outcomes = x .outcomes; visits = x .visits }
 
 abbrev pub emit : ℕ → Run → Run
-emit w x = record { state = x .state; words = x .words ++ (w ∷ []); deep = x .deep; outcomes = x .outcomes; visits = x .visits }
-
-abbrev pub tooDeep : Run → Run
-tooDeep x = record { state = x .state; words = x .words; deep = true; outcomes = x .outcomes; visits = x .visits }
+emit w x = record { state = x .state; words = x .words ++ (w ∷ []); outcomes = x .outcomes; visits = x .visits }
 
 abbrev pub leave : List ℕ → Run → Run
-leave os x = record { state = x .state; words = x .words; deep = x .deep; outcomes = os; visits = x .visits }
+leave os x = record { state = x .state; words = x .words; outcomes = os; visits = x .visits }
 
 abbrev pub visit : ℕ → Run → Run
-visit n x = record { state = x .state; words = x .words; deep = x .deep; outcomes = x .outcomes; visits = x .visits + n }
+visit n x = record { state = x .state; words = x .words; outcomes = x .outcomes; visits = x .visits + n }
 
 -- "Trace word: kind(4), owner(4) of the list that holds it, a(8), b(16): 15 list start, .. 0 to 4 as the item; 6 .. the rule"
 
@@ -148,7 +144,8 @@ unfoldable pub runItems : (ℕ → Run → Run) → List ℕ → ℕ → Run →
 runItems below t l x =
     until (firstItem t l) (itemCount t l) (stops t) (runItem below t (listOwner t l)) (emit (traceWord traceListStart (listOwner t l) l 0) x)
 
--- list l with d levels left
+-- List l with d levels left. Q-11: "no event call on an accepted table can reach" a list with none left, for rule 7 has refused it: d only
+-- lets the definition end, and cuts no run short.
 unfoldable pub runList : ℕ → List ℕ → ℕ → Run → Run
-runList zero t l x = tooDeep x
+runList zero t l x = x
 runList (suc d) t l x = runItems (runList d t) t l x

@@ -56,7 +56,8 @@ goodOrFailed os k = leb (word os k) 1
 unfoldable pub outcomesKnown : List ℕ → Bool
 outcomesKnown os = all 0 (length os) (goodOrFailed os)
 
--- The answers in their order: "given exactly if, in this order". Each part gives its first fault, or what comes next.
+-- The answers in their order: "given exactly if, in this order". Each part gives its first fault, or what comes next. Q-11: answer 7, a
+-- list at an eighth level, is taken out and its number left unused; "All other answers keep their numbers and order."
 
 -- 1 the table check gives a reason; 2 the state doesn't fit
 abbrev pub stateFault : List ℕ → List ℕ → ℕ → ℕ
@@ -100,13 +101,9 @@ pub record Result : Type 0 where
 abbrev pub refusal : ℕ → List ℕ → Result
 refusal k s = record { answer = k; state = s; words = []; visits = 0 }
 
--- done, unless the run would have started a list at an eighth level, answer 7
-unfoldable pub finish : List ℕ → Run → Result
-finish s r = cond (r .deep) (refusal 7 s) (record { answer = 0; state = r .state; words = r .words; visits = r .visits })
-
--- done, or refused with a fault
+-- refused with a fault, or done
 unfoldable pub conclude : ℕ → List ℕ → Run → Result
-conclude fault s r = cond (eqb fault 0) (finish s r) (refusal fault s)
+conclude fault s r = cond (eqb fault 0) (record { answer = 0; state = r .state; words = r .words; visits = r .visits }) (refusal fault s)
 
 -- Q-9: "edition 1 tables act as if all calls were good, though answer 8 stands there too": their calls read none
 unfoldable pub heeded : List ℕ → List ℕ → List ℕ

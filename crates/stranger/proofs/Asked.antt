@@ -106,7 +106,6 @@ module _ (t : List ℕ) (f : Facts t) (n : ℕ) (b : n < networks t) (m : ℕ) w
           ap (λ (c : Network). c .asked) (other-word (x .state) (ruleIndex t (itemA t i)) _ (λ z. omega arith)) ∙ one-more x _
               (other-kind n itemRule (listOwner t l) (itemA t i) _ (λ z. omega arith)) (q .1),
         );
-        deep = λ x q. q;
       }
 
   before-lists : (q : ℕ → Bool) (s : List ℕ) → networkIn t n (storeResults t q (unmarkPorts t q s)) ≡ networkIn t n s

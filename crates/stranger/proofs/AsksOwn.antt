@@ -58,7 +58,6 @@ module _ (t : List ℕ) (f : Facts t) where
         act = λ l i x w g h a. emit-asks _ x (item-asks l i w) a;
         undefined = λ l i x w e a. emit-asks _ x (other-kind itemRule (listOwner t l) (itemA t i) _ (λ z. omega arith)) a;
         judge = λ l i x w e u a. emit-asks _ x (other-kind itemRule (listOwner t l) (itemA t i) _ (λ z. omega arith)) a;
-        deep = λ x a. a;
       }
 
   arbitrate-asks-own : (q : ℕ → Bool) (os s : List ℕ) → AllAskOwn (arbitrate t q os s)

@@ -18,7 +18,7 @@ use Rattle.rulebook.specs.Arbitration.{ofPriority, orderBelow, order}
 use Rattle.rulebook.specs.Arbitration.{runIf, runChosen, decide, arbitrate}
 use Rattle.rulebook.specs.Events.{only, request, shown, moveNetwork, takes, wait, offBus, busOff, countedNetwork, tickedNetwork, tickNetwork}
 use Rattle.rulebook.specs.Events.{tickTimer, tickThings, markedIn, arbitrateMarked, tick, changed, happen}
-use Rattle.rulebook.specs.Step.{wellFormed, named, present, suited, known, sentByOwner, goodOrFailed, outcomesKnown, firstFault, finish, conclude}
+use Rattle.rulebook.specs.Step.{wellFormed, named, present, suited, known, sentByOwner, goodOrFailed, outcomesKnown, firstFault, conclude}
 use Rattle.rulebook.specs.Step.{heeded, step}
 use Rattle.rulebook.specs.Marked.{same, gives}
 use Rattle.stranger.specs.Outcomes.{calls, behind, metAt, met}
@@ -35,6 +35,6 @@ unfolding digit first all any sum listed each until part abort aSize byItem stra
     runItems runList unmarkPort unmarkPorts evaluated storeResult storeResults visitsBy ruleVisits chooses chosen ofPriority orderBelow order
     runIf runChosen decide
     arbitrate only request shown moveNetwork takes wait offBus busOff countedNetwork tickedNetwork tickNetwork tickTimer tickThings markedIn
-    arbitrateMarked tick changed happen wellFormed named present suited known sentByOwner goodOrFailed outcomesKnown firstFault finish conclude heeded
+    arbitrateMarked tick changed happen wellFormed named present suited known sentByOwner goodOrFailed outcomesKnown firstFault conclude heeded
     step same gives calls behind metAt met lending afterAll bothOwners bothFresh withStranger struck bothFail eaters eatersFresh eaten
 computed = refl

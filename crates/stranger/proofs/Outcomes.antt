@@ -90,5 +90,4 @@ told-kept t os =
       act = λ l i x w g h q. record { outcomes = one-told os x _ _ q (unread-behind t _ i _ (x .outcomes) _) };
       undefined = λ l i x w e q. record { outcomes = one-told os x _ _ q (sym (no-call itemRule _ _ _ (omega arith) (λ z. omega arith) _)) };
       judge = λ l i x w e u q. record { outcomes = one-told os x _ _ q (sym (no-call itemRule _ _ _ (omega arith) (λ z. omega arith) _)) };
-      deep = λ x q. record { outcomes = q .outcomes };
     }

@@ -145,13 +145,13 @@ module _ {o : ℕ} {m : List ℕ} where
         small = λ h. each-both _ (a .outcomes) (b .outcomes) (a .small h) (b .small (each-drop _ (length (a .meets)) m h));
       }
 
-  -- no word, too deep or not
-  fed-none : (deep : Bool) (visits : ℕ) (s : List ℕ) → Fed o m (λ os. record { state = s; words = []; deep = deep; outcomes = os; visits = visits })
+  -- no word
+  fed-none : (visits : ℕ) (s : List ℕ) → Fed o m (λ os. record { state = s; words = []; outcomes = os; visits = visits })
   unfolding leftBy met
-  fed-none deep visits s =
+  fed-none visits s =
       record {
         outcomes = [];
-        to = record { state = s; words = []; deep = deep; outcomes = []; visits = visits };
+        to = record { state = s; words = []; outcomes = []; visits = visits };
         runs = λ rest. refl;
         left = λ rest. refl;
         meets = [];
@@ -211,7 +211,7 @@ Feeds o below = (l : ℕ) (s m : List ℕ) → Fed o m (λ os. below l (start os
 module _ (t : List ℕ) (o : ℕ) (below : ℕ → Run → Run) (framed : (l : ℕ) → Framed (below l)) (feeds : Feeds o below) (owner : ℕ) where
   choice-fed : (l : ℕ) (s m : List ℕ) → Fed o m (λ os. runChoice below l (start os s))
   choice-fed l s m =
-      split (eqb l noList) (λ e. fed-at (fed-none false 0 s) (λ rest. choice-none below l _ e)) (λ e. fed-at (feeds l s m) (λ rest. choice-some below l _ e))
+      split (eqb l noList) (λ e. fed-at (fed-none 0 s) (λ rest. choice-none below l _ e)) (λ e. fed-at (feeds l s m) (λ rest. choice-some below l _ e))
 
   rule-fed : (r : ℕ) (s m : List ℕ) → Fed o m (λ os. runRule below t owner r (start os s))
   unfolding judge
@@ -259,7 +259,7 @@ module _ (t : List ℕ) (o : ℕ) (below : ℕ → Run → Run) (framed : (l : �
 
   items-fed : (i n : ℕ) (s m : List ℕ) → Fed o m (λ os. until i n (stops t) (runItem below t owner) (start os s))
   unfolding until
-  items-fed i zero s m = fed-none false 0 s
+  items-fed i zero s m = fed-none 0 s
   items-fed i (suc n) s m =
       let run = runItem below t owner in
       let here = item-fed i s m in
@@ -271,7 +271,7 @@ module _ (t : List ℕ) (o : ℕ) (below : ℕ → Run → Run) (framed : (l : �
 module _ (t : List ℕ) (o : ℕ) where
   list-fed : (d : ℕ) → Feeds o (runList d t)
   unfolding runList runItems
-  list-fed zero l s m = fed-none true 0 s
+  list-fed zero l s m = fed-none 0 s
   list-fed (suc d) l s m =
       fed-then (until (firstItem t l) (itemCount t l) (stops t) (runItem (runList d t) t (listOwner t l)))
       (framed-until t _ (firstItem t l) (itemCount t l) (item-framed t (runList d t) (list-framed t d) (listOwner t l)))
@@ -281,22 +281,22 @@ module _ (t : List ℕ) (o : ℕ) where
 
   if-fed : (c : ℕ → Bool) (l : ℕ) (s m : List ℕ) → Fed o m (λ os. runIf t c l (start os s))
   if-fed c l s m =
-      split (c l) (λ e. fed-at (list-fed deepest l s m) (λ rest. if-chosen t c l _ e)) (λ e. fed-at (fed-none false 0 s) (λ rest. if-not t c l _ e))
+      split (c l) (λ e. fed-at (list-fed deepest l s m) (λ rest. if-chosen t c l _ e)) (λ e. fed-at (fed-none 0 s) (λ rest. if-not t c l _ e))
 
   chosen-fed : (c : ℕ → Bool) (ls s m : List ℕ) → Fed o m (λ os. runChosen t c ls (start os s))
   unfolding runChosen
-  chosen-fed c [] s m = fed-none false 0 s
+  chosen-fed c [] s m = fed-none 0 s
   chosen-fed c (l ∷ ls) s m = fed-then (runChosen t c ls) (chosen-framed t c ls) (if-fed c l s m) (chosen-fed c ls _ _) (λ rest. refl)
 
   arbitrate-fed : (q : ℕ → Bool) (s m : List ℕ) → Fed o m (λ os. arbitrate t q os s)
   unfolding arbitrate decide
   arbitrate-fed q s m =
-      fed-then (runChosen t _ (order t)) (chosen-framed t _ (order t)) (fed-none false _ _) (chosen-fed _ (order t) _ _) (λ rest. refl)
+      fed-then (runChosen t _ (order t)) (chosen-framed t _ (order t)) (fed-none _ _) (chosen-fed _ (order t) _ _) (λ rest. refl)
 
   request-fed : (p value : ℕ) (s m : List ℕ) → Fed o m (λ os. request t p value os s)
   unfolding request
   request-fed p value s m =
-      split (eqb (deferred t p) 1) (λ e. fed-at (fed-none false 0 (setPort p 1 value 0 s)) (λ rest. rw e))
+      split (eqb (deferred t p) 1) (λ e. fed-at (fed-none 0 (setPort p 1 value 0 s)) (λ rest. rw e))
       (λ e. fed-at (arbitrate-fed (only p) (setPort p 0 value 0 s) m) (λ rest. rw e))
 
   tick-fed : (s m : List ℕ) → Fed o m (λ os. tick t os s)
@@ -310,8 +310,8 @@ module _ (t : List ℕ) (o : ℕ) where
       go g (aTick k own) = tick-fed s m
       go g (aMode k of n free) = request-fed _ _ s m
       go g (aRequest k of n) = request-fed _ _ s m
-      go g (ofSource k n of u c) = fed-none false 0 _
-      go g (ofNetwork k of u c) = fed-none false 0 _
+      go g (ofSource k n of u c) = fed-none 0 _
+      go g (ofNetwork k of u c) = fed-none 0 _
 
 -- Where no outcome is read, every call meets 0.
 

@@ -15,7 +15,7 @@ use Rattle.laws.specs.Acceptance.{Everywhere}
 use Rattle.laws.proofs.Acceptance.{table-passes, table-fails, words-pass, words-fail}
 use Rattle.laws.proofs.Walks.{first-before}
 use Rattle.laws.proofs.Facts.{at-list}
-use Rattle.cost.specs.Costs.{Nested}
+use Rattle.laws.specs.Facts.{Nested}
 use Rattle.tables.specs.Finding.{refused, promised}
 
 -- what is left of the rules from each on
