@@ -4,6 +4,7 @@ use mathlib.Core.Path.{_≡_}
 use mathlib.Core.List.{List}
 use lib.ListN.{length, replicate}
 use Rattle.rulebook.specs.Lists.{Run}
+use Rattle.laws.specs.Facts.{Nested}
 use Rattle.words.specs.declared.sections.Layout.{Layout}
 use Rattle.words.specs.Sections.{Laid}
 use Rattle.lists.specs.Runs.{Safe}
@@ -18,15 +19,20 @@ pub record FlagsDown (t : List ℕ) (h : Layout) (flags : List ℕ) : Type 0 whe
   pub laid : Laid t h
   pub down : flags ≡ replicate 256 0
 
--- an arbitration whose run is x
+-- the table's lists keep rule 7, and there is a word for each rule's result
+pub record Bounded (t : List ℕ) (h : Layout) : Type 0 where
+  pub nested : Nested t
+  pub few : h .rules ≤ 256
+
+-- an arbitration, or its lists, whose run is x
 pub record MayArbitrate (t : List ℕ) (h : Layout) (x : Run) (trace : List ℕ) : Type 0 where
   pub laid : Laid t h
-  pub few : h .rules ≤ 256
+  pub bounded : Bounded t h
   pub safe : Safe x trace
 
 -- so of port p alone
 pub record MayArbitratePort (t : List ℕ) (h : Layout) (p : ℕ) (x : Run) (trace : List ℕ) : Type 0 where
   pub laid : Laid t h
-  pub few : h .rules ≤ 256
+  pub bounded : Bounded t h
   pub port : p < 256
   pub safe : Safe x trace

@@ -9,7 +9,7 @@ ghost use Rattle.rulebook.specs.Arbitration.{unmarkPort, unmarkPorts, ruleVisit
 ghost use Rattle.rulebook.specs.Events.{only, markedIn, arbitrateMarked};
 ghost use Rattle.words.specs.Flags.{flagged};
 ghost use Rattle.words.specs.Sections.{Laid};
-ghost use Rattle.lists.specs.Runs.{MayRun, Ran};
+ghost use Rattle.lists.specs.Runs.{Ran};
 ghost use Rattle.arbitration.specs.Results.{FoundBy, Results, storeBy, pickBy, Chosen, Marked};
 ghost use Rattle.arbitration.specs.Asked.{ResultsLent, FlagsDown, MayArbitrate, MayArbitratePort};
 ghost use Rattle.arbitration.specs.Picking.{better as betterOf, Best};
@@ -200,7 +200,7 @@ fn run_chosen(
     read: usize,
     visits: u32,
 ) -> Written
-    requires { ⌜ MayRun (now t) h (runChosen (now t) (flagged (now flags)) (order (now t)) (visit visits (start (drop read (now outcomes)) (now s))))
+    requires { ⌜ MayArbitrate (now t) h (runChosen (now t) (flagged (now flags)) (order (now t)) (visit visits (start (drop read (now outcomes)) (now s))))
         (now trace) ⌝ }
     ensures { λ w. ⌜ Ran (now (outcomes .entry)) (runChosen (now (t .entry)) (flagged (now (flags .entry))) (order (now (t .entry)))
         (visit visits (start (drop read (now (outcomes .entry))) (now (s .entry)))))

@@ -20,7 +20,7 @@ use Rattle.rulebook.specs.Arbitration.{unmarkPort, unmarkPorts, evaluated, stor
 use Rattle.rulebook.specs.Arbitration.{visitsBy, ruleVisits, runIf, runChosen, decide, arbitrate}
 use Rattle.rulebook.specs.Events.{only, request, shown, moveNetwork, takes, wait, offBus, busOff, countedNetwork, tickedNetwork, tickNetwork}
 use Rattle.rulebook.specs.Events.{tickTimer, tickThings, markedIn, arbitrateMarked, tick, changed, happen}
-use Rattle.rulebook.specs.Step.{wellFormed, named, present, suited, known, sentByOwner, goodOrFailed, outcomesKnown, refusedState, firstFault, finish, conclude}
+use Rattle.rulebook.specs.Step.{wellFormed, named, present, suited, known, sentByOwner, goodOrFailed, outcomesKnown, refusedState, firstFault, conclude}
 use Rattle.rulebook.specs.Step.{heeded, step}
 use Rattle.rulebook.specs.Play.{goesOn, playOn, play}
 use Rattle.text.specs.Words.{wordsOf}
@@ -57,5 +57,5 @@ lines answer =
     ∷ 97 ∷ 110 ∷ 115 ∷ 119 ∷ 101 ∷ 114 ∷ 32 ∷ answer ∷ 10 ∷ []
 
 pub example : (played table event ≡ lines 48) × (played table (event ++ more) ≡ lines 52)
-unfolding digit byItem first all any sum listed each until part abort aSize stranger operator expressionNests expressionWithin expressionMentions mentions condition expressionHolds holds settled skipsRight expressionVisited visited hasHeader knownEdition countsInside exactLength portFields expressionFields itemFields ownFields networkHas held mayShow expressionNames listOrNone itemNames names itemNests listNests listWithin nesting strangersPort ruleOwned itemOwned owners ruleReaches itemReaches listReaches reachesWithin reachedBy reached itemCost listCost costWithin bound affordable breaks lowest orNext firstOf check thing ownerOf packPort packRule packNetwork portFits ruleFits networkFits thingFits fitsAt fits freshPort freshThing freshAt fresh traceWord setPort setNetwork effect unread act stops valueIn undefinedIn unready resultIn visitsIn choice choiceIn setResult runItem runItems runList unmarkPort unmarkPorts evaluated storeResult storeResults visitsBy ruleVisits chooses chosen ofPriority orderBelow order runIf runChosen decide arbitrate only request shown moveNetwork takes wait offBus busOff countedNetwork tickedNetwork tickNetwork tickTimer tickThings markedIn arbitrateMarked tick changed happen wellFormed named present suited known sentByOwner goodOrFailed outcomesKnown firstFault finish conclude heeded step refusedState goesOn playOn play wordsOf hexDigit digits placesIn places decimal hexLine traceLine traceLines label number printed.named thingLine linesFrom stateLines endLines whole dayLines played
+unfolding digit byItem first all any sum listed each until part abort aSize stranger operator expressionNests expressionWithin expressionMentions mentions condition expressionHolds holds settled skipsRight expressionVisited visited hasHeader knownEdition countsInside exactLength portFields expressionFields itemFields ownFields networkHas held mayShow expressionNames listOrNone itemNames names itemNests listNests listWithin nesting strangersPort ruleOwned itemOwned owners ruleReaches itemReaches listReaches reachesWithin reachedBy reached itemCost listCost costWithin bound affordable breaks lowest orNext firstOf check thing ownerOf packPort packRule packNetwork portFits ruleFits networkFits thingFits fitsAt fits freshPort freshThing freshAt fresh traceWord setPort setNetwork effect unread act stops valueIn undefinedIn unready resultIn visitsIn choice choiceIn setResult runItem runItems runList unmarkPort unmarkPorts evaluated storeResult storeResults visitsBy ruleVisits chooses chosen ofPriority orderBelow order runIf runChosen decide arbitrate only request shown moveNetwork takes wait offBus busOff countedNetwork tickedNetwork tickNetwork tickTimer tickThings markedIn arbitrateMarked tick changed happen wellFormed named present suited known sentByOwner goodOrFailed outcomesKnown firstFault conclude heeded step refusedState goesOn playOn play wordsOf hexDigit digits placesIn places decimal hexLine traceLine traceLines label number printed.named thingLine linesFrom stateLines endLines whole dayLines played
 example = (refl, refl)

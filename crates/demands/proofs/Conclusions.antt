@@ -12,7 +12,9 @@ use Rattle.rulebook.specs.Step.{refusedState, wellFormed, outcomesKnown, firstF
 use Rattle.rulebook.proofs.Outcomes.{first-step, above-one}
 use Rattle.laws.proofs.Tests.{split, clash}
 use Rattle.laws.proofs.Visits.{step-counted, step-within, step-most}
+use Rattle.laws.proofs.Facts.{facts-of}
 use Rattle.laws.proofs.Levels.{levels}
+use Rattle.laws.proofs.MoreLevels.{more-levels}
 use Rattle.laws.proofs.Started.{lists-started, unreached-refused}
 use Rattle.tables.specs.Finding.{promised}
 use Rattle.manager.specs.Promises.{ChecksTableIn, MakesFreshIn, TakesEventIn, PlaysIn}
@@ -33,6 +35,7 @@ of-table t reason place b p =
       answered = table-answered t reason place b p;
       accepts = accepts t reason place b p;
       levels = λ z. levels t (accepts t reason place b p .0 z);
+      moreLevels = λ z. more-levels t (facts-of t (accepts t reason place b p .0 z));
       started = rw (p .0, p .1) (lists-started t);
     }
 

@@ -1,19 +1,14 @@
 -- Demand 1 holds of whatever the promises of the public entries allow. Assumes nothing.
-use mathlib.Core.Path.{_≡_, refl, sym, _∙_, ap}
-use mathlib.Core.Logic.{_⊎_, inl, inr}
+use mathlib.Core.Path.{_≡_, sym, _∙_, ap}
 use mathlib.Core.List.{List, [], _++_}
-use Prim.Native.Nat.{ℕ, _≤_}
-use native.Mathlib.Omega.{arith}
+use Prim.Native.Nat.{ℕ}
 use lib.ListN.{length, drop}
-use lib.Dec.{ltb}
 use borrow.Author.Tests.{eq-eqb, ne-eqb}
-use Rattle.rulebook.specs.Reasons.{bound, accepted, check}
-use Rattle.rulebook.specs.State.{stateLength, fits, freshAnswer, freshState}
-use Rattle.rulebook.specs.Step.{refusedState, firstFault, wellFormed, outcomesKnown, known, sentByOwner, finish, conclude, heeded, step}
-use Rattle.laws.proofs.Tests.{split}
+use Rattle.rulebook.specs.Reasons.{bound, check}
+use Rattle.rulebook.specs.State.{stateLength, freshAnswer, freshState}
+use Rattle.rulebook.specs.Step.{refusedState, step}
 use Rattle.laws.proofs.Acceptance.{reason-given, no-place}
-use Rattle.laws.proofs.Facts.{facts}
-use Rattle.laws.proofs.Steps.{refusal-changes-nothing, happen-shallow}
+use Rattle.laws.proofs.Steps.{fault-is, answer-small, refusal-changes-nothing}
 use Rattle.tables.specs.Finding.{promised}
 use Rattle.manager.specs.Promises.{ChecksTableIn, MakesFreshIn, ChecksStateIn, TakesEventIn}
 use Rattle.demands.proofs.Plays.{play-answered}
@@ -53,45 +48,12 @@ state-answered t s k p = record { badTable = λ a. p ∙ rw a; unfit = λ a f. p
 
 -- The event call.
 
-fault-is : (t s : List ℕ) (room : ℕ) (os : List ℕ) (e : ℕ) → step t s room os e .answer ≡ firstFault t s room os e
-unfolding step conclude finish firstFault
-fault-is t s room os e =
-    split (accepted t)
-    (λ a. split (fits t s)
-    (λ b. split (ltb room (bound t)) (λ c. rw (a, b, c))
-    (λ c. split (wellFormed e)
-    (λ d. split (outcomesKnown os)
-    (λ u. split (known t e)
-    (λ f. split (sentByOwner t e) (λ g. rw (a, b, c, d, u, f, g, happen-shallow t (facts t a) e (heeded t os) s)) (λ g. rw (a, b, c, d, u, f, g)))
-    (λ f. rw (a, b, c, d, u, f)))
-    (λ u. rw (a, b, c, d, u)))
-    (λ d. rw (a, b, c, d))))
-    (λ b. rw (a, b)))
-    (λ a. rw a)
-
--- 0 to 6, or 8
-pub answer-small : (t s : List ℕ) (room : ℕ) (os : List ℕ) (e : ℕ) → (step t s room os e .answer ≤ 6) ⊎ (step t s room os e .answer ≡ 8)
-unfolding firstFault
-answer-small t s room os e =
-    rw (fault-is t s room os e)
-    (split (accepted t)
-    (λ a. split (fits t s)
-    (λ b. split (ltb room (bound t)) (λ c. rw (a, b, c) (inl (omega arith)))
-    (λ c. split (wellFormed e)
-    (λ d. split (outcomesKnown os)
-    (λ u. split (known t e)
-    (λ f. split (sentByOwner t e) (λ g. rw (a, b, c, d, u, f, g) (inl (omega arith))) (λ g. rw (a, b, c, d, u, f, g) (inl (omega arith))))
-    (λ f. rw (a, b, c, d, u, f) (inl (omega arith))))
-    (λ u. rw (a, b, c, d, u) (inr refl)))
-    (λ d. rw (a, b, c, d) (inl (omega arith)))))
-    (λ b. rw (a, b) (inl (omega arith))))
-    (λ a. rw a (inl (omega arith))))
-
 pub event-answered : (t s trace os : List ℕ) (e k n v : ℕ) (s′ trace′ : List ℕ) → TakesEventIn t s trace os e k n v s′ trace′
     → EventAnswered t s trace os e k n v s′ trace′
 event-answered t s trace os e k n v s′ trace′ p =
     record {
       number = p .answer ∙ fault-is t s (length trace) os e;
+      numbers = rw (p .answer) (answer-small t s (length trace) os e);
       stateKept = λ r. p .state ∙ same r .0;
       traceKept = λ r. p .words ∙ ap (λ (ws : List ℕ). ws ++ drop (length ws) trace) (same r .1);
       noCount = λ r. p .count ∙ ap (λ (ws : List ℕ). length ws) (same r .1);

@@ -38,7 +38,7 @@ Done t s room os e = DoneBy t s room os e (step t s room os e)
 
 pub done-step : (t s : List ℕ) (room : ℕ) (os : List ℕ) (e : ℕ) → step t s room os e .answer ≡ 0 → Done t s room os e
 done-step t s room os e =
-    step-cases (λ r. r .answer ≡ 0 → DoneBy t s room os e r) t s room os e (λ k a b z. absurd (omega arith))
+    step-cases (λ r. r .answer ≡ 0 → DoneBy t s room os e r) t s room os e (λ k a z. absurd (omega arith))
     (λ c w z. record { callable = c; taken = w; state = refl; words = refl; visits = refl })
 
 module _ (t s trace os : List ℕ) (e k n v : ℕ) (s′ trace′ : List ℕ) (p : TakesEventIn t s trace os e k n v s′ trace′) (z : k ≡ 0) where

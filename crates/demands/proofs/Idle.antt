@@ -20,13 +20,12 @@ use Rattle.laws.proofs.Walks.{listed-length, listed-at}
 use Rattle.laws.proofs.Facts.{facts}
 use Rattle.laws.proofs.Order.{each-both}
 use Rattle.laws.proofs.Chosen.{behind}
-use Rattle.laws.proofs.Steps.{step-cases, happen-paid}
+use Rattle.laws.proofs.Steps.{step-cases, answer-small, happen-paid}
 use Rattle.events.specs.declared.Answer.{Answer}
 use Rattle.events.specs.declared.Answer.the-variants.{Done, BadTable, UnfitState, ShortTrace, Malformed, NoSuchThing, NotItsOwner, BadOutcome}
 use Rattle.events.specs.Answers.{numberOf, countOf, visitsOf, Reports}
 use Rattle.demands.specs.Idle.{Gave, Program, Words, Input, Meets, LeavesWords}
 use Rattle.demands.specs.Idle.{RefusesAll, AnswersAlike, DoesNothing, OnlyFirstTick, OnlyFirstList, InventsCount, CountsAlike, VisitsAlike}
-use Rattle.demands.proofs.Demand1.{answer-small}
 use Rattle.demands.proofs.Demand2.{steps, done-step}
 use Rattle.demands.proofs.Given.{same-eq, Given, given}
 use Rattle.demands.proofs.Words.{small, small-words, step-words, drop-words}
@@ -287,7 +286,7 @@ reported : (t s trace : List ℕ) (room : ℕ) (os : List ℕ) (e : ℕ)
 unfolding gave answerWith
 reported t s trace room os e =
     step-cases (λ x. (x .answer ≤ 6) ⊎ (x .answer ≡ 8) → Reports x trace (gave trace x .answer) (gave trace x .state) (gave trace x .trace)) t s room os e
-    (λ k a b small. record { answer = answer-number k 0 0 small; count = none-reported k .0; visits = none-reported k .1; state = refl; words = refl })
+    (λ k a small. record { answer = answer-number k 0 0 small; count = none-reported k .0; visits = none-reported k .1; state = refl; words = refl })
     (λ c w small. record { answer = refl; count = refl; visits = refl; state = refl; words = refl }) (answer-small t s room os e)
 
 pub meets-exists : (p : Program) × Meets p × LeavesWords p

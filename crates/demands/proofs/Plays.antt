@@ -92,6 +92,7 @@ module _ (t s trace es : List ℕ) (k n m v : ℕ) (s′ trace′ : List ℕ) (p
             (let w = K .within in let g : P .taken ≡ length es → ⊥ = (λ e. nz (a ∙ E .doneOnly e)) in omega arith),
             a ∙ sym (E .refused (λ e. nz (a ∙ e)) (λ e. nf (a ∙ e))) ∙ ap (λ (i : ℕ). refusedEvent t [] (getD es i 0)) (sym b),
           );
+          numbers = let w = K .small in omega arith;
           within = let w = K .within in omega arith;
           room = let w = K .words in omega arith;
           alone = λ y. alone;
@@ -114,6 +115,7 @@ module _ (t s trace es : List ℕ) (k n m v : ℕ) (s′ trace′ : List ℕ) (p
           done = λ y. absurd (un y);
           full = ((λ e. let a = untold .answer in let b = state-small t s in absurd (omega arith)), λ f. absurd (un (f .0)));
           refused = λ y. absurd (un y);
+          numbers = let a = untold .answer in let b = state-small t s in omega arith;
           within = let e = untold .taken in omega arith;
           room = let e = untold .count in omega arith;
           alone = λ y. absurd (un y);

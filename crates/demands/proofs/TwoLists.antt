@@ -22,7 +22,7 @@ use Rattle.rulebook.specs.Lists.{runItems, runList}
 use Rattle.rulebook.specs.Arbitration.{unmarkPort, unmarkPorts, evaluated, storeResult, storeResults, chooses, chosen, ofPriority, orderBelow, order}
 use Rattle.rulebook.specs.Arbitration.{visitsBy, ruleVisits, runIf, runChosen, decide, arbitrate}
 use Rattle.rulebook.specs.Events.{eventKind, eventIndex, eventTick, only, request, happen}
-use Rattle.rulebook.specs.Step.{wellFormed, named, present, suited, known, sentByOwner, goodOrFailed, outcomesKnown, firstFault, finish, conclude, heeded, step}
+use Rattle.rulebook.specs.Step.{wellFormed, named, present, suited, known, sentByOwner, goodOrFailed, outcomesKnown, firstFault, conclude, heeded, step}
 use Rattle.rulebook.specs.Marked.{same, gives}
 use Rattle.laws.specs.Sequence.{times}
 use Rattle.laws.specs.Chosen.{Chosen, ListsRan, setsPort, valueSet, Arbitrated, allMarked, onePort, noPort}
@@ -44,7 +44,7 @@ unfolding digit byItem first all any sum listed each until part abort aSize stra
     ruleFits thingFits fitsAt fits traceWord setPort effect unread act stops valueIn undefinedIn unready resultIn visitsIn choice choiceIn setResult runItem
     runItems runList unmarkPort unmarkPorts evaluated storeResult storeResults visitsBy ruleVisits chooses chosen ofPriority orderBelow order runIf
     runChosen decide arbitrate only request happen wellFormed named present suited known sentByOwner goodOrFailed outcomesKnown
-    firstFault finish conclude heeded step same gives table fresh bothRun
+    firstFault conclude heeded step same gives table fresh bothRun
 claim = refl
 
 -- both lists are chosen

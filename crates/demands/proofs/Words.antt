@@ -77,7 +77,6 @@ kept-by-acts t =
       act = λ l i x w a b h. one-more x _ _ _ _ h;
       undefined = λ l i x w e h. one-more x _ _ _ _ h;
       judge = λ l i x w e u h. one-more x _ _ _ _ h;
-      deep = λ x h. h;
     }
   where
     one-more : (x : Run) (k o a b : ℕ) → Words (x .words) → Words (x .words ++ (traceWord k o a b ∷ []))
@@ -150,7 +149,7 @@ module _ (t : List ℕ) where
 
 pub step-words : (t s : List ℕ) (room : ℕ) (os : List ℕ) (e : ℕ) → Words s → Words (step t s room os e .state) × Words (step t s room os e .words)
 step-words t s room os e h =
-    step-cases (λ r. Words (r .state) × Words (r .words)) t s room os e (λ k a b. (h, tt))
+    step-cases (λ r. Words (r .state) × Words (r .words)) t s room os e (λ k a. (h, tt))
     (λ c w. let p = happened t (facts t (c .table)) e (heeded t os) s w (c .state) h in (p .state, p .words))
 
 pub drop-words : (n : ℕ) (ws : List ℕ) → Words ws → Words (drop n ws)

@@ -15,6 +15,7 @@ use Rattle.laws.specs.Chosen.{Arbitrated}
 use Rattle.laws.specs.Visits.{evaluations, Visited}
 use Rattle.laws.specs.Cleared.{ClearCounts}
 use Rattle.laws.specs.Levels.{Levels}
+use Rattle.laws.specs.MoreLevels.{MoreLevels}
 use Rattle.laws.specs.Reached.{Unreached, ListsStarted}
 use Rattle.stranger.specs.Logs.{Entry, Log, stateAfter, logFrom, joined}
 use Rattle.stranger.specs.Heard.{HeardCounts}
@@ -30,6 +31,8 @@ pub record OfTable (t : List ℕ) (reason place b : ℕ) : Type 0 where
   pub accepts : (reason ≡ 0) ↔ Rules t
   -- Q-5: "condition kind 9, 'at or above', for mode ports only"
   pub levels : reason ≡ 0 → Levels t
+  -- Q-11: seven levels cut no run short
+  pub moreLevels : reason ≡ 0 → MoreLevels t
   -- Q-6: "Refuse a table in which a list is reached by no rule that isn't nested-only"
   pub started : ListsStarted t reason place
 

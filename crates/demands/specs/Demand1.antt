@@ -1,9 +1,10 @@
 -- Demand 1. "Any table, state and event may be handed in. Every public entry checks for itself. A refusal gives the numbered answer of
 -- document 01, first fault first, and changes no word of state or trace." A field an entry, over what it promises in numbers.
 use mathlib.Core.Path.{_≡_}
+use mathlib.Core.Logic.{_⊎_}
 use mathlib.Core.Bool.{true, false}
 use mathlib.Core.List.{List}
-use Prim.Native.Nat.{ℕ}
+use Prim.Native.Nat.{ℕ, _≤_}
 use lib.ListN.{length}
 use Rattle.rulebook.specs.Reasons.{accepted, bound}
 use Rattle.rulebook.specs.State.{stateLength, fits, fresh}
@@ -36,6 +37,8 @@ pub record StateAnswered (t s : List ℕ) (k : ℕ) : Type 0 where
 -- the event call
 pub record EventAnswered (t s trace os : List ℕ) (e k n v : ℕ) (s′ trace′ : List ℕ) : Type 0 where
   pub number : k ≡ firstFault t s (length trace) os e
+  -- Q-11: "All other answers keep their numbers and order": 0 to 6 and 8, and 7 is not used
+  pub numbers : (k ≤ 6) ⊎ (k ≡ 8)
   pub stateKept : (k ≡ 0 → ⊥) → s′ ≡ s
   pub traceKept : (k ≡ 0 → ⊥) → trace′ ≡ trace
   pub noCount : (k ≡ 0 → ⊥) → n ≡ 0

@@ -20,6 +20,8 @@ pub record PlayAnswered (t s trace es : List ℕ) (k n m v : ℕ) (s′ trace′
   pub full : (k ≡ 3) ↔ ((refusedState t s ≡ 0) × (n < length es) × (length trace < m + bound t))
   -- "A refused event ends the play": it is the one behind those taken, and the answer is its own
   pub refused : refusedState t s ≡ 0 → (k ≡ 0 → ⊥) → (k ≡ 3 → ⊥) → (n < length es) × (k ≡ refusedEvent t [] (getD es n 0))
+  -- Q-11: 7 is not used here either, nor 8, for no outcomes are lent
+  pub numbers : k ≤ 6
   pub within : n ≤ length es
   pub room : m ≤ length trace
   -- what ends a play changes nothing: the events taken alone give this state and this trace

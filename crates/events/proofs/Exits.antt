@@ -13,7 +13,7 @@ use Rattle.rulebook.specs.Table as Table
 use Rattle.rulebook.specs.Lists.{start}
 use Rattle.rulebook.specs.Arbitration.{arbitrate}
 use Rattle.rulebook.specs.Events.{eventKind, eventIndex, eventValue, only, request, tick, changed, happen}
-use Rattle.rulebook.specs.Step.{finish, heeded, handle}
+use Rattle.rulebook.specs.Step.{heeded, handle}
 use Rattle.lists.specs.declared.Written.{Written}
 use Rattle.lists.specs.Runs.{Safe, Ran}
 use Rattle.things.specs.Requests.{Requested}
@@ -77,13 +77,12 @@ module _ (t s trace os : List ℕ) (e : ℕ) (h : EventCheck) (is : h ≡ eventC
     pub heeded-safe : Safe (happen t e (heeded t os) s) trace → Safe (happen t e (drop read os) s) trace
     heeded-safe safe = rw rest safe
 
-    pub reports-done : (w : Written) (s′ trace′ : List ℕ) → eqb (answerOf h) 0 ≡ true → Safe (happen t e (heeded t os) s) trace
+    pub reports-done : (w : Written) (s′ trace′ : List ℕ) → eqb (answerOf h) 0 ≡ true
         → Ran os (happen t e (drop read os) s) s′ trace trace′ w
         → Reports (handle t s os e) trace (Done (record { count = w .count; visits = w .visits })) s′ trace′
-    unfolding finish
-    reports-done w s′ trace′ z safe r =
+    reports-done w s′ trace′ z r =
         let x : Ran os (happen t e (heeded t os) s) s′ trace trace′ w = rw rest at r in
-        rw (handle-taken t os e s h is z, safe .shallow) (record { answer = refl; count = x .count; visits = x .visits; state = x .state; words = x .words })
+        rw (handle-taken t os e s h is z) (record { answer = refl; count = x .count; visits = x .visits; state = x .state; words = x .words })
 
 -- what `let .. else` knows of an answer that is not `Taken`: its variant is one of the others
 abbrev others : List ℕ

@@ -3,14 +3,12 @@
 -- start, next and end. Assumes nothing.
 use Prim.Native.Nat.{ℕ, _+_, _-_, _≤_, _<_}
 use mathlib.Core.Path.{_≡_, refl, sym, ap, _∙_}
-use mathlib.Core.Bool.{false}
 use mathlib.Core.List.{List, [], _++_, append-assoc, append-nil}
 use native.Mathlib.Omega.{arith}
 use lib.ListN.{length, take, drop, length-append, length-drop, take-append-drop, drop-of-length-le}
 use lib.Seq.{length-take-le, take-all, take-at, drop-at, drop-drop}
 use borrow.Rule.Slice.PartMut.{midOf, putMid}
 use Rattle.rulebook.specs.Lists.{Run, start}
-use Rattle.laws.proofs.Tests.{or-none}
 use Rattle.laws.proofs.Frame.{Framed, afresh, framed-words}
 use Rattle.lists.specs.declared.Written.{Written}
 use Rattle.lists.specs.Runs.{Safe, Ran, Addable, nothing, plus}
@@ -21,7 +19,7 @@ begin os read s = start (drop read os) s
 
 -- the run so far, which has written w: the state s, as its words the first ones of the trace T, the outcomes behind those read, and the visits
 abbrev pub sofar : List ℕ → List ℕ → List ℕ → Written → Run
-sofar os s T w = record { state = s; words = take (w .count) T; deep = false; outcomes = drop (w .read) os; visits = w .visits }
+sofar os s T w = record { state = s; words = take (w .count) T; outcomes = drop (w .read) os; visits = w .visits }
 
 -- The whole run is `rest` of the run so far, which has written w; from there on the trace is as it was.
 pub record Along (os : List ℕ) (whole : Run) (rest : Run → Run) (before s T : List ℕ) (w : Written) : Type 0 where
@@ -30,9 +28,9 @@ pub record Along (os : List ℕ) (whole : Run) (rest : Run → Run) (before s T 
   pub inside : w .count ≤ length T
   pub long : length T ≡ length before
 
-same-run : (x : Run) (s w u : List ℕ) (n : ℕ) → x .state ≡ s → x .words ≡ w → x .deep ≡ false → x .outcomes ≡ u → x .visits ≡ n
-    → x ≡ record { state = s; words = w; deep = false; outcomes = u; visits = n }
-same-run x s w u n a b c d e = rw (← a, ← b, ← c, ← d, ← e)
+same-run : (x : Run) (s w u : List ℕ) (n : ℕ) → x .state ≡ s → x .words ≡ w → x .outcomes ≡ u → x .visits ≡ n
+    → x ≡ record { state = s; words = w; outcomes = u; visits = n }
+same-run x s w u n a b c d = rw (← a, ← b, ← c, ← d)
 
 -- a run of which another is the beginning: that one is safe too
 module _ (whole : Run) (rest : Run → Run) (framed : Framed rest) (x : Run) (run : whole ≡ rest x) (before : List ℕ) (safe : Safe whole before) where
@@ -46,14 +44,11 @@ module _ (whole : Run) (rest : Run → Run) (framed : Framed rest) (x : Run) (ru
       ap length begin-words ∙ length-append (x .words) (rest (afresh x) .words) in
       omega arith
 
-  begin-shallow : x .deep ≡ false
-  begin-shallow = or-none (x .deep) (rest (afresh x) .deep) (sym (ap (λ (y : Run). y .deep) (run ∙ framed x)) ∙ safe .shallow) .0
-
   begin-few : x .visits + rest (afresh x) .visits < 4294967296
   begin-few = rw (← ap (λ (y : Run). y .visits) (run ∙ framed x)) (safe .few)
 
   pub begin-safe : Safe x before
-  begin-safe = record { room = begin-room; shallow = begin-shallow; few = (let h = begin-few in omega arith) }
+  begin-safe = record { room = begin-room; few = (let h = begin-few in omega arith) }
 
 -- nothing has run yet
 pub along-none : (os : List ℕ) (read : ℕ) (whole : Run) (rest : Run → Run) (s T : List ℕ) → whole ≡ rest (begin os read s)
@@ -105,7 +100,7 @@ along-ran os whole rest framed x run before s T w safe r =
     record {
       run = run
           ∙ ap rest (same-run x s (take (w .count) T) (drop (w .read) os) (w .visits) (sym (r .state))
-          (sym (ap (take (w .count)) e ∙ take-at (x .words) (drop (w .count) before) (w .count) m)) (begin-shallow whole rest framed x run before safe)
+          (sym (ap (take (w .count)) e ∙ take-at (x .words) (drop (w .count) before) (w .count) m))
           (sym (r .outcomes)) (sym (r .visits)));
       kept = ap (drop (w .count)) e ∙ drop-at (x .words) (drop (w .count) before) (w .count) m;
       inside = omega arith;
@@ -136,9 +131,6 @@ module _ (os : List ℕ) (whole : Run) (f rest : Run → Run) (ff : Framed f) (f
   next-words : f here .words ≡ take at T ++ f (afresh here) .words
   next-words = framed-words ff here
 
-  next-shallow : f (afresh here) .deep ≡ false
-  next-shallow = sym (ap (λ (y : Run). y .deep) (ff here)) ∙ begin-shallow whole rest fr (f here) (a .run) before safe
-
   next-room : at + length (f (afresh here) .words) ≤ length T
   next-room =
       let r : length (f here .words) ≤ length before = begin-room whole rest fr (f here) (a .run) before safe in
@@ -158,7 +150,6 @@ module _ (os : List ℕ) (whole : Run) (f rest : Run → Run) (ff : Framed f) (f
   next-safe =
       record {
         room = rw part-is (let e : length (drop at T) ≡ length T - at = length-drop at T in let r = next-room in omega arith);
-        shallow = next-shallow;
         few = next-few;
       }
 
@@ -200,7 +191,6 @@ module _ (os : List ℕ) (whole : Run) (f rest : Run → Run) (ff : Framed f) (f
               ∙ ap rest (same-run (f here) s' (take (at + n) (done ++ drop (at + n) T)) (drop (v .read) os) (w .visits + v .visits)
               (ap (λ (y : Run). y .state) (ff here) ∙ sym (r .state))
               (next-words ∙ sym (take-at done (drop (at + n) T) (at + n) done-long))
-              (begin-shallow whole rest fr (f here) (a .run) before safe)
               (ap (λ (y : Run). y .outcomes) (ff here) ∙ sym (r .outcomes))
               (next-visits ∙ ap (λ (k : ℕ). w .visits + k) (sym (r .visits))));
           kept = drop-at done (drop (at + n) T) (at + n) done-long ∙ sym (drop-drop n at T) ∙ ap (drop n) (a .kept) ∙ drop-drop n at before;

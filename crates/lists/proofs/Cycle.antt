@@ -1,23 +1,26 @@
 -- The cycle of lists, items and rules along a lent trace and lent outcomes: what each call asks of the next, and what it has when that is back.
 -- Assumes nothing.
 use Prim.Native.Nat.{ℕ, _+_, _-_, _<_, _≤_}
-use mathlib.Core.Path.{_≡_, refl, sym, _∙_}
+use mathlib.Core.Path.{_≡_, refl, sym, ap, _∙_}
 use mathlib.Core.Bool.{Bool, true, false}
-use mathlib.Core.List.{List, []}
-use lib.ListN.{length, set}
+use mathlib.Core.List.{List, [], _++_}
+use lib.ListN.{length, drop, set}
+use lib.Seq.{drop-drop}
+use native.Mathlib.Numerals.{one-add}
 use borrow.Author.Tests.{eq-eqb, ne-eqb}
 use borrow.Rule.Slice.PartMut.{midOf, putMid}
 use Rattle.words.specs.declared.sections.List.{List as ListRead}
 use Rattle.words.specs.Sections.{ListAt}
+use Rattle.rulebook.specs.Reasons.{listWithin}
 use Rattle.rulebook.specs.Lists.{Run, start, emit, traceWord, traceListStart, stops, unready, choiceIn, judge, runChoice, runRule, runItem, runList}
 use Rattle.walks.proofs.Walks.{until-here, until-turn, until-end}
 use Rattle.laws.proofs.Tests.{split}
 use Rattle.laws.proofs.Cases.{rule-unready, rule-ready, choice-none, choice-some}
-use Rattle.laws.proofs.Frame.{Framed, framed-none, choice-framed, item-framed, list-framed}
+use Rattle.laws.proofs.Frame.{Framed, afresh, framed-words, framed-none, choice-framed, item-framed, list-framed}
 use Rattle.lists.specs.declared.Written.{Written}
-use Rattle.lists.specs.Runs.{Safe, Ran, Addable, Stops, oneWord, plus, itemsFrom}
+use Rattle.lists.specs.Runs.{Safe, Ran, Addable, Stops, oneWord, plus}
 use Rattle.lists.proofs.Along.{begin, sofar, Along, begin-safe, along-as, along-end, along-ran, along-addable, next-safe, next}
-use Rattle.lists.proofs.Items.{one-ran, level-left, list-runs, items-framed}
+use Rattle.lists.proofs.Items.{itemsFrom, one-ran, list-runs, items-framed}
 
 -- a run that is said in another way
 pub safe-as : (x y : Run) (T : List ℕ) → x ≡ y → Safe x T → Safe y T
@@ -49,17 +52,53 @@ module _ (os : List ℕ) (whole : Run) (f : Run → Run) (framed : Framed f) (be
     pub last-addable : length before < 18446744073709551616 → Addable w v
     last-addable h = along-addable os whole (λ x. x) framed-none before s' (anew w T part) w v last-along safe h
 
--- a list as read, whose first word v is written
-pub list-begun : (t os : List ℕ) (read d l v : ℕ) (x : ListRead) (s T T' : List ℕ) → ListAt t l x → v ≡ traceWord traceListStart (x .owner) l 0
-    → T' ≡ set T 0 v → Safe (runList d t l (begin os read s)) T
-    → Along os (runList d t l (begin os read s)) (itemsFrom t (d - 1) (x .owner) (x .«first_item») (x .«first_item» + x .«item_count»)) T s T'
-    (oneWord read 0)
-list-begun t os read d l v x s T T' is hv hT safe =
-    let y = emit (traceWord traceListStart (x .owner) l 0) (begin os read s) in
-    let run = list-runs t d l x (begin os read s) is (level-left t d l (begin os read s) T safe) in
-    let framed = items-framed t (d - 1) (x .owner) (x .«first_item») (x .«first_item» + x .«item_count») in
-    along-ran os _ _ framed y run T s T' (oneWord read 0) safe
-    (one-ran os read 0 y s T T' v (rw hv) (begin-safe _ _ framed y run T safe) refl hT refl refl)
+-- A run that has written w into the trace T lent to it, which is T' by then, and goes on in a loop that knows T' alone. What the loop has
+-- run of T' is run of T.
+pub record Begun (os : List ℕ) (whole : Run) (rest : Run → Run) (T s T' : List ℕ) (w : Written) : Type 0 where
+  pub along : Along os whole rest T' s T' w
+  pub safe : Safe whole T'
+  pub lent : (s' T″ : List ℕ) (v : Written) → Ran os whole s' T' T″ v → Ran os whole s' T T″ v
+
+-- so a list as read, whose first word v is written
+module _ (t os : List ℕ) (read d l v : ℕ) (x : ListRead) (s T T' : List ℕ) (h : listWithin d t l ≡ true) (is : ListAt t l x)
+    (hv : v ≡ traceWord traceListStart (x .owner) l 0) (hT : T' ≡ set T 0 v) (safe : Safe (runList d t l (begin os read s)) T) where
+  abbrev items : Run → Run
+  items = itemsFrom t (d - 1) (x .owner) (x .«first_item») (x .«first_item» + x .«item_count»)
+
+  abbrev first : Run
+  first = emit (traceWord traceListStart (x .owner) l 0) (begin os read s)
+
+  run : runList d t l (begin os read s) ≡ items first
+  run = list-runs t d l h x (begin os read s) is
+
+  framed : Framed items
+  framed = items-framed t (d - 1) (x .owner) (x .«first_item») (x .«first_item» + x .«item_count»)
+
+  on-lent : Along os (runList d t l (begin os read s)) items T s T' (oneWord read 0)
+  on-lent =
+      along-ran os _ _ framed first run T s T' (oneWord read 0) safe
+      (one-ran os read 0 first s T T' v (rw hv) (begin-safe _ _ framed first run T safe) refl hT refl refl)
+
+  -- behind all its words, so behind the first one, the two traces are the same
+  behind-words : let n = length (runList d t l (begin os read s) .words) in drop n T' ≡ drop n T
+  behind-words =
+      let more = length (items (afresh first) .words) in
+      rw (ap length (ap (λ (y : Run). y .words) run ∙ framed-words framed first) ∙ sym (one-add more))
+      (sym (drop-drop more 1 T') ∙ ap (drop more) (on-lent .kept) ∙ drop-drop more 1 T)
+
+  pub list-begun : Begun os (runList d t l (begin os read s)) items T s T' (oneWord read 0)
+  list-begun =
+      record {
+        along = record { run = on-lent .run; kept = refl; inside = on-lent .inside; long = refl };
+        safe = record { room = rw (on-lent .long) (safe .room); few = safe .few };
+        lent = λ s' T″ w r. record {
+          state = r .state;
+          words = r .words ∙ ap (λ (rest : List ℕ). runList d t l (begin os read s) .words ++ rest) behind-words;
+          count = r .count;
+          outcomes = r .outcomes;
+          visits = r .visits;
+        };
+      }
 
 -- the items from i on: the one that stops the list, one that does not, and the end
 module _ (t os : List ℕ) (d o i end : ℕ) (whole : Run) (before s T : List ℕ) (w : Written) (a : Along os whole (itemsFrom t d o i end) before s T w) where
@@ -119,7 +158,7 @@ module _ (t os : List ℕ) (read d o r : ℕ) (s T : List ℕ) (safe : Safe (run
     unfolding judge
     judge-safe =
         let y = begin-safe _ _ (choice-framed t (runList d t) (list-framed t d) o (choiceIn t s r)) (judge t o r (begin os read s)) judged T safe in
-        record { room = y .room; shallow = y .shallow; few = y .few }
+        record { room = y .room; few = y .few }
 
     module _ (l n : ℕ) (hl : l ≡ choiceIn t s r) (s' T' : List ℕ) (none : Ran [] (judge t o r (start [] s)) s' T T' (oneWord 0 n)) where
       j : Ran os (judge t o r (begin os read s)) s' T T' (oneWord read n)

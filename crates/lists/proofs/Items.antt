@@ -1,7 +1,7 @@
 -- What the code reads of an item, a list and a rule decides how its run goes. Assumes nothing.
-use Prim.Native.Nat.{ℕ, zero, suc, _+_, _-_, _≤_}
+use Prim.Native.Nat.{ℕ, zero, suc, _+_, _-_, _≤_, _<_}
 use mathlib.Core.Path.{_≡_, refl, sym, ap, _∙_}
-use mathlib.Core.Bool.{Bool, false, _&&_, and-false}
+use mathlib.Core.Bool.{Bool, true, false, _&&_, and-false}
 use mathlib.Core.List.{List, [], _∷_}
 use native.Mathlib.Nat.{add-zero, zero-add}
 use native.Mathlib.Omega.{arith}
@@ -9,17 +9,20 @@ use lib.ListN.{length, drop, set, getD, drop-of-length-le}
 use lib.Seq.{drop-drop, getD-drop}
 use lib.Dec.{eqb}
 use borrow.Author.Tests.{eq-eqb, ne-eqb}
-use Rattle.rulebook.specs.Table.{reload, itemKind, itemA}
+use Rattle.rulebook.specs.Words.{until}
+use Rattle.rulebook.specs.Table.{reload, firstItem, itemCount, itemKind, itemA}
+use Rattle.rulebook.specs.Reasons.{ruleNests, itemNests, listWithin}
 use Rattle.rulebook.specs.Lists.{Run, start, emit, traceWord, traceListStart, setPort, networkIn, asking, setNetwork, resultIn, visitsIn, previousIn, choice}
 use Rattle.rulebook.specs.Lists.{choiceIn, setResult, effect, unread, act, stops, judge, runRule, runItem, runItems, runList}
 use Rattle.walks.proofs.Walks.{whole}
 use Rattle.laws.proofs.Tests.{clash}
+use Rattle.laws.proofs.Nesting.{nests-list, nests-rule, nests-choice, within-item}
 use Rattle.laws.proofs.Cases.{item-list, item-rule, item-act}
 use Rattle.laws.proofs.Frame.{Framed, framed-until, item-framed, list-framed}
 use Rattle.words.specs.declared.sections.Item.{Item}
 use Rattle.words.specs.declared.sections.List.{List as ListRead}
 use Rattle.words.specs.Sections.{ItemAt, ListAt}
-use Rattle.lists.specs.Runs.{Safe, Ran, ReadOn, Stops, oneWord, itemsFrom}
+use Rattle.lists.specs.Runs.{Safe, Ran, ReadOn, Stops, oneWord}
 use Rattle.lists.proofs.Along.{begin}
 
 -- a run of one word, written at the front of the trace
@@ -117,6 +120,20 @@ module _ (t : List ℕ) (i : ℕ) (x : Item) (is : ItemAt t i x) where
     pub runs-act : (k ≡ 5 → ⊥) → (k ≡ 6 → ⊥) → runItem (runList d t) t o i y ≡ act t o i y
     runs-act n m = item-act (runList d t) t o i y (ne-eqb _ 5 (λ e. n (kind-is ∙ e))) (ne-eqb _ 6 (λ e. m (kind-is ∙ e)))
 
+  -- what it names nests within the levels that it nests within
+  module _ (d : ℕ) (n : itemNests t (listWithin d t) i ≡ true) where
+    pub list-fits : k ≡ 5 → listWithin d t (x .a) ≡ true
+    list-fits h = rw names-it (sym (nests-list t (listWithin d t) i (eq-eqb _ 5 (sym kind-is ∙ h))) ∙ n)
+
+    pub rule-fits : (k ≡ 5 → ⊥) → k ≡ 6 → ruleNests t (listWithin d t) (x .a) ≡ true
+    rule-fits m h =
+        rw names-it (sym (nests-rule t (listWithin d t) i (ne-eqb _ 5 (λ e. m (kind-is ∙ e))) (eq-eqb _ 6 (sym kind-is ∙ h))) ∙ n)
+
+-- so the list l that rule r starts
+pub choice-fits : (t s : List ℕ) (d r l : ℕ) → l ≡ choiceIn t s r → (l ≡ 255 → ⊥) → ruleNests t (listWithin d t) r ≡ true → listWithin d t l ≡ true
+unfolding choiceIn
+choice-fits t s d r l is some n = rw is (nests-choice t (listWithin d t) r _ _ n (ne-eqb _ 255 (λ z. some (is ∙ z))))
+
 -- a rule that is judged: the list that it starts, its word and the state after it
 module _ (t s : List ℕ) (o r result : ℕ) (hr : result ≡ resultIn t s r) where
   pub judge-chooses : (previous l : ℕ) → previous ≡ previousIn t s r → l ≡ choice t r previous result → l ≡ choiceIn t s r
@@ -165,22 +182,33 @@ reads-none os read k n = rw (ne-eqb k 0 n)
 pub reads-next : (os : List ℕ) (read k : ℕ) → k ≡ 0 → ReadOn k os read (read + 1)
 reads-next os read k e = rw (e, drop-drop)
 
--- A list that may run has a level left.
-pub level-left : (t : List ℕ) (d l : ℕ) (x : Run) (T : List ℕ) → Safe (runList d t l x) T → 1 ≤ d
-unfolding runList
-level-left t zero l x T safe = clash refl (safe .shallow)
-level-left t (suc d) l x T safe = omega arith
+-- The items from `first` up to `end` of a list of owner o, as the rulebook's `runItems` goes through them; a list that they name has d
+-- levels left.
+abbrev pub itemsFrom : List ℕ → ℕ → ℕ → ℕ → ℕ → Run → Run
+itemsFrom t d o first end x = until first (end - first) (stops t) (runItem (runList d t) t o) x
 
-list-step : (t : List ℕ) (d n l : ℕ) (x : Run) → d ≡ suc n → runList d t l x ≡ runItems (runList n t) t l x
-unfolding runList
-list-step t d n l x h = rw h
+-- A list that nests within the levels left has one left, and its items nest within those behind it.
+module _ (t : List ℕ) (d l : ℕ) (h : listWithin d t l ≡ true) where
+  pub level-left : 1 ≤ d
+  unfolding listWithin
+  level-left = go d h
+    where
+      go : (k : ℕ) → listWithin k t l ≡ true → 1 ≤ k
+      go zero e = clash e refl
+      go (suc n) e = omega arith
 
--- list l as read
-pub list-runs : (t : List ℕ) (d l : ℕ) (x : ListRead) (y : Run) → ListAt t l x → 1 ≤ d
-    → runList d t l y ≡ itemsFrom t (d - 1) (x .owner) (x .«first_item») (x .«first_item» + x .«item_count») (emit (traceWord traceListStart (x .owner) l 0) y)
-unfolding runItems
-list-runs t d l x y is more =
-    list-step t d (d - 1) l y (omega arith) ∙ rw (whole, is .owner .value, is .first-item .value, is .item-count .value)
+  one-more : d ≡ suc (d - 1)
+  one-more = let more = level-left in omega arith
+
+  pub item-fits : (i : ℕ) → firstItem t l ≤ i → i < firstItem t l + itemCount t l → itemNests t (listWithin (d - 1) t) i ≡ true
+  item-fits i = within-item t (d - 1) l i (sym (ap (λ (k : ℕ). listWithin k t l) one-more) ∙ h)
+
+  -- list l as read
+  pub list-runs : (x : ListRead) (y : Run) → ListAt t l x
+      → runList d t l y ≡ itemsFrom t (d - 1) (x .owner) (x .«first_item») (x .«first_item» + x .«item_count») (emit (traceWord traceListStart (x .owner) l 0) y)
+  unfolding runItems runList
+  list-runs x y is =
+      ap (λ (k : ℕ). runList k t l y) one-more ∙ rw (whole, is .owner .value, is .first-item .value, is .item-count .value)
 
 pub items-framed : (t : List ℕ) (d o first end : ℕ) → Framed (itemsFrom t d o first end)
 items-framed t d o first end = framed-until t _ first (end - first) (item-framed t (runList d t) (list-framed t d) o)

@@ -1,21 +1,19 @@
 -- What running code asks of a run of the rulebook, and what it promises.
-use Prim.Native.Nat.{ℕ, _+_, _-_, _≤_, _<_}
+use Prim.Native.Nat.{ℕ, _+_, _≤_, _<_}
 use mathlib.Core.Path.{_≡_}
-use mathlib.Core.Bool.{Bool, false, cond}
+use mathlib.Core.Bool.{Bool, cond}
 use mathlib.Core.List.{List, _++_}
 use lib.ListN.{length, drop}
 use lib.Dec.{eqb}
-use Rattle.rulebook.specs.Words.{until}
 use Rattle.rulebook.specs.Table.{itemCall}
-use Rattle.rulebook.specs.Lists.{Run, stops, runItem, runList}
+use Rattle.rulebook.specs.Lists.{Run, stops}
 use Rattle.words.specs.declared.sections.Layout.{Layout}
 use Rattle.words.specs.Sections.{Laid}
 use Rattle.lists.specs.declared.Written.{Written}
 
--- Asked before run x: its words fit the lent trace, it starts no list at an eighth level, and its visits fit 32 bits.
+-- Asked before run x: its words fit the lent trace, and its visits fit 32 bits.
 pub record Safe (x : Run) (trace : List ℕ) : Type 0 where
   pub room : length (x .words) ≤ length trace
-  pub shallow : x .deep ≡ false
   pub few : x .visits < 4294967296
 
 -- so asked by all that runs, of the table t in the layout h
@@ -57,8 +55,3 @@ ReadOn kind os read r = drop r os ≡ cond (eqb kind itemCall) (drop 1 (drop rea
 
 abbrev pub Stops : List ℕ → ℕ → List ℕ → ℕ → Bool → Type 0
 Stops t i os read r = (x : Run) → x .outcomes ≡ drop read os → stops t i x ≡ r
-
--- The items from `first` up to `end` of a list of owner o, as the rulebook's `runItems` goes through them; a list that they name has
--- `below` levels.
-abbrev pub itemsFrom : List ℕ → ℕ → ℕ → ℕ → ℕ → Run → Run
-itemsFrom t below o first end x = until first (end - first) (stops t) (runItem (runList below t) t o) x

@@ -1,11 +1,13 @@
 // Lists: what each item does, the trace words, and a list run with the lists and rules that it names.
 ghost use mathlib.Core.Path.{_≡_};
+ghost use mathlib.Core.Bool.{true};
 ghost use mathlib.Core.List.{[]};
 ghost use lib.ListN.{drop};
 ghost use Rattle.rulebook.specs.Lists.{start, traceWord, effect as effectOf, networkIn, asking, setNetwork, choiceIn, act as actOf, judge as judgeOf};
 ghost use Rattle.rulebook.specs.Lists.{runList, runItem, runRule};
+ghost use Rattle.rulebook.specs.Reasons.{ruleNests, itemNests, listWithin};
 ghost use Rattle.words.specs.Sections.{Laid};
-ghost use Rattle.lists.specs.Runs.{MayRun, Ran, Addable, Stops, ReadOn, nothing as nothingWritten, oneWord, plus as plusOf, itemsFrom};
+ghost use Rattle.lists.specs.Runs.{MayRun, Ran, Addable, Stops, ReadOn, nothing as nothingWritten, oneWord, plus as plusOf};
 use evaluation;
 use words::numbers::ITEM_ASK;
 use words::numbers::ITEM_CALL;
@@ -188,9 +190,9 @@ fn judge(t: &[u32], h: Layout, o: u32, r: u32, s: &mut [u32], trace: &mut [u32])
     }
 }
 
-// List l with so many levels left: a word for its start, then its items. Like each of the cycle it fills the front of the trace
-// that it is lent, goes by the lent outcome words behind those that are read, and returns what it has written. A list has fewer levels
-// left than the one that starts it.
+// List l, which nests within the levels left: a word for its start, then its items, up to and with the one that stops it. Like each of the
+// cycle it fills the front of the trace that it is lent, goes by the lent outcome words behind those that are read, and returns what it has
+// written. A list has fewer levels left than the one that starts it.
 pub fn run_list(
     t: &[u32],
     h: Layout,
@@ -201,51 +203,32 @@ pub fn run_list(
     outcomes: &[u32],
     read: usize,
 ) -> Written
+    requires { ⌜ listWithin levels (now t) l ≡ true ⌝ }
     requires { ⌜ MayRun (now t) h (runList levels (now t) l (start (drop read (now outcomes)) (now s))) (now trace) ⌝ }
     ensures { λ w. ⌜ Ran (now (outcomes .entry)) (runList levels (now (t .entry)) l (start (drop read (now (outcomes .entry))) (now (s .entry))))
         (now (s .exit)) (now (trace .entry)) (now (trace .exit)) w ⌝ }
 {
     let list = sections::list_at(t, h, l);
     put(trace, 0, trace_word(TRACE_LIST_START, list.owner, l, 0));
-    let more = run_items(
-        t,
-        h,
-        list.owner,
-        list.first_item,
-        list.first_item + list.item_count,
-        levels - 1,
-        s,
-        &mut trace[1..],
-        outcomes,
-        read,
-    );
-    plus(one_word(read, 0), more)
-}
-
-// The items from `first` up to `end`, of a list of owner o, or up to and with the one that stops the list.
-fn run_items(
-    t: &[u32],
-    h: Layout,
-    o: u32,
-    first: u32,
-    end: u32,
-    below: u32,
-    s: &mut [u32],
-    trace: &mut [u32],
-    outcomes: &[u32],
-    read: usize,
-) -> Written
-    requires { ⌜ MayRun (now t) h (itemsFrom (now t) below o first end (start (drop read (now outcomes)) (now s))) (now trace) ⌝ }
-    ensures { λ w. ⌜ Ran (now (outcomes .entry)) (itemsFrom (now (t .entry)) below o first end (start (drop read (now (outcomes .entry))) (now (s .entry))))
-        (now (s .exit)) (now (trace .entry)) (now (trace .exit)) w ⌝ }
-{
-    let mut written = nothing(read);
-    let mut i = first;
+    let below = levels - 1;
+    let mut written = one_word(read, 0);
+    let end = list.first_item + list.item_count;
+    let mut i = list.first_item;
     while i < end {
         let at = written.count;
         let next = written.read;
         let last = stops(t, h, i, outcomes, next);
-        let more = run_item(t, h, o, i, below, s, &mut trace[at..], outcomes, next);
+        let more = run_item(
+            t,
+            h,
+            list.owner,
+            i,
+            below,
+            s,
+            &mut trace[at..],
+            outcomes,
+            next,
+        );
         written = plus(written, more);
         if last {
             return written;
@@ -267,6 +250,7 @@ fn run_item(
     outcomes: &[u32],
     read: usize,
 ) -> Written
+    requires { ⌜ itemNests (now t) (listWithin below (now t)) i ≡ true ⌝ }
     requires { ⌜ MayRun (now t) h (runItem (runList below (now t)) (now t) o i (start (drop read (now outcomes)) (now s))) (now trace) ⌝ }
     ensures { λ w. ⌜ Ran (now (outcomes .entry)) (runItem (runList below (now (t .entry))) (now (t .entry)) o i
         (start (drop read (now (outcomes .entry))) (now (s .entry))))
@@ -294,6 +278,7 @@ fn run_rule(
     outcomes: &[u32],
     read: usize,
 ) -> Written
+    requires { ⌜ ruleNests (now t) (listWithin below (now t)) r ≡ true ⌝ }
     requires { ⌜ MayRun (now t) h (runRule (runList below (now t)) (now t) o r (start (drop read (now outcomes)) (now s))) (now trace) ⌝ }
     ensures { λ w. ⌜ Ran (now (outcomes .entry)) (runRule (runList below (now (t .entry))) (now (t .entry)) o r
         (start (drop read (now (outcomes .entry))) (now (s .entry))))

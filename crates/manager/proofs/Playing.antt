@@ -19,7 +19,7 @@ use Rattle.rulebook.specs.Play.{Play, ending, onto, playOn}
 use Rattle.rulebook.proofs.Play.{refused-ends, taken-goes-on}
 use Rattle.laws.proofs.Fit.{fits-length}
 use Rattle.laws.proofs.Facts.{facts}
-use Rattle.laws.proofs.Steps.{step-cases, happen-paid, step-fits, refusal-changes-nothing}
+use Rattle.laws.proofs.Steps.{small-answer, step-cases, happen-paid, step-fits, refusal-changes-nothing}
 use Rattle.laws.proofs.Play.{stood-table, stood-state, play-stands, play-unadmitted, onto-none, onto-onto}
 use Rattle.events.specs.declared.Answer.{Answer}
 use Rattle.events.specs.declared.Answer.the-variants.{Done, BadTable, UnfitState, ShortTrace, Malformed, NoSuchThing, NotItsOwner, BadOutcome}
@@ -29,7 +29,6 @@ use Rattle.manager.specs.declared.End.{End}
 use Rattle.manager.specs.declared.End.the-variants as ends
 use Rattle.manager.specs.Answers.{endNumber}
 use Rattle.manager.specs.Promises.{PlaysIn}
-use Rattle.manager.proofs.Steps.{small-answer}
 
 -- what `let .. else` knows of an answer that is not `Done`: its variant is one of the others
 
@@ -61,7 +60,7 @@ plays-unadmitted t s trace es k n is =
 -- what a done call writes has room
 words-in-room : (t s : List ℕ) (room e : ℕ) → step t s room [] e .answer ≡ 0 → length (step t s room [] e .words) ≤ room
 words-in-room t s room e =
-    step-cases (λ r. r .answer ≡ 0 → length (r .words) ≤ room) t s room [] e (λ k a b z. absurd (omega arith))
+    step-cases (λ r. r .answer ≡ 0 → length (r .words) ≤ room) t s room [] e (λ k a z. absurd (omega arith))
     (λ c w z. let p = happen-paid t (facts t (c .table)) e (heeded t []) s in let q = c .enough in omega arith)
 
 -- The whole play of es from s₀ is what was taken so far, with its words at the front of the trace T, and a play of the rest from s in the

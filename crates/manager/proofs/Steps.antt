@@ -2,22 +2,22 @@
 use Prim.Native.Nat.{ℕ, _≤_}
 use mathlib.Core.Path.{_≡_, refl}
 use mathlib.Core.Bool.{true, false}
-use mathlib.Core.List.{List, []}
+use mathlib.Core.List.{List}
 use native.Mathlib.Omega.{arith}
 use lib.ListN.{length}
-use lib.Dec.{leb, eqb}
+use lib.Dec.{leb}
 use borrow.Author.Tests.{leb-true, leb-false, le-ltb}
 use Rattle.rulebook.specs.Table.{rules}
 use Rattle.rulebook.specs.Reasons.{bound, accepted}
 use Rattle.rulebook.specs.Events.{happen}
-use Rattle.rulebook.specs.Step.{refusedState, refusedCall, firstFault, refusedEvent, finish, conclude, heeded, step, handle}
+use Rattle.rulebook.specs.Step.{refusedState, firstFault, refusedEvent, conclude, heeded, step, handle}
 use Rattle.laws.proofs.Facts.{facts}
-use Rattle.laws.proofs.Tests.{split}
-use Rattle.laws.proofs.Steps.{call-small, event-small, step-in-parts, happen-shallow, happen-paid}
+use Rattle.laws.proofs.Steps.{happen-paid}
 use Rattle.laws.proofs.Play.{stood-table, stood-state, step-unadmitted, step-full}
 use Rattle.laws.proofs.Visits.{happen-most}
 use Rattle.words.specs.declared.sections.Layout.{Layout}
 use Rattle.lists.specs.Runs.{Safe}
+use Rattle.arbitration.specs.Asked.{Bounded}
 use Rattle.events.specs.declared.Answer.{Answer}
 use Rattle.events.specs.declared.Answer.the-variants.{ShortTrace}
 use Rattle.events.specs.Answers.{numberOf, countOf, visitsOf, Reports}
@@ -29,17 +29,16 @@ pub reports-unadmitted : (t s trace os : List ℕ) (e : ℕ) (r : Answer) → (r
 reports-unadmitted t s trace os e r n is none unvisited =
     rw (step-unadmitted t s n (length trace) os e) (record { answer = is; count = none; visits = unvisited; state = refl; words = refl })
 
--- what the run needs: its words fit the trace, it is not deep, and its visits are few
+-- what the run needs: its words fit the trace, and its visits are few
 pub safe : (t s trace os : List ℕ) (e : ℕ) → accepted t ≡ true → bound t ≤ length trace → Safe (happen t e os s) trace
 safe t s trace os e h enough =
     record {
       room = let paid = happen-paid t (facts t h) e os s in omega arith;
-      shallow = happen-shallow t (facts t h) e os s;
       few = let most = happen-most t (facts t h) e os s in omega arith;
     }
 
-pub few-rules : (t : List ℕ) (n : ℕ) → accepted t ≡ true → n ≡ rules t → n ≤ 256
-few-rules t n h e = let few = facts t h .counts .rules in omega arith
+pub bounded-by : (t : List ℕ) (h : Layout) → accepted t ≡ true → h .rules ≡ rules t → Bounded t h
+bounded-by t h ok e = let f = facts t ok in record { nested = λ l b. f .list l b .nested; few = omega (arith, f .counts .rules) }
 
 -- Behind the check of table and state, which gave b.
 
@@ -61,18 +60,8 @@ module _ {t s : List ℕ} {h : Layout} {b : ℕ} (ok : Admitted t s h b) (trace 
   goes-on r = rw (table-stands, stood-state t s (ok .stands), le-ltb (length trace) (bound t) (enough r))
 
   -- what the run asks for
-  pub few : h .rules ≤ 256
-  few = few-rules t _ table-stands (ok .laid .rules .value)
+  pub bounded : Bounded t h
+  bounded = bounded-by t h table-stands (ok .laid .rules .value)
 
   pub run-safe : leb b (length trace) ≡ true → Safe (happen t e (heeded t os) s) trace
   run-safe r = safe t s trace (heeded t os) e table-stands (enough r)
-
--- no outcomes are lent: answer 8 does not come
-pub small-answer : (t s : List ℕ) (room e : ℕ) → step t s room [] e .answer ≤ 7
-unfolding handle conclude finish
-small-answer t s room e =
-    split (eqb (refusedCall t s room) 0)
-    (λ a. split (eqb (refusedEvent t [] e) 0)
-    (λ b. split (happen t e (heeded t []) s .deep) (λ c. rw (step-in-parts, a, b, c) (omega arith)) (λ c. rw (step-in-parts, a, b, c) (omega arith)))
-    (λ b. let m = event-small t e in rw (step-in-parts, a, b) (omega arith)))
-    (λ a. let m = call-small t s room in rw (step-in-parts, a) (omega arith))

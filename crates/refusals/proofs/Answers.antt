@@ -5,9 +5,9 @@ use mathlib.Core.Path.{_≡_, ap, sym, _∙_}
 use mathlib.Core.Bool.{true, false}
 use mathlib.Core.List.{List}
 use lib.Dec.{eqb}
-use Rattle.rulebook.specs.Events.{happen}
-use Rattle.rulebook.specs.Step.{wellFormed, outcomesKnown, known, sentByOwner, refusedEvent, refusal, finish, conclude, heeded, handle}
+use Rattle.rulebook.specs.Step.{wellFormed, outcomesKnown, known, sentByOwner, refusedEvent, refusal, conclude, handle}
 use Rattle.laws.proofs.Tests.{split}
+use Rattle.laws.proofs.Steps.{done}
 use Rattle.refusals.specs.Answers.{answerOf, eventChecked}
 use Rattle.refusals.specs.declared.EventCheck.{EventCheck}
 
@@ -27,7 +27,7 @@ module _ (t os : List ℕ) (e : ℕ) where
     number : refusedEvent t os e ≡ answerOf r
     number = sym checked-answer ∙ ap answerOf (sym h)
 
-    pub handle-taken : eqb (answerOf r) 0 ≡ true → handle t s os e ≡ finish s (happen t e (heeded t os) s)
+    pub handle-taken : eqb (answerOf r) 0 ≡ true → handle t s os e ≡ done t os e s
     unfolding handle conclude
     handle-taken z = rw (number, z)
 

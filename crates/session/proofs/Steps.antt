@@ -17,12 +17,12 @@ use Rattle.laws.specs.Callable.{Callable}
 use Rattle.laws.proofs.Tests.{split}
 use Rattle.laws.proofs.Facts.{facts}
 use Rattle.laws.proofs.Fit.{fits-length}
-use Rattle.laws.proofs.Steps.{words-within, step-fits, callable}
+use Rattle.laws.proofs.Steps.{small-answer, words-within, step-fits, callable}
 use Rattle.lists.specs.Runs.{Safe}
 use Rattle.events.specs.declared.Answer.{Answer}
 use Rattle.events.specs.Answers.{numberOf, countOf, visitsOf, Reports}
 use Rattle.laws.proofs.Play.{stood-table, stood-state}
-use Rattle.manager.proofs.Steps.{safe, small-answer}
+use Rattle.manager.proofs.Steps.{safe}
 use Rattle.session.specs.Printed.{lines, taken, eventLines, most}
 use Rattle.session.specs.Promises.{PutAt, Ready, tracedBy, TookOne}
 use Rattle.session.proofs.Lines.{lines-long}

@@ -22,7 +22,7 @@ use Rattle.rulebook.specs.Arbitration.{visitsBy, ruleVisits, runIf, runChosen, 
 use Rattle.rulebook.specs.Events.{only, request, shown, moveNetwork, takes, wait, offBus, busOff, countedNetwork, tickedNetwork, tickNetwork}
 use Rattle.rulebook.specs.Events.{tickTimer, tickThings, markedIn, arbitrateMarked, tick, changed, happen}
 use Rattle.rulebook.specs.Step.{wellFormed, named, present, suited, known, sentByOwner, goodOrFailed, outcomesKnown, refusedState, firstFault}
-use Rattle.rulebook.specs.Step.{finish, conclude, heeded, step}
+use Rattle.rulebook.specs.Step.{conclude, heeded, step}
 use Rattle.text.specs.Words.{wordsOf}
 use Rattle.text.specs.Lines.{hexDigit, digits, placesIn, places, decimal}
 use Rattle.visits.specs.Printed.{results, labelled, costLine, costLines, larger, counted, mostAfter, which, largestLine, mostLines, costOf, costPrinted}
@@ -66,5 +66,5 @@ none =
     ∷ 101 ∷ 118 ∷ 101 ∷ 110 ∷ 116 ∷ 32 ∷ 110 ∷ 111 ∷ 110 ∷ 101 ∷ 32 ∷ 98 ∷ 111 ∷ 117 ∷ 110 ∷ 100 ∷ 32 ∷ 53 ∷ 48 ∷ 56 ∷ 10 ∷ []
 
 pub example : (costPrinted table events ≡ lines) × (costPrinted table [] ≡ none)
-unfolding digit byItem first all any sum listed each until part abort aSize stranger operator expressionNests expressionWithin expressionMentions mentions condition expressionHolds holds hasHeader knownEdition countsInside exactLength portFields expressionFields itemFields ownFields networkHas held mayShow expressionNames listOrNone itemNames names itemNests listNests listWithin nesting strangersPort ruleOwned itemOwned owners ruleReaches itemReaches listReaches reachesWithin reachedBy reached itemCost listCost costWithin bound affordable breaks lowest orNext firstOf check thing ownerOf packPort packRule packNetwork portFits ruleFits networkFits thingFits fitsAt fits freshPort freshThing freshAt fresh traceWord setPort setNetwork effect unread act stops valueIn undefinedIn unready resultIn choice choiceIn setResult runItem runItems runList unmarkPort unmarkPorts evaluated storeResult storeResults chooses chosen ofPriority orderBelow order runIf runChosen decide arbitrate only request shown moveNetwork takes wait offBus busOff countedNetwork tickedNetwork tickNetwork tickTimer tickThings markedIn arbitrateMarked tick changed happen wellFormed named present suited known sentByOwner goodOrFailed outcomesKnown firstFault finish conclude heeded step refusedState wordsOf hexDigit digits placesIn places decimal settled skipsRight expressionVisited visited visitsIn judge visitsBy ruleVisits results labelled costLine costLines larger counted mostAfter which largestLine mostLines costOf costPrinted
+unfolding digit byItem first all any sum listed each until part abort aSize stranger operator expressionNests expressionWithin expressionMentions mentions condition expressionHolds holds hasHeader knownEdition countsInside exactLength portFields expressionFields itemFields ownFields networkHas held mayShow expressionNames listOrNone itemNames names itemNests listNests listWithin nesting strangersPort ruleOwned itemOwned owners ruleReaches itemReaches listReaches reachesWithin reachedBy reached itemCost listCost costWithin bound affordable breaks lowest orNext firstOf check thing ownerOf packPort packRule packNetwork portFits ruleFits networkFits thingFits fitsAt fits freshPort freshThing freshAt fresh traceWord setPort setNetwork effect unread act stops valueIn undefinedIn unready resultIn choice choiceIn setResult runItem runItems runList unmarkPort unmarkPorts evaluated storeResult storeResults chooses chosen ofPriority orderBelow order runIf runChosen decide arbitrate only request shown moveNetwork takes wait offBus busOff countedNetwork tickedNetwork tickNetwork tickTimer tickThings markedIn arbitrateMarked tick changed happen wellFormed named present suited known sentByOwner goodOrFailed outcomesKnown firstFault conclude heeded step refusedState wordsOf hexDigit digits placesIn places decimal settled skipsRight expressionVisited visited visitsIn judge visitsBy ruleVisits results labelled costLine costLines larger counted mostAfter which largestLine mostLines costOf costPrinted
 example = (refl, refl)

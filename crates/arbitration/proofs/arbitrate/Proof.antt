@@ -44,6 +44,7 @@ run-chosen-requires : tie.Need-run-chosen-requires
 run-chosen-requires c κs =
     record {
       laid = start (after-unmark c .before .before .before) .pre .laid;
+      bounded = start (after-unmark c .before .before .before) .pre .bounded;
       safe = safe-as _ _ _ (arbitrated _ _ _ _ (after-results2 (after-choose c) .before .find-results .ensures .0) _ _ _ _ _
           (after-unmark c .unmark .ensures) (after-choose c .choose .ensures) (at-after-store (c .before) .store .ensures)
           (after-results2 (after-choose c) .before .find-results .ensures .1))

@@ -41,7 +41,7 @@ unfolding arbitrateMarked
 arbitrate-requires c κs =
     record {
       laid = entry c .pre .laid;
-      few = entry c .pre .few;
+      bounded = entry c .pre .bounded;
       safe = safe-as _ _ _ (ap (λ (q : ℕ → Bool). arbitrate (entry c .args .t .now) q (drop (entry c .args .read) (entry c .args .outcomes .now))
           (entry c .args .s .now)) (sym (marked-are _ _ _ (at-after-flag-marked c .flag-marked .ensures)))) (entry c .pre .safe);
     }

@@ -28,7 +28,7 @@ arbitrate-requires : tie.Need-arbitrate-requires
 arbitrate-requires c κs =
     record {
       laid = start c .pre .laid;
-      few = start c .pre .few;
+      bounded = start c .pre .bounded;
       safe = safe-as _ _ _ (ap (λ (q : ℕ → Bool). arbitrate (start c .args .t .now) q (drop (start c .args .read) (start c .args .outcomes .now))
           (start c .args .s .now)) (only-one _ (start c .pre .port)))
           (start c .pre .safe);

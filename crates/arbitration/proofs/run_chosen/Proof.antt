@@ -1,5 +1,6 @@
 -- `arbitration::run_chosen` meets its contract. The loop keeps `Along`, with the best of the lists still flagged next; the measure is the
 -- number of flags that are up. Assumes nothing.
+use Prim.Native.Nat.{_<_}
 use mathlib.Core.Path.{_≡_, refl, _∙_}
 use lib.ListN.{length}
 use Rattle.rulebook.specs.Words.{sum}
@@ -115,12 +116,16 @@ part-run-list-start c = at-at-loop (at-after-put c) .loop .inv .3 .inside
 
 run-list-requires : tie.Need-run-list-requires Inv-loop μ-loop
 run-list-requires c κs =
-    record {
-      laid = entry-2 (c .before) .pre .laid;
-      safe = list-safe _ _ _ (at-loop c .loop .inv .2) _ _ _ _ _ _ (at-loop c .loop .inv .3) _ (after-put-from-run-list-arg2 c .put .ensures)
-          (omega (arith, in-loop (after-put-from-run-list-arg2 c) .loop-test .taken, entry-2 (c .before) .pre .laid .lists .value))
-          (entry-2 (c .before) .pre .safe);
-    }
+    let pre = entry-2 (c .before) .pre in
+    let there : at-loop c .loop .l < Table.lists (entry-2 (c .before) .args .t .now) =
+    omega (arith, in-loop (after-put-from-run-list-arg2 c) .loop-test .taken, pre .laid .lists .value) in (
+      pre .bounded .nested _ there,
+      record {
+        laid = pre .laid;
+        safe = list-safe _ _ _ (at-loop c .loop .inv .2) _ _ _ _ _ _ (at-loop c .loop .inv .3) _ (after-put-from-run-list-arg2 c .put .ensures) there
+            (pre .safe);
+      },
+    )
 
 plus-requires : tie.Need-plus-requires Inv-loop μ-loop
 plus-requires c κs =

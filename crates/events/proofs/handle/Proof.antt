@@ -38,7 +38,7 @@ happen-requires : tie.Need-happen-requires
 happen-requires c κs =
     record {
       laid = start (after-check-event-2 c) .pre .laid;
-      few = start (after-check-event-2 c) .pre .few;
+      bounded = start (after-check-event-2 c) .pre .bounded;
       safe = heeded-safe _ _ _ _ _ _ (after-check-event-2 c .check-event .ensures)
           (after-read-before c .read-before .result) (after-read-before c .read-before .ensures)
           (start (after-check-event-2 c) .pre .safe);
@@ -49,8 +49,7 @@ returns-2 c =
     reports-done _ _ _ _ _ _ (after-check-event-2 (before-happen c) .check-event .ensures)
     (after-read-before (before-happen c) .read-before .result) (after-read-before (before-happen c) .read-before .ensures)
     (after-happen (c .before) .happen .result) _ _
-    (is-taken _ (after-enum-told (before-happen c) .enum-told .given .1)) (start (after-check-event-2 (before-happen c)) .pre .safe)
-    (after-happen (c .before) .happen .ensures)
+    (is-taken _ (after-enum-told (before-happen c) .enum-told .given .1)) (after-happen (c .before) .happen .ensures)
 
 pub handle-spec : {M : Type 1} → statement M
 handle-spec =

@@ -71,7 +71,7 @@ tick-requires : tie.Need-tick-requires
 tick-requires c κs =
     record {
       laid = entry c .pre .laid;
-      few = entry c .pre .few;
+      bounded = entry c .pre .bounded;
       safe = rw
           (happens-tick _ _ _ _ _ (after-kind-from-then1 (at-then1 c) .kind .ensures .value) (at-then1 c .if1 .taken)) at (entry c .pre .safe);
     }
@@ -85,7 +85,7 @@ request-requires : tie.Need-request-requires
 request-requires c κs =
     record {
       laid = entry-2 c .pre .laid;
-      few = entry-2 c .pre .few;
+      bounded = entry-2 c .pre .bounded;
       port = after-index-from-else1 (at-else1 c) .index .ensures .small;
       safe = rw (happens-mode _ _ _ _ _ (at-after-kind (at-else1 c) .kind .ensures .value) _ _
           (after-index-from-else1 (at-else1 c) .index .ensures .value) (at-else1 c .before .value .ensures .value)
@@ -102,7 +102,7 @@ request-requires-2 : tie.Need-request-requires-2
 request-requires-2 c κs =
     record {
       laid = start (after-kind c) .pre .laid;
-      few = start (after-kind c) .pre .few;
+      bounded = start (after-kind c) .pre .bounded;
       port = after-index (at-then3 c) .index .ensures .small;
       safe = rw
           (happens-request _ _ _ _ _ (after-kind c .kind .ensures .value) _ (after-index (at-then3 c) .index .ensures .value)

@@ -29,7 +29,7 @@ arbitrate-one-requires : tie.Need-arbitrate-one-requires
 arbitrate-one-requires c κs =
     record {
       laid = entry c .pre .laid;
-      few = entry c .pre .few;
+      bounded = entry c .pre .bounded;
       port = entry c .pre .port;
       safe = rw
           (request-now _ _ _ _ _ _ _ (after-request-port (at-then1 c) .request-port .ensures) (at-then1 c .if1 .taken)) at

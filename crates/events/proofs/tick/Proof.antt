@@ -26,7 +26,7 @@ unfolding tick
 arbitrate-marked-requires c κs =
     record {
       laid = entry c .pre .laid;
-      few = entry c .pre .few;
+      bounded = entry c .pre .bounded;
       safe = rw (at-after-tick-things c .tick-things .ensures)
           (entry c .pre .safe);
     }

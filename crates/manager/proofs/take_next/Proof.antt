@@ -2,7 +2,7 @@
 use mathlib.Core.Path.{sym, ap, _∙_}
 use mathlib.Core.List.{[]}
 use Rattle.refusals.specs.Answers.{passes}
-use Rattle.manager.proofs.Steps.{short-trace, goes-on, few, run-safe}
+use Rattle.manager.proofs.Steps.{short-trace, goes-on, bounded, run-safe}
 use borrow.Author.Needs.{needs}
 use Rattle.manager.proofs.take_next.Statement.{statement}
 use Rattle.manager.proofs.take_next.Tie as tie
@@ -33,7 +33,7 @@ handle-requires c κs =
     let ok = start (after-passed-if c) .pre in
     record {
       laid = ok .laid;
-      few = few ok (start (after-passed-if c) .args .trace .now) [] 0;
+      bounded = bounded ok (start (after-passed-if c) .args .trace .now) [] 0;
       safe = run-safe ok _ _ _ (sym (after-passed-if c .passed-if .ensures) ∙ ap passes (after-told c .enum-told .given .1));
     }
 

@@ -1,5 +1,5 @@
 -- `session::take_one` meets its contract: the event's call is safe, and its lines have room. Assumes nothing.
-use Rattle.manager.proofs.Steps.{few-rules}
+use Rattle.manager.proofs.Steps.{bounded-by}
 use Rattle.manager.proofs.Playing.{none-behind}
 use Rattle.session.proofs.Steps.{run-safe, number-small, count-few, room-enough, took}
 use borrow.Author.Needs.{needs}
@@ -33,7 +33,7 @@ after-lay-lines-arg3 c = c .before .before .before
 
 handle-requires : tie.Need-handle-requires
 handle-requires c κs =
-    record { laid = start c .pre .0; few = few-rules _ _ (start c .pre .1 .table) (start c .pre .0 .rules .value); safe = run-safe _ _ _ _ (start c .pre .1) _ }
+    let p = start c .pre in record { laid = p .0; bounded = bounded-by _ _ (p .1 .table) (p .0 .rules .value); safe = run-safe _ _ _ _ (p .1) _ }
 
 lay-lines-requires : tie.Need-lay-lines-requires
 lay-lines-requires c κs =

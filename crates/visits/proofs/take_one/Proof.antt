@@ -1,5 +1,5 @@
 -- `visits::take_one` meets its contract: the event's call is safe, and its line tells what it reports. Assumes nothing.
-use Rattle.manager.proofs.Steps.{few-rules}
+use Rattle.manager.proofs.Steps.{bounded-by}
 use Rattle.manager.proofs.Playing.{none-behind}
 use Rattle.session.proofs.Steps.{run-safe}
 use Rattle.visits.proofs.Along.{took}
@@ -27,7 +27,8 @@ abbrev after-count : tie.After-slice-known6 → tie.After-count
 after-count c = after-visits (c .before) .before
 
 handle-requires : tie.Need-handle-requires
-handle-requires c κs = let p = start c .pre in record { laid = p .0; few = few-rules _ _ (p .1 .table) (p .0 .rules .value); safe = run-safe _ _ _ _ (p .1) _ }
+handle-requires c κs =
+    let p = start c .pre in record { laid = p .0; bounded = bounded-by _ _ (p .1 .table) (p .0 .rules .value); safe = run-safe _ _ _ _ (p .1) _ }
 
 returns : tie.Need-returns
 returns c =
