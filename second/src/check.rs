@@ -1,5 +1,7 @@
 //! The table's check: the first reason that holds, its place, and B.
 
+use std::ops::Deref;
+
 use crate::expressions::{depths, mentions};
 use crate::words::*;
 
@@ -14,6 +16,18 @@ pub struct Check {
 
 pub const DEAREST: u64 = 4096;
 
+/// A table that the check accepts, made by `accept` alone: lists are run of no other, for only
+/// there it is known that they end.
+pub struct Accepted<'a>(Table<'a>);
+
+impl<'a> Deref for Accepted<'a> {
+    type Target = Table<'a>;
+
+    fn deref(&self) -> &Table<'a> {
+        &self.0
+    }
+}
+
 pub fn check(words: &[u32]) -> Check {
     match accept(words) {
         Ok((_, b)) => Check { reason: 0, place: 0, b },
@@ -22,7 +36,7 @@ pub fn check(words: &[u32]) -> Check {
 }
 
 /// The table and its B, or the reason and place of its refusal.
-pub fn accept(words: &[u32]) -> Result<(Table<'_>, usize), (u32, usize)> {
+pub fn accept(words: &[u32]) -> Result<(Accepted<'_>, usize), (u32, usize)> {
     let table = shaped(words).map_err(|reason| (reason, 0))?;
     let all: Vec<(usize, Word)> = table.words().collect();
     refuse_lowest(5, &all, |_, word| breaks_own_fields(word))?;
@@ -43,7 +57,7 @@ pub fn accept(words: &[u32]) -> Result<(Table<'_>, usize), (u32, usize)> {
         return Err((10, table.place(Section::Lists, lowest)));
     }
     let b = costs(&table, &list_depths).into_iter().fold(0, u64::saturating_add);
-    if b > DEAREST { Err((9, 0)) } else { Ok((table, b as usize)) }
+    if b > DEAREST { Err((9, 0)) } else { Ok((Accepted(table), b as usize)) }
 }
 
 /// Reasons 1 to 4, which have no place.

@@ -1,6 +1,6 @@
 //! Events: which are refused, and what a taken one does.
 
-use crate::lists::{EighthLevel, Run};
+use crate::lists::Run;
 use crate::words::*;
 
 /// Answers 4, 8, 5 and 6, in this order, which read the table, the event and the outcomes lent
@@ -60,12 +60,12 @@ pub fn shown(state: u32) -> u32 {
 }
 
 impl Run<'_> {
-    pub fn take(&mut self, event: Event) -> Result<(), EighthLevel> {
+    pub fn take(&mut self, event: Event) {
         let number = event.index as usize;
         match event.kind {
-            event::TICK => return self.tick(),
-            event::MODE_REQUEST => return self.request(number, event.value),
-            event::EVENT_REQUEST => return self.request(number, 1),
+            event::TICK => self.tick(),
+            event::MODE_REQUEST => self.request(number, event.value),
+            event::EVENT_REQUEST => self.request(number, 1),
             event::WAKEUP => self.wakeup(number),
             event::WAKEUP_VALID => {
                 if self.state.source(number).status == source::PENDING {
@@ -76,14 +76,15 @@ impl Run<'_> {
             event::HEARD => self.heard(number),
             _ => self.turn_source(number, source::NONE, 0),
         }
-        Ok(())
     }
 
-    fn request(&mut self, number: usize, value: u32) -> Result<(), EighthLevel> {
+    fn request(&mut self, number: usize, value: u32) {
         let marked = self.table.port(number).deferred;
         let port = self.state.port(number);
         self.state.set_port(number, PortState { defined: 1, marked, value, ..port });
-        if marked == 1 { Ok(()) } else { self.arbitrate(&[number]) }
+        if marked == 0 {
+            self.arbitrate(&[number]);
+        }
     }
 
     fn wakeup(&mut self, number: usize) {
@@ -115,7 +116,7 @@ impl Run<'_> {
         }
     }
 
-    fn tick(&mut self) -> Result<(), EighthLevel> {
+    fn tick(&mut self) {
         for number in 0..self.table.count(Section::Networks) {
             self.tick_network(number);
         }
@@ -130,7 +131,7 @@ impl Run<'_> {
         let ports = 0..self.table.count(Section::Ports);
         ports.clone().for_each(|number| self.tick_timer(number));
         let marked: Vec<usize> = ports.filter(|&p| self.state.port(p).marked == 1).collect();
-        self.arbitrate(&marked)
+        self.arbitrate(&marked);
     }
 
     /// One transition at most.

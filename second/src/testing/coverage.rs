@@ -6,6 +6,7 @@ use std::fmt;
 
 use super::failing_rows::{self, Failing};
 use super::heard::{self, Heard};
+use super::nesting::{self, Nesting};
 use super::visits_rows::{self, Visits};
 use super::{names, play_rows, played};
 use crate::cases::refused::{COST_4097, DEPTH_8_EXPRESSION, DEPTH_8_LIST, RING};
@@ -38,6 +39,7 @@ pub enum Row {
     BusOffIgnored(u32),
     Heard(Heard),
     Failing(Failing),
+    Nesting(Nesting),
     SourceTurn(u32, u32),
     Unfit(usize),
     Limit(usize),
@@ -49,8 +51,6 @@ pub type Met = BTreeSet<Row>;
 
 pub const TWO_CHOSEN: &str = "two or more lists chosen at once";
 pub const CHOSEN_AND_NAMED: &str = "a list both chosen and named";
-pub const DEPTH_7_EXPRESSION: &str = "expression depth 7 accepted";
-pub const DEPTH_7_LIST: &str = "list depth 7 accepted";
 pub const COST_4096: &str = "cost 4096 accepted";
 pub const TRACE_FULL: &str = "trace filled to B";
 pub const PLATFORM_ASKS: &str = "platform list asks an operator's network";
@@ -95,11 +95,9 @@ pub const STRUCK_OUT_REFUSED: &str = "strangers' heards of a network that is in 
 pub const STRUCK_OUT_SAME: &str =
     "strangers' taken events struck out, heard taken at the same tick";
 
-const SPECIAL: [&str; 50] = [
+const SPECIAL: [&str; 48] = [
     TWO_CHOSEN,
     CHOSEN_AND_NAMED,
-    DEPTH_7_EXPRESSION,
-    DEPTH_7_LIST,
     DEPTH_8_EXPRESSION,
     DEPTH_8_LIST,
     RING,
@@ -249,6 +247,7 @@ impl fmt::Display for Row {
             }
             Row::Heard(heard) => heard.to_string(),
             Row::Failing(failing) => failing.to_string(),
+            Row::Nesting(nesting) => nesting.to_string(),
             Row::SourceTurn(from, to) => format!("source: {}", turn(&STATUSES, from, to)),
             Row::Unfit(misfit) => format!("state unfit: {:?}", MISFITS[misfit]),
             Row::Limit(section) => {
@@ -298,6 +297,7 @@ impl Coverage {
             .chain(ignoring.map(Row::BusOffIgnored))
             .chain(heard::rows().map(Row::Heard))
             .chain(failing_rows::rows().map(Row::Failing))
+            .chain(nesting::rows().map(Row::Nesting))
             .chain(SOURCE_TURNS.map(|(from, to)| Row::SourceTurn(from, to)))
             .chain(MISFITS.map(Row::unfit))
             .chain(SECTIONS.map(Row::limit))

@@ -12,6 +12,7 @@ mod heard;
 mod levels;
 mod log;
 mod names;
+mod nesting;
 mod play;
 mod play_rows;
 mod played;
@@ -58,8 +59,8 @@ pub fn test() -> bool {
     let mut tally = Tally::default();
     // A panic is reported with its case's name, not on its own.
     std::panic::set_hook(Box::new(|_| {}));
-    for &(name, case) in fixed::all().iter() {
-        tally.note(name, catch_unwind(case).map_err(|panic| panic_text(&*panic)));
+    for ran in run_fixed() {
+        tally.note(ran.name, ran.outcome.and_then(|()| fixed_nesting(&ran.asked)));
     }
     let fixed = tally.passed + tally.failed;
     let mut coverage = Coverage::new();
@@ -109,6 +110,12 @@ pub fn run_fixed() -> Vec<Ran> {
         Ran { name, outcome, asked: recorded::asked() }
     };
     fixed::all().into_iter().map(run).collect()
+}
+
+/// What a fixed case asked, tried for its nesting.
+fn fixed_nesting(asked: &[Case]) -> Result<(), String> {
+    let tried = catch_unwind(|| asked.iter().try_for_each(|c| nesting::try_asked(c).map(|_| ())));
+    tried.map_err(|panic| panic_text(&*panic))?
 }
 
 /// Tries everything on a generated case and counts what it met.

@@ -10,16 +10,13 @@ use super::skipping::Skipping;
 use super::traces::evaluated;
 use super::visits::{Visited, try_refusals};
 use super::walk::{By, Walk};
-use super::{cost, demand3, failing, play, played, ports, reach};
-use crate::cases::draft::{Depth, Draft, SEVEN};
+use super::{cost, demand3, failing, nesting, play, played, ports, reach};
+use crate::cases::draft::Draft;
 use crate::cases::states::fresh_state;
 use crate::cases::{Case, Known, Made};
 use crate::stream::STATE_FILL;
 use crate::words::*;
 use crate::{check, check_state, fresh, state};
-
-/// The answers there are; 7 is one that nobody can get.
-const ANSWERS: [u32; 8] = [0, 1, 2, 3, 4, 5, 6, 8];
 
 /// Tries everything on one case; gives what it met.
 pub fn try_case(made: &Made) -> Result<Met, String> {
@@ -27,6 +24,8 @@ pub fn try_case(made: &Made) -> Result<Met, String> {
     let mut met: Met = known.note.map(Row::Special).into_iter().collect();
     let checked = check(&case.table);
     met.insert(Row::Reason(checked.reason));
+    // Before anything is run of it, for a run of lists that nest without end would not end.
+    nesting::try_table(&case.table, checked, &mut met)?;
     let given = (checked.reason, checked.place);
     hold(known.check.is_none_or(|check| check == given), || {
         format!("check gives {checked:?}, made as {:?}", known.check)
@@ -47,6 +46,7 @@ pub fn try_case(made: &Made) -> Result<Met, String> {
     try_refusals(&log, &mut met)?;
     levels::meet_refused(&case.table, checked, &mut met)?;
     reach::try_reach(&case.table, checked, &mut met)?;
+    nesting::try_runs(case, &log, &mut met)?;
     let (good, calls_good) = with_good_calls(case, &log);
     play::try_plays(&good, checked.b, &calls_good, &mut met)?;
     if checked.reason == 0 {
@@ -140,18 +140,8 @@ fn try_state(case: &Case, known: &Known, reason: u32) -> Result<(), String> {
     })
 }
 
-/// The walk's depths and cost agree with the check's; the limits it reaches.
+/// The walk's cost agrees with the check's; the limits it reaches.
 fn try_table(draft: &Draft, b: usize, met: &mut Met) -> Result<(), String> {
-    let (expressions, lists) = draft.depths();
-    for (depths, row) in
-        [(&expressions, coverage::DEPTH_7_EXPRESSION), (&lists, coverage::DEPTH_7_LIST)]
-    {
-        let deepest = depths.iter().max().copied().unwrap_or(Depth::Levels(0));
-        hold(deepest <= Depth::Levels(SEVEN), || format!("accepted though {deepest:?}"))?;
-        if deepest == Depth::Levels(SEVEN) {
-            met.insert(Row::Special(row));
-        }
-    }
     hold(draft.b() == b, || format!("B is {b}, walked {}", draft.b()))?;
     if b == 4096 {
         met.insert(Row::Special(coverage::COST_4096));
@@ -176,9 +166,6 @@ fn try_log(
     let mut clears = Clears::over(draft);
     let mut heards = Heards::over(draft);
     for (number, entry) in log.iter().enumerate() {
-        hold(ANSWERS.contains(&entry.answer), || {
-            format!("event {number} answered {}", entry.answer)
-        })?;
         if entry.answer != 0 {
             let unchanged = entry.before == entry.after && entry.trace.is_empty();
             hold(unchanged, || format!("refused event {number} changed something"))?;

@@ -69,7 +69,7 @@ impl Visited<'_> {
 
     /// Every evaluation, in order: those of arbitration by the values before any list, those of
     /// rule items by what the items before them left. The results of rule items are as shown.
-    fn evaluations(&self, choices: &Choices) -> Result<Vec<Evaluation>, String> {
+    pub fn evaluations(&self, choices: &Choices) -> Result<Vec<Evaluation>, String> {
         let mut values = choices.read.clone();
         let by_arbitration = choices.results(choices.arbitrated).map(|(rule, _)| {
             let read = self.read(&choices.read, rule);

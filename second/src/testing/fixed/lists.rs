@@ -1,8 +1,6 @@
 //! Running lists: items, named lists, rule items and their trace words.
 
 use super::*;
-use crate::lists::Run;
-use crate::state::State;
 
 /// A request of 5 on port 0 starts list 0, whatever else there is. Port 1 is as
 /// given. Rule 0 starts list 0; the rules given come after it.
@@ -259,16 +257,13 @@ fixed_cases! {
         );
     }
 
-    /// The check refuses such tables, so the run is started without it.
-    fn run_would_not_start_a_list_at_an_eighth_level() {
-        for (levels, runs) in [(7, true), (8, false)] {
+    fn list_at_an_eighth_level_is_refused_with_its_table() {
+        for (levels, answer) in [(7, 0), (8, 1)] {
             let lists: Vec<u32> = (0..levels).map(|level| list(1, level, 1)).collect();
             let items: Vec<u32> = (1..levels).map(|next| item(5, next)).chain([call(8)]).collect();
             let words = plain(&[mode(1)], &[equal(0, 5)], &[rule(1, 0, 0, NONE)], &lists, &items);
-            let table = Table::of(&words).expect("a header");
-            let state = State::of(&table, &[0, 0]).expect("its length");
-            let mut run = Run { table: &table, state, trace: vec![], outcomes: &[], visits: 0 };
-            assert_eq!(run.take(Event::of(GO)).is_ok(), runs);
+            let stepped = step(&words, &mut [0; 2], &mut [0; 35], GO, &[]);
+            assert_eq!((stepped.answer, stepped.count), (answer, if answer == 0 { 8 } else { 0 }));
         }
     }
 }
