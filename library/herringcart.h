@@ -18,6 +18,7 @@
  *     The event's visits are a uint32_t, the play's a uint64_t.
  *   - HERRINGCART_MOST_VISITS is new. Nothing else differs: every table, answer, state, trace and count is 4.0's.
  *
+ * 5.1 changes no call, number, state or trace: of the answers 7, which was never given, is not one any more.
  * docs/CHANGES.md says what the versions before changed; since 4.0 an event call lends outcomes.
  *
  * The linker does not look at arguments. A program that was compiled with the header of another version may link with this
@@ -84,9 +85,9 @@
 
 /* The version of this header and of the archive beside it. docs/CHANGES.md says what each version changes. The number is
  * what herringcart_version of that archive gives. */
-#define HERRINGCART_VERSION "5.0"
+#define HERRINGCART_VERSION "5.1"
 #define HERRINGCART_VERSION_MAJOR 5
-#define HERRINGCART_VERSION_MINOR 0
+#define HERRINGCART_VERSION_MINOR 1
 #define HERRINGCART_VERSION_NUMBER (UINT32_C(65536) * HERRINGCART_VERSION_MAJOR + HERRINGCART_VERSION_MINOR)
 
 #ifdef __cplusplus
@@ -119,8 +120,8 @@ enum herringcart_reason {
     HERRINGCART_TOO_DEAR = 9       /* all lists' cost is above 4,096 */
 };
 
-/* What the other calls answer, in the order in which the answers are tried: 8 stands between 4 and 5. Answer 7 of document
- * 01 is never given: that the table check excludes it is proved. */
+/* What the other calls answer, in the order in which the answers are tried: 8 stands between 4 and 5. 7 is not used: document 01
+ * had it for a list at an eighth level, and a table that could start one is HERRINGCART_TOO_DEEP; that no call gives 7 is proved. */
 enum herringcart_answer {
     HERRINGCART_DONE = 0,
     HERRINGCART_BAD_TABLE = 1,          /* the table has a reason */
