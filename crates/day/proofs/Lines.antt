@@ -7,12 +7,13 @@ use native.Mathlib.Omega.{arith}
 use lib.ListN.{length, getD, take, length-append}
 use lib.Seq.{take-suc, length-take-le}
 use Rattle.text.specs.Lines.{decimal, decimalLine, hexLine}
-use Rattle.text.specs.Puts.{Put}
+use Rattle.text.specs.Puts.{Put, PutAt}
 use Rattle.text.proofs.Digits.{length-hex}
 use Rattle.text.proofs.Decimal.{decimal-within}
 use Rattle.text.proofs.Lay.{lay-none}
-use Rattle.session.specs.Promises.{PutAt, PutLines}
-use Rattle.session.proofs.Lines.{put-more, one-put, put-then, put-lines}
+use Rattle.text.proofs.Puts.{put-more, one-put, put-then}
+use Rattle.session.specs.Promises.{PutLines}
+use Rattle.session.proofs.Lines.{put-lines}
 use Rattle.day.specs.Printed.{traceLine, traceLines, endLines}
 use Rattle.day.specs.Promises.{mostEnd}
 

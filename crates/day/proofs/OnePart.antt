@@ -8,7 +8,7 @@ use lib.ListN.{length, take, drop, length-append, take-append-drop}
 use lib.Seq.{length-take-le, take-at, drop-append-le}
 use Rattle.rulebook.specs.Play.{Play, play}
 use Rattle.manager.specs.Promises.{PlaysIn}
-use Rattle.session.specs.Promises.{PutAt}
+use Rattle.text.specs.Puts.{PutAt}
 use Rattle.day.specs.Printed.{traceLines, in64}
 use Rattle.day.specs.Promises.{roomOf, PlaysPart}
 use Rattle.day.proofs.Lines.{traces-long}

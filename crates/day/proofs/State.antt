@@ -14,12 +14,12 @@ use Rattle.rulebook.specs.Table.{ports, rules, networks}
 use Rattle.rulebook.specs.State.{Thing, aPort, aRule, aNetwork, aSource, thing, stateLength}
 use Rattle.laws.proofs.Tests.{split}
 use Rattle.text.specs.Lines.{decimal, hexLine}
-use Rattle.text.specs.Puts.{Put}
+use Rattle.text.specs.Puts.{Put, PutAt}
 use Rattle.text.proofs.Digits.{length-hex}
 use Rattle.text.proofs.Decimal.{decimal-within}
 use Rattle.text.proofs.Lay.{lay-none}
-use Rattle.session.specs.Promises.{PutAt}
-use Rattle.session.proofs.Lines.{put-more, put-length, one-put, put-then, put-lines}
+use Rattle.text.proofs.Puts.{put-more, put-length, one-put, put-then}
+use Rattle.session.proofs.Lines.{put-lines}
 use Rattle.day.specs.Printed.{space, label, number, named, thingLine, linesFrom, stateLines}
 use Rattle.day.specs.Promises.{mostWords, mostState, shown, LaysState}
 

@@ -12,11 +12,12 @@ use borrow.Author.Count.{below-more}
 use Rattle.rulebook.specs.Step.{refusedCall}
 use Rattle.laws.proofs.Tests.{split}
 use Rattle.text.specs.Words.{wordsOf, wordAt}
+use Rattle.text.specs.Puts.{PutAt}
 use Rattle.text.proofs.Lay.{lay-none}
+use Rattle.text.proofs.Puts.{put-more, put-length}
 use Rattle.session.specs.declared.Taken.{Taken}
 use Rattle.session.specs.Printed.{taken, eventLines, runLines, stateAfter, most}
-use Rattle.session.specs.Promises.{PutAt, Ready, tracedBy, traceAfter, TookOne, offered, TookEvents}
-use Rattle.session.proofs.Lines.{put-more, put-length}
+use Rattle.session.specs.Promises.{Ready, tracedBy, traceAfter, TookOne, offered, TookEvents}
 use Rattle.session.proofs.Steps.{next-long, traced-long, next-ready, event-long}
 
 -- A run of xs and then ys.

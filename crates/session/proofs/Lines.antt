@@ -10,36 +10,12 @@ use borrow.Author.Tests.{le-leb, lt-leb}
 use Rattle.rulebook.specs.Reasons.{verdict}
 use Rattle.text.specs.declared.output.Laid.{Laid}
 use Rattle.text.specs.Lines.{decimal, decimalLine, hexLines}
-use Rattle.text.specs.Puts.{Put, PutWords, lay}
+use Rattle.text.specs.Puts.{Put, PutAt, PutWords, lay}
 use Rattle.text.proofs.Digits.{length-hexes}
 use Rattle.text.proofs.Decimal.{decimal-one, length-decimal}
-use Rattle.text.proofs.Lay.{length-lay, lay-more}
-use Rattle.text.proofs.Puts.{laid}
+use Rattle.text.proofs.Puts.{put-more, put-length, one-put, put-then}
 use Rattle.session.specs.Printed.{lines, reasonLines}
-use Rattle.session.specs.Promises.{PutAt, PutLines}
-
-pub put-more : {xs ys out : List ℕ} {at n₁ n₂ : ℕ} {o₁ o₂ : List ℕ} → at + length xs ≤ length out → PutAt xs out at n₁ o₁ → PutAt ys o₁ n₁ n₂ o₂
-    → PutAt (xs ++ ys) out at n₂ o₂
-put-more {xs} {ys} {out} {at} h p q =
-    let l : length (xs ++ ys) ≡ length xs + length ys = simp length-append in
-    record { place = omega (arith, p .place, q .place); bytes = q .bytes ∙ rw (p .place, p .bytes) (lay-more out at xs ys h) }
-
--- the place after, and the length of what was laid into
-pub put-length : {xs out : List ℕ} {at n : ℕ} {o : List ℕ} → at + length xs ≤ length out → PutAt xs out at n o → length o ≡ length out
-put-length {xs} {out} {at} h p = ap length (p .bytes) ∙ length-lay out at xs h
-
-pub one-put : {line out : List ℕ} {at next : ℕ} {after : List ℕ} → at + length line ≤ length out → Put line out at next after → PutAt line out at next after
-one-put {line} {out} {at} {next} {after} h p =
-    let q = laid line out at next after p h in
-    record { place = q .0; bytes = q .1 }
-
--- a line, or a part of one, put behind what was laid
-pub put-then : {xs line out : List ℕ} {at n₁ n₂ : ℕ} {o₁ o₂ : List ℕ} → at + length xs + length line ≤ length out → PutAt xs out at n₁ o₁
-    → Put line o₁ n₁ n₂ o₂
-    → PutAt (xs ++ line) out at n₂ o₂
-put-then {xs} {line} h p q =
-    let long = put-length {xs = xs} (omega arith) p in
-    put-more {xs = xs} {ys = line} (omega arith) p (one-put {line = line} (omega (arith, p .place)) q)
+use Rattle.session.specs.Promises.{PutLines}
 
 -- Lines at the front: nothing where fewer than `room` bytes are lent, and where so many are that they have room.
 

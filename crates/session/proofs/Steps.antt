@@ -24,7 +24,8 @@ use Rattle.events.specs.Answers.{numberOf, countOf, visitsOf, Reports}
 use Rattle.laws.proofs.Play.{stood-table, stood-state}
 use Rattle.manager.proofs.Steps.{safe}
 use Rattle.session.specs.Printed.{lines, taken, eventLines, most}
-use Rattle.session.specs.Promises.{PutAt, Ready, tracedBy, TookOne}
+use Rattle.text.specs.Puts.{PutAt}
+use Rattle.session.specs.Promises.{Ready, tracedBy, TookOne}
 use Rattle.session.proofs.Lines.{lines-long}
 use Rattle.session.proofs.Checks.{state-small}
 

@@ -10,7 +10,7 @@ use Rattle.rulebook.specs.State.{stateLength}
 use Rattle.rulebook.specs.Step.{refusedCall}
 use Rattle.laws.specs.Callable.{Callable}
 use Rattle.text.specs.Words.{wordsOf}
-use Rattle.text.specs.Puts.{lay}
+use Rattle.text.specs.Puts.{lay, PutAt}
 use Rattle.session.specs.declared.Opening.{Opening}
 use Rattle.session.specs.declared.Taken.{Taken}
 use Rattle.session.specs.Printed.{taken, eventLines, runLines, stateAfter, most}
@@ -24,11 +24,6 @@ pub record Opens (t : List ℕ) (r : Opening) : Type 0 where
   -- these two follow; here for a caller that cuts the state and the trace from arrays
   pub smallState : r .state ≤ 360
   pub smallTrace : r .trace ≤ 4096
-
--- lines laid at a place, which has room for them
-pub record PutAt (xs out : List ℕ) (at next : ℕ) (after : List ℕ) : Type 0 where
-  pub place : next ≡ at + length xs
-  pub bytes : after ≡ lay out at xs
 
 -- lines laid at the front where `room` bytes are lent, and nothing where fewer are
 pub record PutLines (room : ℕ) (xs out : List ℕ) (n : ℕ) (after : List ℕ) : Type 0 where

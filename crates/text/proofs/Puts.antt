@@ -1,6 +1,6 @@
 -- A line put where it has room and where it has none, and the turns of the loops that put one. Assumes nothing.
 use Prim.Native.Nat.{ℕ, zero, suc, _+_, _-_, _/_, _%_, _<_, _≤_}
-use mathlib.Core.Path.{_≡_, sym, _∙_}
+use mathlib.Core.Path.{_≡_, sym, ap, _∙_}
 use mathlib.Core.List.{List, [], _∷_, _++_}
 use native.Mathlib.Nat.{add-zero, mod-lt, mod-eq-of-lt}
 use native.Mathlib.Omega.{arith}
@@ -8,9 +8,9 @@ use lib.ListN.{length, set, length-append}
 use lib.Seq.{take-all, paste}
 use borrow.Author.Tests.{le-leb, lt-leb}
 use Rattle.text.specs.Lines.{hexDigit, digits}
-use Rattle.text.specs.Puts.{lay, Put}
+use Rattle.text.specs.Puts.{lay, Put, PutAt}
 use Rattle.text.proofs.Digits.{below, length-digits}
-use Rattle.text.proofs.Lay.{lay-none, lay-back}
+use Rattle.text.proofs.Lay.{lay-none, lay-back, length-lay, lay-more}
 
 module _ (line out : List ℕ) (at : ℕ) where
   pub no-room : length out < at + length line → Put line out at at out
@@ -81,3 +81,28 @@ label-end label out after at n is h e =
     below (length out) at
     (λ b. no-label label out after at n is (omega arith) b whole)
     (λ b. room label out at (at + n) after (omega arith) (omega arith) whole)
+
+-- Lines laid one behind the other.
+
+pub put-more : {xs ys out : List ℕ} {at n₁ n₂ : ℕ} {o₁ o₂ : List ℕ} → at + length xs ≤ length out → PutAt xs out at n₁ o₁ → PutAt ys o₁ n₁ n₂ o₂
+    → PutAt (xs ++ ys) out at n₂ o₂
+put-more {xs} {ys} {out} {at} h p q =
+    let l : length (xs ++ ys) ≡ length xs + length ys = simp length-append in
+    record { place = omega (arith, p .place, q .place); bytes = q .bytes ∙ rw (p .place, p .bytes) (lay-more out at xs ys h) }
+
+-- the place after, and the length of what was laid into
+pub put-length : {xs out : List ℕ} {at n : ℕ} {o : List ℕ} → at + length xs ≤ length out → PutAt xs out at n o → length o ≡ length out
+put-length {xs} {out} {at} h p = ap length (p .bytes) ∙ length-lay out at xs h
+
+pub one-put : {line out : List ℕ} {at next : ℕ} {after : List ℕ} → at + length line ≤ length out → Put line out at next after → PutAt line out at next after
+one-put {line} {out} {at} {next} {after} h p =
+    let q = laid line out at next after p h in
+    record { place = q .0; bytes = q .1 }
+
+-- a line, or a part of one, put behind what was laid
+pub put-then : {xs line out : List ℕ} {at n₁ n₂ : ℕ} {o₁ o₂ : List ℕ} → at + length xs + length line ≤ length out → PutAt xs out at n₁ o₁
+    → Put line o₁ n₁ n₂ o₂
+    → PutAt (xs ++ line) out at n₂ o₂
+put-then {xs} {line} h p q =
+    let long = put-length {xs = xs} (omega arith) p in
+    put-more {xs = xs} {ys = line} (omega arith) p (one-put {line = line} (omega (arith, p .place)) q)

@@ -22,6 +22,11 @@ pub record Put (line out : List ℕ) (at next : ℕ) (after : List ℕ) : Type 0
   -- follows from `place`; here for callers that lend the part up to `next`
   pub within : at ≤ length out → next ≤ length out
 
+-- a line, or several, laid at a place that has room for them
+pub record PutAt (xs out : List ℕ) (at next : ℕ) (after : List ℕ) : Type 0 where
+  pub place : next ≡ at + length xs
+  pub bytes : after ≡ lay out at xs
+
 -- the elements from `from` up to, not including, `to`
 abbrev pub run : List ℕ → ℕ → ℕ → List ℕ
 run ws from to = drop from (take to ws)

@@ -17,7 +17,7 @@ fn digit(v: u64) -> u8
 }
 
 // How many decimal digits a number has.
-fn places(n: u64) -> usize
+pub fn places(n: u64) -> usize
     ensures { λ r. ⌜ r ≡ placesOf n ⌝ }
 {
     let mut k = 1;

@@ -8,7 +8,8 @@ use Rattle.text.specs.Lines.{decimalLine}
 use Rattle.text.specs.Puts.{Put}
 use Rattle.session.specs.Promises.{PutLines}
 use Rattle.session.proofs.Checks.{place-small, place-is}
-use Rattle.session.proofs.Lines.{one-put, put-then, put-lines, decimal-long}
+use Rattle.text.proofs.Puts.{one-put, put-then}
+use Rattle.session.proofs.Lines.{put-lines, decimal-long}
 use Rattle.tables.specs.declared.Checked.{Checked}
 use Rattle.tables.specs.Finding.{Finding, finding, promised, Says}
 use Rattle.verdict.specs.Verdict.{verdictLines, linesOf}

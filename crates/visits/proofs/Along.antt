@@ -13,10 +13,11 @@ use borrow.Author.Count.{below-more}
 use Rattle.rulebook.specs.Step.{Result, refusedCall, handle}
 use Rattle.events.specs.declared.Answer.{Answer}
 use Rattle.events.specs.Answers.{numberOf, countOf, visitsOf, Reports}
+use Rattle.text.specs.Puts.{PutAt}
 use Rattle.text.proofs.Lay.{lay-none}
+use Rattle.text.proofs.Puts.{put-more, put-length}
 use Rattle.session.specs.Printed.{taken, stateAfter}
-use Rattle.session.specs.Promises.{PutAt, Ready, traceAfter, offered}
-use Rattle.session.proofs.Lines.{put-more, put-length}
+use Rattle.session.specs.Promises.{Ready, traceAfter, offered}
 use Rattle.session.proofs.Steps.{next-long, traced-long, next-ready, number-is, count-is, visits-is, state-is, words-are}
 use Rattle.session.proofs.Along.{state-last, trace-last}
 use Rattle.visits.specs.declared.Cost.{Cost}

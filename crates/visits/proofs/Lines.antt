@@ -8,11 +8,11 @@ use lib.ListN.{length, length-append}
 use borrow.Author.Tests.{ne-eqb}
 use Rattle.rulebook.specs.Reasons.{accepted, bound}
 use Rattle.text.specs.Lines.{decimal}
-use Rattle.text.specs.Puts.{Put}
+use Rattle.text.specs.Puts.{Put, PutAt}
 use Rattle.text.proofs.Decimal.{decimal-within}
 use Rattle.text.proofs.Lay.{lay-none}
-use Rattle.session.specs.Promises.{PutAt}
-use Rattle.session.proofs.Lines.{put-more, one-put, put-then, put-lines}
+use Rattle.text.proofs.Puts.{put-more, one-put, put-then}
+use Rattle.session.proofs.Lines.{put-lines}
 use Rattle.visits.specs.declared.Largest.{Largest}
 use Rattle.visits.specs.declared.Most.{Most}
 use Rattle.visits.specs.Printed.{space, newline, eventLabel, answerLabel, traceLabel, visitsLabel, mostTraceLabel, mostVisitsLabel}

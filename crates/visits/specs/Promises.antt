@@ -6,9 +6,9 @@ use mathlib.Core.List.{List, []}
 use lib.ListN.{length, take}
 use Rattle.rulebook.specs.Reasons.{accepted}
 use Rattle.text.specs.Words.{wordsOf}
-use Rattle.text.specs.Puts.{lay}
+use Rattle.text.specs.Puts.{lay, PutAt}
 use Rattle.session.specs.Printed.{taken, stateAfter}
-use Rattle.session.specs.Promises.{PutAt, PutLines, tracedBy, traceAfter}
+use Rattle.session.specs.Promises.{PutLines, tracedBy, traceAfter}
 use Rattle.visits.specs.declared.Cost.{Cost}
 use Rattle.visits.specs.declared.Most.{Most}
 use Rattle.visits.specs.declared.Taken.{Taken}

@@ -4,7 +4,7 @@ use Prim.Native.Nat.{_-_, _≤_}
 use mathlib.Core.Path.{_≡_, refl, _∙_}
 use native.Mathlib.Omega.{arith}
 use lib.ListN.{length, take}
-use Rattle.session.specs.Promises.{PutAt}
+use Rattle.text.specs.Puts.{PutAt}
 use Rattle.day.specs.Printed.{traceLines}
 use Rattle.day.proofs.Lines.{no-trace-laid, traced-to, trace-more}
 use Rattle.day.proofs.lay_trace.Statement.{statement}

@@ -1,0 +1,5 @@
+-- Laws that belong to no one function.
+pub mod Parts
+pub mod Along
+pub mod Answers
+pub mod Same

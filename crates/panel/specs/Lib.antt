@@ -1,0 +1,5 @@
+-- What a panel prints, and what the functions that lay it promise.
+pub mod Printed
+pub mod Promises
+pub mod Same
+pub mod Inside
