@@ -1,14 +1,17 @@
-//! `run TABLE EVENTS [OUTCOMES]`, `play TABLE EVENTS`, `cost TABLE EVENTS`, `test`, `emit SEED
-//! COUNT` and `answer`.
+//! `run TABLE EVENTS [OUTCOMES]`, `play TABLE EVENTS`, `cost TABLE EVENTS`, `panel OPERATOR TABLE
+//! EVENTS [--follow]`, `test`, `emit SEED COUNT` and `answer`.
 
 use std::io::{self, BufWriter, Write};
 use std::process::ExitCode;
 
 use second::cases::Cases;
+use second::program::NoPanel;
 use second::{program, stream, testing};
 
 const USAGE: &str = "usage: second run TABLE EVENTS [OUTCOMES] | play TABLE EVENTS | \
-                     cost TABLE EVENTS | test | emit SEED COUNT | answer < CASES";
+                     cost TABLE EVENTS | panel OPERATOR TABLE EVENTS [--follow] | test | \
+                     emit SEED COUNT | answer < CASES";
+const FOLLOW: &str = "--follow";
 
 fn main() -> ExitCode {
     let args: Vec<String> = std::env::args().skip(1).collect();
@@ -22,6 +25,7 @@ fn main() -> ExitCode {
         ["cost", table, events] => {
             program::cost_files(&mut BufWriter::new(io::stdout().lock()), table, events)
         }
+        ["panel", ref asked @ ..] => return ExitCode::from(panel(asked)),
         ["test"] if testing::test() => Ok(()),
         ["test"] => return ExitCode::FAILURE,
         ["emit", seed, count] => emit(seed, count),
@@ -39,6 +43,39 @@ fn main() -> ExitCode {
 
 fn run(table: &str, events: &str, outcomes: Option<&str>) -> Result<(), String> {
     put(program::run(table, events, outcomes)?.as_bytes())
+}
+
+/// Prints a panel; gives the status to leave with. The option may stand anywhere among the words.
+fn panel(asked: &[&str]) -> u8 {
+    let mut words = asked.to_vec();
+    let follow = words.iter().position(|&word| word == FOLLOW);
+    follow.map(|place| words.remove(place));
+    let [operator, table, events] = words[..] else {
+        eprintln!("{USAGE}");
+        return 2;
+    };
+    let Some(operator) = program::operator(operator) else {
+        eprintln!("not an operator's number: {operator}\n{USAGE}");
+        return 2;
+    };
+    let out = &mut BufWriter::new(io::stdout().lock());
+    match program::panel_files(out, operator, table, events, follow.is_some()) {
+        Ok(()) => 0,
+        Err(NoPanel::Operator) => {
+            eprintln!("an operator's number is 1 to 15");
+            1
+        }
+        Err(NoPanel::Table { reason, place }) => {
+            eprintln!("the table is refused: reason {reason}, place {place}");
+            1
+        }
+        // Who reads it has seen enough.
+        Err(NoPanel::Closed) => 0,
+        Err(NoPanel::Unable(why)) => {
+            eprintln!("{why}");
+            2
+        }
+    }
 }
 
 fn put(bytes: &[u8]) -> Result<(), String> {

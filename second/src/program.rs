@@ -5,6 +5,7 @@ use std::io::{self, Write};
 
 use crate::check::accept;
 use crate::lists::Run;
+use crate::panel::{OPERATORS, View};
 use crate::play::{TRACE_FULL, play, take};
 use crate::state::{State, fresh, start, state_length};
 use crate::step::step;
@@ -189,6 +190,96 @@ pub fn cost_files(out: &mut impl Write, table: &str, events: &str) -> Result<(),
     write_cost(out, &table, &events)
         .and_then(|()| out.flush())
         .map_err(|why| format!("cannot print: {why}"))
+}
+
+/// The number that a word of decimal digits says; None where it is anything else. A number too
+/// large to hold is held at the largest, for both are above 15.
+pub fn operator(word: &str) -> Option<u32> {
+    let digits = !word.is_empty() && word.bytes().all(|byte| byte.is_ascii_digit());
+    let next =
+        |number: u32, byte: u8| number.saturating_mul(10).saturating_add(u32::from(byte - b'0'));
+    digits.then(|| word.bytes().fold(0, next))
+}
+
+/// Why a panel is not printed: answers 9 and 1, in this order; or what its files and its output
+/// would not do. Fresh states and those after them fit, and there is room to print in.
+#[derive(Debug)]
+pub enum NoPanel {
+    Operator,
+    Table {
+        reason: u32,
+        place: usize,
+    },
+    /// The pipe it is printed to was closed.
+    Closed,
+    Unable(String),
+}
+
+impl From<io::Error> for NoPanel {
+    fn from(why: io::Error) -> Self {
+        match why.kind() {
+            io::ErrorKind::BrokenPipe => NoPanel::Closed,
+            _ => NoPanel::Unable(format!("cannot print: {why}")),
+        }
+    }
+}
+
+/// The panel of an operator after the last event, request Q-13, each event taken from a fresh state
+/// as `run` takes it, with B trace words and no outcomes lent. Or, to follow it, the panel after
+/// each event that changed it, behind a line with the event's number.
+pub fn write_panel(
+    out: &mut impl Write,
+    operator: u32,
+    table: &[u8],
+    events: &[u8],
+    follow: bool,
+) -> Result<(), NoPanel> {
+    let table = words(table);
+    if !OPERATORS.contains(&operator) {
+        return Err(NoPanel::Operator);
+    }
+    // Checked once, as in `cost`.
+    let (shape, _) = accept(&table).map_err(|(reason, place)| NoPanel::Table { reason, place })?;
+    let mut first = vec![0; state_length(&shape)];
+    fresh(&table, &mut first);
+    let state = State::of(&shape, &first).expect("a fresh state has its length");
+    let mut run = Run { table: &shape, state, trace: vec![], outcomes: &[], visits: 0 };
+    let view = View::of(operator, &shape);
+    let mut seen = view.words(&first, &[]);
+    for (number, event) in words(events).into_iter().enumerate() {
+        // The newest step's words are the event's own: a refused one wrote none.
+        run.trace.clear();
+        take(&mut run, Event::of(event));
+        let now = view.words(&run.state.words, &run.trace);
+        if follow && now != seen {
+            write!(out, "event {number}\n{}", view.lines(&now))?;
+        }
+        seen = now;
+    }
+    if !follow {
+        write!(out, "{}", view.lines(&seen))?;
+    }
+    Ok(out.flush()?)
+}
+
+/// What is printed of an operator's panel, for the two files' bytes.
+pub fn panel(operator: u32, table: &[u8], events: &[u8], follow: bool) -> Result<String, NoPanel> {
+    let mut lines = vec![];
+    write_panel(&mut lines, operator, table, events, follow)?;
+    Ok(String::from_utf8(lines).expect("letters, digits and spaces"))
+}
+
+/// Prints an operator's panel of two files.
+pub fn panel_files(
+    out: &mut impl Write,
+    operator: u32,
+    table: &str,
+    events: &str,
+    follow: bool,
+) -> Result<(), NoPanel> {
+    let read = |path: &str| read(path).map_err(NoPanel::Unable);
+    let (table, events) = (read(table)?, read(events)?);
+    write_panel(out, operator, &table, &events, follow)
 }
 
 /// Prints the day of two files.

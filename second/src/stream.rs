@@ -3,7 +3,10 @@
 use std::io::{self, Read, Write};
 
 use crate::cases::Case;
-use crate::{check, check_state, fresh, play, step};
+use crate::cases::prng::Prng;
+use crate::panel::{OPERATORS, View};
+use crate::words::*;
+use crate::{Stepped, check, check_state, fresh, panel, play, step};
 
 /// What a state slice holds before a fresh one is made in it.
 pub const STATE_FILL: u32 = 0xAAAA_AAAA;
@@ -13,6 +16,12 @@ pub const TRACE_FILL: u32 = 0x5555_5555;
 pub const PLAYED: usize = 12;
 /// The most trace words that are lent to a play.
 pub const MOST_ROOM: usize = 20_000;
+/// What a panel's room holds before it is laid.
+pub const PANEL_FILL: u8 = 0x2E;
+/// The most bytes that are lent to a panel.
+pub const MOST_BYTES: usize = 3_000;
+/// The number of the event behind which a panel is laid, where it is laid before any.
+pub const BEFORE_ANY: u32 = 0xFFFF_FFFF;
 
 pub fn write_words(out: &mut impl Write, words: &[u32]) -> io::Result<()> {
     words.iter().try_for_each(|word| out.write_all(&word.to_be_bytes()))
@@ -43,16 +52,33 @@ pub fn result_words(case: &Case) -> Vec<u32> {
     words.push(fresh(&case.table, &mut made));
     words.extend(made);
     words.push(check_state(&case.table, &case.state));
-    let mut state = case.state.clone();
-    for (number, &event) in case.events.iter().enumerate() {
-        let mut trace = vec![TRACE_FILL; case.room];
-        let stepped = step(&case.table, &mut state, &mut trace, event, case.lent(number));
+    let calls = single_calls(case);
+    for Called { stepped, state, trace } in &calls {
         words.extend([stepped.answer, stepped.count as u32, one_word(stepped.visits)]);
-        words.extend(&state);
-        words.extend(&trace);
+        words.extend(state);
+        words.extend(trace);
     }
     words.extend(play_words(case));
+    words.extend(panel_words(case, &calls));
     words
+}
+
+/// A single event's call: what it answered, and the state and the lent trace after it.
+struct Called {
+    stepped: Stepped,
+    state: Vec<u32>,
+    trace: Vec<u32>,
+}
+
+/// Each event of a case in turn, the state passed on.
+fn single_calls(case: &Case) -> Vec<Called> {
+    let mut state = case.state.clone();
+    let call = |(number, &event): (usize, &u32)| {
+        let mut trace = vec![TRACE_FILL; case.room];
+        let stepped = step(&case.table, &mut state, &mut trace, event, case.lent(number));
+        Called { stepped, state: state.clone(), trace }
+    };
+    case.events.iter().enumerate().map(call).collect()
 }
 
 /// The plays of a case's first events, each with another room and from the case's state. A play
@@ -129,6 +155,170 @@ fn half_way(needed: &[usize]) -> Option<usize> {
     let middle = needed.len() / 2;
     let behind_words = (1..needed.len()).filter(|&at| needed[at] > needed[at - 1]);
     behind_words.min_by_key(|at| at.abs_diff(middle)).map(|at| needed[at])
+}
+
+/// A panel that a case is asked for.
+#[derive(Clone, Copy, PartialEq, Eq, Debug)]
+pub struct Asked {
+    pub operator: u32,
+    /// The event behind which it is laid: of the case's state after it and the words that its step
+    /// wrote. None: before any, of the case's own state and no words.
+    pub behind: Option<usize>,
+    /// The bytes lent.
+    pub room: usize,
+}
+
+fn panel_words(case: &Case, calls: &[Called]) -> Vec<u32> {
+    let asked = asked_of(case, calls);
+    let mut words = vec![asked.len() as u32];
+    for Asked { operator, behind, room } in asked {
+        let (state, trace) = moment(case, calls, behind);
+        let mut out = vec![PANEL_FILL; room];
+        let laid = panel(operator, &case.table, state, trace, &mut out);
+        let behind = behind.map_or(BEFORE_ANY, |number| number as u32);
+        words.extend([operator, behind, room as u32, laid.answer, laid.bytes as u32]);
+        words.extend(out.into_iter().map(u32::from));
+    }
+    words
+}
+
+/// The state and the newest step's words behind an event. A refused step wrote none.
+fn moment<'a>(
+    case: &'a Case,
+    calls: &'a [Called],
+    behind: Option<usize>,
+) -> (&'a [u32], &'a [u32]) {
+    match behind.map(|number| &calls[number]) {
+        None => (&case.state, &[]),
+        Some(Called { stepped, state, trace }) => (state, &trace[..stepped.count]),
+    }
+}
+
+/// The panels that a case is asked for, eight at most and all different. On a table and state that
+/// stand: one operator's before any event, behind the first and behind the one that wrote most of
+/// its words, in just enough room, more and too little; another's behind the last; one who owns
+/// nothing; number 0; and a number above 15 that has the operator's in its low bits. Any choice
+/// that the case's counts leave open is drawn by its words, so that it is the same everywhere.
+pub fn panels_asked(case: &Case) -> Vec<Asked> {
+    asked_of(case, &single_calls(case))
+}
+
+fn asked_of(case: &Case, calls: &[Called]) -> Vec<Asked> {
+    let seed = case.table.iter().chain(&case.state).chain(&case.events);
+    let seed = seed.fold(0u64, |seed, &word| seed.rotate_left(7) ^ u64::from(word));
+    let mut choice = Choice { case, calls, rng: Prng::new(seed) };
+    let asked = if check_state(&case.table, &case.state) == 0 {
+        choice.of_standing()
+    } else {
+        choice.of_refused()
+    };
+    let mut different: Vec<Asked> = vec![];
+    for one in asked {
+        if one.room <= MOST_BYTES && !different.contains(&one) {
+            different.push(one);
+        }
+    }
+    different
+}
+
+/// What a case's panels are chosen by.
+struct Choice<'a> {
+    case: &'a Case,
+    calls: &'a [Called],
+    rng: Prng,
+}
+
+impl Choice<'_> {
+    /// A bad table or an unfit state: numbers that are refused before it and numbers that are not.
+    fn of_refused(&mut self) -> Vec<Asked> {
+        let (first, last) = (self.first(), self.last());
+        let operator = self.rng.within(1, 15);
+        let wide = self.above_15(operator);
+        vec![
+            Asked { operator, behind: None, room: 40 },
+            Asked { operator: 0, behind: None, room: 40 },
+            Asked { operator: wide, behind: last, room: 0 },
+            Asked { operator: 15, behind: first, room: 0 },
+        ]
+    }
+
+    fn of_standing(&mut self) -> Vec<Asked> {
+        let owners = self.owners();
+        let operator = self.rng.pick_any(&owners).unwrap_or(1);
+        let other = self.rng.pick_any(&owners).unwrap_or(15);
+        let nobody = OPERATORS.rev().find(|number| !owners.contains(number)).unwrap_or(15);
+        let (first, busiest, last) = (self.first(), self.busiest(operator), self.last());
+        let (some, any) = (self.some_moment(), self.some_moment());
+        let (wide, more) = (self.above_15(operator), 1 + self.rng.below(20));
+        let (fresh_needs, first_needs) = (self.needs(operator, None), self.needs(operator, first));
+        let (needs, other_needs) = (self.needs(operator, busiest), self.needs(other, last));
+        let (platform_needs, wide_needs) = (self.needs(PLATFORM, some), self.needs(operator, any));
+        vec![
+            Asked { operator, behind: None, room: fresh_needs },
+            Asked { operator, behind: first, room: first_needs + more },
+            Asked { operator, behind: busiest, room: needs },
+            Asked { operator, behind: busiest, room: self.too_little(needs) },
+            Asked { operator: other, behind: last, room: other_needs },
+            Asked { operator: nobody, behind: some, room: more - 1 },
+            Asked { operator: PLATFORM, behind: some, room: platform_needs },
+            Asked { operator: wide, behind: any, room: wide_needs },
+        ]
+    }
+
+    fn first(&self) -> Option<usize> {
+        (!self.calls.is_empty()).then_some(0)
+    }
+
+    fn last(&self) -> Option<usize> {
+        self.calls.len().checked_sub(1)
+    }
+
+    /// Behind any event, or before all.
+    fn some_moment(&mut self) -> Option<usize> {
+        self.rng.below(self.calls.len() + 1).checked_sub(1)
+    }
+
+    /// The event whose step wrote most of the operator's words, the last of several.
+    fn busiest(&self, operator: u32) -> Option<usize> {
+        let own = |number: &usize| {
+            let (_, trace) = moment(self.case, self.calls, Some(*number));
+            trace.iter().filter(|&&word| TraceWord::of(word).owner == operator).count()
+        };
+        (0..self.calls.len()).max_by_key(own)
+    }
+
+    /// The operators that own ports, networks or sources of an accepted table, or lists.
+    fn owners(&self) -> Vec<u32> {
+        let table = Table::of(&self.case.table).expect("an accepted table has its header");
+        let ports = (0..table.count(Section::Ports)).map(|number| table.port(number).owner);
+        let lists = (0..table.count(Section::Lists)).map(|number| table.list(number).owner);
+        let owners: Vec<u32> = ports.chain(lists).collect();
+        OPERATORS.filter(|number| owners.contains(number)).collect()
+    }
+
+    /// The bytes of the panel that the number would have if it were taken for an operator's.
+    fn needs(&self, operator: u32, behind: Option<usize>) -> usize {
+        let table = Table::of(&self.case.table).expect("an accepted table has its header");
+        let view = View::of(operator, &table);
+        let (state, trace) = moment(self.case, self.calls, behind);
+        view.lines(&view.words(state, trace)).len()
+    }
+
+    /// Mostly one byte less than is needed, at times any less.
+    fn too_little(&mut self, needs: usize) -> usize {
+        let less = if self.rng.chance(70) {
+            needs.saturating_sub(1)
+        } else {
+            self.rng.below(needs.max(1))
+        };
+        less.min(MOST_BYTES)
+    }
+
+    /// A number above 15, mostly with an operator's number in its low bits.
+    fn above_15(&mut self, operator: u32) -> u32 {
+        let higher = [0x10, 0x100, 0x1_0000, 0x1000_0000, 0xFFFF_FFF0];
+        if self.rng.chance(20) { 16 } else { self.rng.pick(&higher) | operator }
+    }
 }
 
 /// The next case of a stream; None at its end.

@@ -4,6 +4,7 @@ ghost use mathlib.Core.Path.{_≡_};
 ghost use Rattle.states.specs.Made.{numberOf as madeNumber};
 ghost use Rattle.manager.specs.Answers.{stateNumber};
 ghost use Rattle.manager.specs.Promises.{ChecksTableIn, CountsWords, MakesFreshIn, ChecksStateIn, TakesEventIn, PlaysIn};
+ghost use Rattle.panel.specs.Promises.{ShowsIn};
 ghost use Rattle.gateway.specs.Version.{version};
 use manager::Fit;
 use states::Made;
@@ -33,7 +34,7 @@ fn fit_number(fit: Fit) -> u32
 pub extern "C" fn herringcart_version() -> u32
     ensures { λ r. ⌜ r ≡ version ⌝ }
 {
-    5 * 65536 + 1
+    5 * 65536 + 2
 }
 
 // Checks a table: gives its reason, 0 if it is accepted, and writes the place and B.
@@ -113,4 +114,23 @@ pub extern "C" fn herringcart_play(
     *visits = played.visits;
     let end = played.end;
     manager::end_number(end)
+}
+
+// Shows an operator its panel: gives the answer, lays the lines at the front of the lent bytes and writes how many bytes they are, 0 in a
+// refusal.
+#[no_mangle]
+pub extern "C" fn herringcart_panel(
+    operator: u32,
+    table: &[u32],
+    state: &[u32],
+    words: &[u32],
+    lines: &mut [u8],
+    bytes: &mut usize,
+) -> u32
+    ensures { λ r. ⌜ ShowsIn operator (now (table .entry)) (now (state .entry)) (now (words .entry)) (now (lines .entry)) r
+        (now (bytes .exit)) (now (lines .exit)) ⌝ }
+{
+    let shown = panel::show(operator, table, state, words, lines);
+    *bytes = panel::bytes(shown);
+    panel::number(shown)
 }

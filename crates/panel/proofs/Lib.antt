@@ -3,3 +3,4 @@ pub mod Parts
 pub mod Along
 pub mod Answers
 pub mod Same
+pub mod Short

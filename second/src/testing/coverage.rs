@@ -7,6 +7,7 @@ use std::fmt;
 use super::failing_rows::{self, Failing};
 use super::heard::{self, Heard};
 use super::nesting::{self, Nesting};
+use super::panel_rows::{self, Panels};
 use super::visits_rows::{self, Visits};
 use super::{names, play_rows, played};
 use crate::cases::refused::{COST_4097, DEPTH_8_EXPRESSION, DEPTH_8_LIST, RING};
@@ -40,6 +41,7 @@ pub enum Row {
     Heard(Heard),
     Failing(Failing),
     Nesting(Nesting),
+    Panels(Panels),
     SourceTurn(u32, u32),
     Unfit(usize),
     Limit(usize),
@@ -248,6 +250,7 @@ impl fmt::Display for Row {
             Row::Heard(heard) => heard.to_string(),
             Row::Failing(failing) => failing.to_string(),
             Row::Nesting(nesting) => nesting.to_string(),
+            Row::Panels(panels) => panels.to_string(),
             Row::SourceTurn(from, to) => format!("source: {}", turn(&STATUSES, from, to)),
             Row::Unfit(misfit) => format!("state unfit: {:?}", MISFITS[misfit]),
             Row::Limit(section) => {
@@ -298,6 +301,7 @@ impl Coverage {
             .chain(heard::rows().map(Row::Heard))
             .chain(failing_rows::rows().map(Row::Failing))
             .chain(nesting::rows().map(Row::Nesting))
+            .chain(panel_rows::rows().map(Row::Panels))
             .chain(SOURCE_TURNS.map(|(from, to)| Row::SourceTurn(from, to)))
             .chain(MISFITS.map(Row::unfit))
             .chain(SECTIONS.map(Row::limit))
@@ -307,7 +311,8 @@ impl Coverage {
             .chain(failing_rows::ROWS.map(Row::Special))
             .chain(visits_rows::ROWS.map(Row::Special))
             .chain(play_rows::ROWS.map(Row::Special))
-            .chain(played::ROWS.map(Row::Special));
+            .chain(played::ROWS.map(Row::Special))
+            .chain(panel_rows::ROWS.map(Row::Special));
         Coverage(rows.map(|row| (row, 0)).collect())
     }
 

@@ -355,7 +355,7 @@ impl Side<'_> {
 }
 
 /// Whose each word of a state is.
-fn owners_of_words(draft: &Draft) -> Vec<u32> {
+pub fn owners_of_words(draft: &Draft) -> Vec<u32> {
     let ports = draft.ports.iter().map(|port| port.owner);
     let rules = draft.rules.iter().map(|rule| rule.owner);
     let networks = draft.networks.iter().map(|(network, _)| network.owner);

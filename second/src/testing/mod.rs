@@ -13,6 +13,9 @@ mod levels;
 mod log;
 mod names;
 mod nesting;
+mod panel;
+mod panel_others;
+mod panel_rows;
 mod play;
 mod play_rows;
 mod played;
@@ -30,6 +33,7 @@ use std::panic::catch_unwind;
 
 use crate::cases::{Case, Cases, Made};
 use coverage::Coverage;
+pub use recorded::{AskedPanel, AskedPanelRun};
 
 /// Each seed's first cases are run.
 const SEEDS: [u64; 4] = [1, 2026, 0xC0FFEE, 0x5EED_5EED_5EED_5EED];
@@ -101,13 +105,17 @@ pub struct Ran {
     pub name: &'static str,
     pub outcome: Result<(), String>,
     pub asked: Vec<Case>,
+    /// The panels it asked for, and the panel's program (request Q-13).
+    pub panels: Vec<AskedPanel>,
+    pub panel_runs: Vec<AskedPanelRun>,
 }
 
 /// Runs the fixed cases for another program to be asked the same.
 pub fn run_fixed() -> Vec<Ran> {
     let run = |(name, case): (&'static str, fn())| {
         let outcome = catch_unwind(case).map_err(|panic| panic_text(&*panic));
-        Ran { name, outcome, asked: recorded::asked() }
+        let (panels, panel_runs) = (recorded::panels(), recorded::panel_runs());
+        Ran { name, outcome, asked: recorded::asked(), panels, panel_runs }
     };
     fixed::all().into_iter().map(run).collect()
 }

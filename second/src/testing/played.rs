@@ -71,7 +71,7 @@ fn due(case: &Case, draft: &Draft, log: &[Entry]) -> String {
 }
 
 /// The name and number of each word of a state.
-fn labels(draft: &Draft) -> impl Iterator<Item = String> {
+pub fn labels(draft: &Draft) -> impl Iterator<Item = String> {
     let numbered =
         |name: &'static str, count: usize| (0..count).map(move |number| format!("{name} {number}"));
     numbered("port", draft.ports.len())

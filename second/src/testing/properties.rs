@@ -10,7 +10,7 @@ use super::skipping::Skipping;
 use super::traces::evaluated;
 use super::visits::{Visited, try_refusals};
 use super::walk::{By, Walk};
-use super::{cost, demand3, failing, nesting, play, played, ports, reach};
+use super::{cost, demand3, failing, nesting, panel, panel_others, play, played, ports, reach};
 use crate::cases::draft::Draft;
 use crate::cases::states::fresh_state;
 use crate::cases::{Case, Known, Made};
@@ -49,6 +49,7 @@ pub fn try_case(made: &Made) -> Result<Met, String> {
     nesting::try_runs(case, &log, &mut met)?;
     let (good, calls_good) = with_good_calls(case, &log);
     play::try_plays(&good, checked.b, &calls_good, &mut met)?;
+    try_panels(case, &log, &mut met)?;
     if checked.reason == 0 {
         try_accepted(made, checked.b, &log, &mut met)?;
         failing::try_good(&read(&case.table), &good, &log, &calls_good, &mut met)?;
@@ -56,8 +57,21 @@ pub fn try_case(made: &Made) -> Result<Met, String> {
     } else {
         played::try_reason(case, checked, &mut met)?;
         cost::try_reason(case, checked)?;
+        panel::try_reason(case, given, &mut met)?;
     }
     Ok(met)
+}
+
+/// Every operator's panels; or none, of a bad table or an unfit state.
+fn try_panels(case: &Case, log: &[Entry], met: &mut Met) -> Result<(), String> {
+    match check_state(&case.table, &case.state) {
+        0 => {
+            let draft = read(&case.table);
+            panel::try_panels(case, &draft, log, met)?;
+            panel_others::try_others(case, &draft, log, met)
+        }
+        answer => panel::try_bad(case, answer, met),
+    }
 }
 
 /// The case without outcomes and its log, as plays have it: all calls are good.
@@ -82,6 +96,7 @@ fn try_days(
     let draft = read(&good.table);
     play::try_struck_out(good, &draft, b, log, met)?;
     cost::try_cost(good, draft.rules.len(), b, log)?;
+    panel::try_runs(good, &draft, log, met)?;
     played::try_day(good, &draft, log, met)
 }
 

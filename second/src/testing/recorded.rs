@@ -5,18 +5,57 @@ use std::cell::RefCell;
 
 use crate::cases::Case;
 use crate::check::{Check, accept};
+use crate::panel::Panel;
 use crate::play::Played;
+use crate::program::NoPanel;
 use crate::state::state_length;
 use crate::step::Stepped;
 use crate::{program, stream};
 
 thread_local! {
     static ASKED: RefCell<Vec<Case>> = const { RefCell::new(vec![]) };
+    static PANELS: RefCell<Vec<AskedPanel>> = const { RefCell::new(vec![]) };
+    static PANEL_RUNS: RefCell<Vec<AskedPanelRun>> = const { RefCell::new(vec![]) };
+}
+
+/// A panel that was asked for, and what the rules answered.
+#[derive(Clone, PartialEq, Eq, Debug)]
+pub struct AskedPanel {
+    pub operator: u32,
+    pub table: Vec<u32>,
+    pub state: Vec<u32>,
+    pub words: Vec<u32>,
+    /// The room's bytes before; so many are lent.
+    pub lent: Vec<u8>,
+    pub laid: Panel,
+    /// The room's bytes after.
+    pub room: Vec<u8>,
+}
+
+/// What `panel OPERATOR TABLE EVENTS` was asked, by the files' bytes; and what it prints, or the
+/// answer it is refused by.
+#[derive(Clone, PartialEq, Eq, Debug)]
+pub struct AskedPanelRun {
+    pub operator: u32,
+    pub table: Vec<u8>,
+    pub events: Vec<u8>,
+    pub follow: bool,
+    pub printed: Result<String, u32>,
 }
 
 /// What was asked since this was called last.
 pub fn asked() -> Vec<Case> {
     ASKED.take()
+}
+
+/// The panels that were.
+pub fn panels() -> Vec<AskedPanel> {
+    PANELS.take()
+}
+
+/// The panels' programs that were.
+pub fn panel_runs() -> Vec<AskedPanelRun> {
+    PANEL_RUNS.take()
 }
 
 fn note(table: &[u32], state: &[u32], room: usize, events: &[u32]) {
@@ -99,6 +138,32 @@ pub fn played(table: &[u8], events: &[u8]) -> String {
 pub fn cost(table: &[u8], events: &[u8]) -> String {
     note_files(table, events, vec![]);
     program::cost(table, events)
+}
+
+/// Noted as a panel, and as a case that has its table and state.
+pub fn panel(operator: u32, table: &[u32], state: &[u32], words: &[u32], room: &mut [u8]) -> Panel {
+    note(table, state, 0, &[]);
+    let lent = room.to_vec();
+    let laid = crate::panel(operator, table, state, words, room);
+    let (table, state, words) = (table.to_vec(), state.to_vec(), words.to_vec());
+    let asked = AskedPanel { operator, table, state, words, lent, laid, room: room.to_vec() };
+    PANELS.with_borrow_mut(|panels| panels.push(asked));
+    laid
+}
+
+/// What the panel's program prints, or the answer it is refused by.
+pub fn panel_run(operator: u32, table: &[u8], events: &[u8], follow: bool) -> Result<String, u32> {
+    note_files(table, events, vec![]);
+    let printed =
+        program::panel(operator, table, events, follow).map_err(|refused| match refused {
+            NoPanel::Operator => 9,
+            NoPanel::Table { .. } => 1,
+            NoPanel::Closed | NoPanel::Unable(_) => panic!("memory takes it"),
+        });
+    let (table, events, asked) = (table.to_vec(), events.to_vec(), printed.clone());
+    let asked = AskedPanelRun { operator, table, events, follow, printed: asked };
+    PANEL_RUNS.with_borrow_mut(|runs| runs.push(asked));
+    printed
 }
 
 pub fn result_words(case: &Case) -> Vec<u32> {

@@ -1,6 +1,6 @@
 //! Fixed cases: each a few words long, its outcome worked out by hand from
-//! documents 01 and 02 and named after the sentence
-//! or reading it tells apart.
+//! documents 01 and 02 and named after the
+//! sentence or reading it tells apart.
 //!
 //! Expected words stand in hex, so that no layout is judged by itself:
 //! - port state: 80000000 defined, 40000000 marked, value times 00400000, remaining;
@@ -38,6 +38,9 @@ mod names;
 mod nesting;
 mod networks;
 mod owners;
+mod panel;
+mod panel_refused;
+mod panel_run;
 mod play;
 mod played;
 mod program;
@@ -88,6 +91,9 @@ pub fn all() -> Vec<(&'static str, fn())> {
         played::CASES,
         visits_played::CASES,
         cost::CASES,
+        panel::CASES,
+        panel_refused::CASES,
+        panel_run::CASES,
         streams::CASES,
         demand3::CASES,
         nesting::CASES,

@@ -29,7 +29,7 @@ pub fn start(command: &str, table: &str, events: &str) -> Output {
     start_with(&[command, table, events])
 }
 
-fn start_with(arguments: &[&str]) -> Output {
+pub fn start_with(arguments: &[&str]) -> Output {
     let program = std::env::current_exe().expect("the program's own path");
     Command::new(program).args(arguments).output().expect("the program starts")
 }

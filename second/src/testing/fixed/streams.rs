@@ -4,8 +4,8 @@ use super::editions::edition_2;
 use super::marked::MARKED;
 use super::*;
 use crate::cases::Case;
-use crate::stream::{case_words, play_rooms, read_case, write_words};
-use crate::testing::recorded::result_words;
+use crate::stream::{Asked, case_words, panels_asked, play_rooms, read_case, write_words};
+use crate::testing::recorded;
 
 const AFTER: [u32; 4] = [0x8140_0000, 0, 0x4000_0000, 0x8000_0000];
 
@@ -14,7 +14,89 @@ fn marked_case(room: usize) -> Case {
     Case { table, state, room, events, outcomes: vec![] }
 }
 
+/// The results up to the panels.
+fn result_words(case: &Case) -> Vec<u32> {
+    let mut words = recorded::result_words(case);
+    let panels: usize = panels_asked(case).iter().map(|asked| 5 + asked.room).sum();
+    words.truncate(words.len() - panels - 1);
+    words
+}
+
+/// Operator 1's panel of the marked table before its request and behind it.
+const THREE_LINES: &str = "port 0 00000000\nport 1 00000000\nnetwork 0 00000000\n";
+const SIX_LINES: &str = "port 0 81400000\nport 1 00000000\nnetwork 0 80000000\n\
+                         trace F1000000\ntrace 41000002\ntrace 01001234\n";
+
+/// A panel's words, by what is laid in its room.
+fn panel_words(asked: &Asked, answer: u32, lines: &str) -> Vec<u32> {
+    let behind = asked.behind.map_or(0xFFFF_FFFF, |number| number as u32);
+    let mut words = vec![asked.operator, behind, asked.room as u32, answer, lines.len() as u32];
+    words.extend(lines.bytes().map(u32::from));
+    words.resize(5 + asked.room, 0x2E);
+    words
+}
+
 fixed_cases! {
+    fn stream_of_panels() {
+        let asked = panels_asked(&marked_case(3));
+        let mut words = vec![asked.len() as u32];
+        for one in &asked {
+            let lines = if one.behind == Some(0) { SIX_LINES } else { THREE_LINES };
+            words.extend(match one.operator {
+                0 | 16.. => panel_words(one, 9, ""),
+                1 if one.room < lines.len() => panel_words(one, 11, ""),
+                1 => panel_words(one, 0, lines),
+                _ => panel_words(one, 0, ""),
+            });
+        }
+        let all = recorded::result_words(&marked_case(3));
+        assert_eq!(all[all.len() - words.len()..], words);
+        assert_eq!(all.len() - words.len(), result_words(&marked_case(3)).len());
+        // Before the request in just enough room; behind it in more, just enough and too little.
+        let own: Vec<&Asked> = asked.iter().filter(|one| one.operator == 1).collect();
+        assert_eq!(own[0], &Asked { operator: 1, behind: None, room: 51 });
+        assert!(own[1].behind == Some(0) && own[1].room > 96);
+        assert_eq!(own[2], &Asked { operator: 1, behind: Some(0), room: 96 });
+        assert!(own[3].behind == Some(0) && own[3].room < 96);
+        let others: Vec<u32> = asked[4..].iter().map(|one| one.operator).collect();
+        assert_eq!((others.len(), &others[..2]), (3, &[15, 0][..]));
+        assert!(others[2] > 15);
+    }
+
+    fn stream_of_panels_on_a_bad_table_or_from_an_unfit_state() {
+        let bad = Case { table: MARKED[..11].to_vec(), ..marked_case(3) };
+        let unfit = Case { state: vec![1; 4], ..marked_case(3) };
+        for (case, answer) in [(bad, 1), (unfit, 2)] {
+            let asked = panels_asked(&case);
+            let operator = |one: &Asked| (1..16).contains(&one.operator);
+            let refused = |one: &Asked| {
+                panel_words(one, if operator(one) { answer } else { 9 }, "")
+            };
+            let words: Vec<u32> = asked.iter().flat_map(refused).collect();
+            let all = recorded::result_words(&case);
+            assert_eq!(all[all.len() - words.len() - 1..], [&[4][..], &words].concat());
+            let rooms: Vec<usize> = asked.iter().map(|one| one.room).collect();
+            assert_eq!(rooms, [40, 40, 0, 0]);
+            assert!(operator(&asked[0]) && asked[1].operator == 0);
+            assert!(asked[2].operator > 15 && asked[3].operator == 15);
+        }
+    }
+
+    /// 201 trace words of the operator's: 3,018 bytes of them and 16 of its port.
+    fn stream_has_no_panel_of_more_than_3000_bytes() {
+        let table = plain(&[mode(1)], &[equal(0, 5)], &[rule(1, 0, 0, NONE)], &[list(1, 0, 200)], &[call(0); 200]);
+        let (state, events) = (vec![0; 2], vec![0x1100_0500; 3]);
+        let case = Case { table, state, room: 201, events, outcomes: vec![] };
+        let asked = panels_asked(&case);
+        assert!(asked.iter().all(|one| one.room <= 3000));
+        assert!(asked.contains(&Asked { operator: 1, behind: None, room: 16 }));
+        let short: Vec<&Asked> = asked.iter().filter(|one| one.operator == 1 && one.behind == Some(2)).collect();
+        assert_eq!(short.len(), 1);
+        let all = recorded::result_words(&case);
+        let words = panel_words(short[0], 11, "");
+        assert!(all.windows(words.len()).any(|part| part == words));
+    }
+
     fn stream_of_a_case() {
         let one = [4, 0, 0, 0, 0, 3, 1, 0x1100_0500, 0];
         assert_eq!(case_words(&marked_case(3)), [&[12][..], &MARKED, &one].concat());

@@ -1,0 +1,24 @@
+// Zeroed arrays. Each comes from a call, so that a proof knows its length and does not spell out its elements.
+ghost use mathlib.Core.Path.{_≡_};
+ghost use lib.ListN.{length};
+
+// The largest B of an accepted table.
+pub fn trace_words() -> [u32; 4096]
+    ensures { λ r. ⌜ 4096 ≡ length r ⌝ }
+{
+    [0; 4096]
+}
+
+// Room for the longest panel.
+pub fn panel_bytes() -> [u8; 63624]
+    ensures { λ r. ⌜ 63624 ≡ length r ⌝ }
+{
+    [0; 63624]
+}
+
+// Room for the longest panel behind its event's number.
+pub fn change_bytes() -> [u8; 63651]
+    ensures { λ r. ⌜ 63651 ≡ length r ⌝ }
+{
+    [0; 63651]
+}
