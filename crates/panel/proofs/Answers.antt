@@ -71,6 +71,16 @@ module _ (o : ℕ) (t s ws out : List ℕ) where
           let laid = eq-eqb _ 0 zero in
           record { answer = sym zero; count = rw laid (p .place ∙ zero-add _); bytes = rw laid (p .bytes); inside = omega (arith, p .place) }
 
+  -- and the other way round: what a call gives where nothing refuses it
+  pub laid-panel : {k n : ℕ} {out′ : List ℕ} → operator o ≡ true → refusedState t s ≡ 0 → length (panel o t s ws) ≤ length out
+      → ShowsIn o t s ws out k n out′
+      → PutAt (panel o t s ws) out 0 n out′
+  unfolding answer
+  laid-panel is fits room h =
+      let zero : answer o t s ws (length out) ≡ 0 =
+      rw (is, eq-eqb (refusedState t s) 0 fits, le-ltb (length out) (length (panel o t s ws)) room) in
+      record { place = rw zero at (h .count) ∙ sym (zero-add _); bytes = rw zero at (h .bytes) }
+
 -- two results that the promise allows are equal
 pub one-panel : {o : ℕ} {t s ws out : List ℕ} {k₁ n₁ : ℕ} {out₁ : List ℕ} {k₂ n₂ : ℕ} {out₂ : List ℕ} → ShowsIn o t s ws out k₁ n₁ out₁
     → ShowsIn o t s ws out k₂ n₂ out₂

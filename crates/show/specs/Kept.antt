@@ -10,7 +10,7 @@ use Rattle.session.specs.Printed.{taken, stateAfter}
 use Rattle.session.specs.Promises.{Ready}
 use Rattle.panel.specs.Printed as printed
 use Rattle.show.specs.Printed.{newest}
-use Rattle.show.specs.Promises.{mostPanel, mostChange}
+use Rattle.show.specs.Promises.{mostPanel}
 use Rattle.words.specs.declared.sections.Layout.{Layout}
 use Rattle.words.specs.Sections.{Laid}
 use Rattle.show.specs.declared.Seen.{Seen}
@@ -32,7 +32,7 @@ pub record Going (o : ℕ) (t : List ℕ) (h : Layout) (s trace : List ℕ) (see
   pub words : seen .count ≤ length trace
   pub bytes : seen .kept ≤ length found
   pub room : mostPanel ≤ length found
-  pub line : mostChange ≤ length out
+  pub line : mostPanel ≤ length out
 
 -- the state and the newest step's words that events es leave, from s and ws on
 pub record Leaves (t s ws es s′ trace′ : List ℕ) (n : ℕ) : Type 0 where
@@ -41,19 +41,24 @@ pub record Leaves (t s ws es s′ trace′ : List ℕ) (n : ℕ) : Type 0 where
 
 -- some first ones of the events es were taken from s on, and no other event
 pub record TookSome (t s es s′ : List ℕ) : Type 0 where
-  pub count : ℕ
-  pub state : s′ ≡ stateAfter t s (take count es)
+  pub events : List ℕ
+  pub rest : List ℕ
+  pub first : events ++ rest ≡ es
+  pub state : s′ ≡ stateAfter t s events
 
--- A block with the events es: where what is printed of them could be written all of them were taken, else some first ones.
-pub record TookBlock (t s ws es : List ℕ) (going : Bool) (s′ trace′ : List ℕ) (seen : Seen) : Type 0 where
+-- A block with the events es: where what is printed of them could be written all of them were taken, else some first ones; all is in
+-- order for the next.
+pub record TookBlock (o : ℕ) (t : List ℕ) (h : Layout) (s ws es : List ℕ) (going : Bool) (s′ trace′ : List ℕ) (seen : Seen) (found′ out′ : List ℕ)
+    : Type 0 where
   pub all : going ≡ true → Leaves t s ws es s′ trace′ (seen .count)
   pub some : TookSome t s es s′
+  pub next : Going o t h s′ trace′ seen found′ out′
 
 -- A run whose first block has the events es; `whole` says that no block was left before its end. What a file's later blocks hold no
 -- contract says, so their events are some list.
 pub data Ran (t s ws es : List ℕ) : Bool → List ℕ → List ℕ → ℕ → Type 0 where
   past : {whole : Bool} {s′ trace′ : List ℕ} {n : ℕ} (later : List ℕ) → Leaves t s ws (es ++ later) s′ trace′ n → Ran t s ws es whole s′ trace′ n
-  stopped : {s′ trace′ : List ℕ} {n : ℕ} → TookSome t s es s′ → Ran t s ws es false s′ trace′ n
+  stopped : {s′ trace′ : List ℕ} {n : ℕ} (later : List ℕ) → TookSome t s (es ++ later) s′ → Ran t s ws es false s′ trace′ n
 
 -- one event was taken, and all is in order for the next
 pub record TookOne (o : ℕ) (t : List ℕ) (h : Layout) (e : ℕ) (s trace : List ℕ) (seen : Seen) (s′ trace′ found′ out′ : List ℕ) : Type 0 where

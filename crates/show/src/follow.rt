@@ -40,7 +40,7 @@ fn same(a: &[u8], b: &[u8]) -> bool
 }
 
 // Lays an event's number at the front.
-fn lay_number(out: &mut [u8], number: u64) -> usize
+pub fn lay_number(out: &mut [u8], number: u64) -> usize
     requires { ⌜ 27 ≤ length (now out) ⌝ }
     ensures { λ r. ⌜ PutAt (eventLine number) (now (out .entry)) 0 r (now (out .exit)) × (r ≤ 27) ⌝ }
 {
@@ -57,37 +57,36 @@ pub fn lay_left(o: u32, t: &[u32], s: &[u32], ws: &[u32], out: &mut [u8]) -> usi
     panel::bytes(shown)
 }
 
-// How many bytes are to be printed, 0 where no line has changed, and how many the panel now has.
+// Whether a line has changed, and how many bytes the panel now has.
 pub struct Changed {
-    pub bytes: usize,
+    pub changed: bool,
     pub kept: usize,
 }
 
-// Lays an event's number and the panel that it left at the front of `out`; `found` has the panel that it found, in its first `kept` bytes,
-// and gets the other where a line has changed.
+// Lays the panel that an event left at the front of `out`; `found` has the panel that it found, in its first `kept` bytes, and gets the
+// other where a line has changed.
 pub fn lay_change(
     o: u32,
     t: &[u32],
     s: &[u32],
     ws: &[u32],
-    number: u64,
     found: &mut [u8],
     kept: usize,
     out: &mut [u8],
 ) -> Changed
     requires { ⌜ Watched o (now t) (now s) (now ws) (now found) kept (now out) ⌝ }
-    ensures { λ r. ⌜ LaysChange o (now (t .entry)) (now (s .entry)) (now (ws .entry)) number (now (found .entry)) kept r
-        (now (found .exit)) (now (out .exit)) ⌝ }
+    ensures { λ r. ⌜ LaysChange o (now (t .entry)) (now (s .entry)) (now (ws .entry)) (now (found .entry)) kept r (now (found .exit)) (now (out .exit)) ⌝ }
 {
-    let head = lay_number(out, number);
-    let n = lay_left(o, t, s, ws, &mut out[head..]);
-    let end = head + n;
-    if same(&found[..kept], &out[head..end]) {
-        return Changed { bytes: 0, kept };
+    let n = lay_left(o, t, s, ws, out);
+    if same(&found[..kept], &out[..n]) {
+        return Changed {
+            changed: false,
+            kept,
+        };
     }
-    let next = put_label(found, 0, &out[head..end]);
+    let next = put_label(found, 0, &out[..n]);
     Changed {
-        bytes: end,
+        changed: true,
         kept: next,
     }
 }

@@ -14,8 +14,10 @@ mod space;
 
 use files::print;
 use files::read_block;
+use follow::Changed;
 use follow::lay_change;
 use follow::lay_left;
+use follow::lay_number;
 use follow::take_one;
 use libc::STDERR_FILENO;
 use text::input::read_word;
@@ -35,6 +37,22 @@ struct Seen {
 struct Watched {
     written: bool,
     seen: Seen,
+}
+
+// Prints an event's number and the panel that stands at the front of `out`, where a line of it has changed; false where it cannot.
+fn print_change(number: u64, changed: Changed, out: &[u8]) -> bool
+    requires { ⌜ changed .kept ≤ length (now out) ⌝ }
+{
+    if !changed.changed {
+        return true;
+    }
+    let mut line = space::number_bytes();
+    let n = lay_number(&mut line, number);
+    if !print(&line[..n]) {
+        return false;
+    }
+    let kept = changed.kept;
+    print(&out[..kept])
 }
 
 // Takes one event and, where each is followed, prints what has changed.
@@ -66,16 +84,168 @@ fn watch_one(
             },
         };
     }
-    let changed = lay_change(o, t, s, &trace[..count], seen.events, found, seen.kept, out);
-    let bytes = changed.bytes;
+    let changed = lay_change(o, t, s, &trace[..count], found, seen.kept, out);
+    let kept = changed.kept;
     Watched {
-        written: print(&out[..bytes]),
+        written: print_change(seen.events, changed, out),
         seen: Seen {
             events,
             count,
-            kept: changed.kept,
+            kept,
         },
     }
+}
+
+// Takes the events of a block.
+fn watch_block(
+    o: u32,
+    following: bool,
+    t: &[u32],
+    h: Layout,
+    s: &mut [u32],
+    trace: &mut [u32],
+    block: &[u8],
+    from: Seen,
+    found: &mut [u8],
+    out: &mut [u8],
+) -> Watched
+    requires { ⌜ Going o (now t) h (now s) (now trace) from (now found) (now out) ⌝ }
+    ensures { λ r. ⌜ TookBlock o (now (t .entry)) h (now (s .entry)) (take (from .count) (now (trace .entry))) (wordsOf (now (block .entry))) (r .written)
+        (now (s .exit)) (now (trace .exit)) (r .seen) (now (found .exit)) (now (out .exit)) ⌝ }
+{
+    let total = word_count(block);
+    let mut seen = from;
+    let mut i = 0;
+    while i < total {
+        let e = read_word(block, i);
+        let watched = watch_one(o, following, t, h, e, s, trace, seen, found, out);
+        seen = watched.seen;
+        i += 1;
+        if !watched.written {
+            return Watched {
+                written: false,
+                seen,
+            };
+        }
+    }
+    Watched {
+        written: true,
+        seen,
+    }
+}
+
+// What came of a block, `going` if no write and no read failed; and the bytes that the next block has, 0 to end.
+struct Turn {
+    going: bool,
+    seen: Seen,
+    bytes: usize,
+}
+
+// Takes the events of the n bytes of a block and reads the next one.
+fn next_block(
+    o: u32,
+    following: bool,
+    t: &[u32],
+    h: Layout,
+    s: &mut [u32],
+    trace: &mut [u32],
+    fd: i32,
+    path: &[u8],
+    block: &mut [u8],
+    n: usize,
+    from: Seen,
+    found: &mut [u8],
+    out: &mut [u8],
+) -> Turn
+    requires { ⌜ Counts n (now block) × Going o (now t) h (now s) (now trace) from (now found) (now out) ⌝ }
+    ensures { λ r. ⌜ Counts (r .bytes) (now (block .exit)) ⌝ }
+    ensures { λ r. ⌜ TookBlock o (now (t .entry)) h (now (s .entry)) (take (from .count) (now (trace .entry))) (wordsOf (take n (now (block .entry))))
+        (r .going) (now (s .exit)) (now (trace .exit)) (r .seen) (now (found .exit)) (now (out .exit)) ⌝ }
+{
+    let watched = watch_block(o, following, t, h, s, trace, &block[..n], from, found, out);
+    let seen = watched.seen;
+    if !watched.written {
+        return Turn {
+            going: watched.written,
+            seen,
+            bytes: 0,
+        };
+    }
+    let filled = read_block(fd, path, block);
+    let bytes = filled.bytes;
+    Turn {
+        going: !filled.failed,
+        seen,
+        bytes,
+    }
+}
+
+// The whole file: whether it came to its end, and what was seen.
+struct Ended {
+    whole: bool,
+    seen: Seen,
+}
+
+// Takes the events of the first block and then those that the file still has. A proved loop has to end, and nothing says that a file
+// does: the turns count down from a number that no run uses up.
+fn watch_file(
+    o: u32,
+    following: bool,
+    t: &[u32],
+    h: Layout,
+    s: &mut [u32],
+    trace: &mut [u32],
+    fd: i32,
+    path: &[u8],
+    block: &mut [u8],
+    first: usize,
+    from: Seen,
+    found: &mut [u8],
+    out: &mut [u8],
+) -> Ended
+    requires { ⌜ Counts first (now block) × Going o (now t) h (now s) (now trace) from (now found) (now out) ⌝ }
+    ensures { λ r. ⌜ Going o (now (t .entry)) h (now (s .exit)) (now (trace .exit)) (r .seen) (now (found .exit)) (now (out .exit)) ⌝ }
+    ensures { λ r. ⌜ Ran (now (t .entry)) (now (s .entry)) (take (from .count) (now (trace .entry))) (wordsOf (take first (now (block .entry))))
+        (r .whole) (now (s .exit)) (now (trace .exit)) (r .seen .count) ⌝ }
+{
+    let mut n = first;
+    let mut seen = from;
+    let mut turns = u64::MAX;
+    while turns > 0 && n > 0 {
+        let turn = next_block(
+            o,
+            following,
+            t,
+            h,
+            s,
+            trace,
+            fd,
+            path,
+            block,
+            n,
+            seen,
+            found,
+            out,
+        );
+        seen = turn.seen;
+        if !turn.going {
+            return Ended { whole: false, seen };
+        }
+        n = turn.bytes;
+        turns -= 1;
+    }
+    Ended {
+        whole: n == 0,
+        seen,
+    }
+}
+
+// Prints the panel of a state and the first `count` trace words.
+fn print_last(o: u32, t: &[u32], s: &[u32], ws: &[u32], out: &mut [u8])
+    requires { ⌜ Shown o (now t) (now s) (now ws) (now out) ⌝ }
+{
+    let n = lay_left(o, t, s, ws, out);
+    print(&out[..n]);
 }
 
 fn main() {}

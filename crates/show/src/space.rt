@@ -16,9 +16,9 @@ pub fn panel_bytes() -> [u8; 63624]
     [0; 63624]
 }
 
-// Room for the longest panel behind its event's number.
-pub fn change_bytes() -> [u8; 63651]
-    ensures { λ r. ⌜ 63651 ≡ length r ⌝ }
+// Room for an event's number.
+pub fn number_bytes() -> [u8; 27]
+    ensures { λ r. ⌜ 27 ≡ length r ⌝ }
 {
-    [0; 63651]
+    [0; 27]
 }

@@ -1,37 +1,18 @@
+-- `show::follow::lay_number` meets its contract. Assumes nothing.
 use borrow.Author.Needs.{needs}
+use Rattle.show.proofs.Laid.{number-laid}
 use Rattle.show.proofs.follow.lay_number.Statement.{statement}
 use Rattle.show.proofs.follow.lay_number.Tie as tie
-use Rattle.show.proofs.follow.lay_number.Reads as reads
-use Rattle.show.proofs.follow.lay_number.Lts as lts
-use Rattle.text.proofs.output.put_decimal.Reads as put-decimal-reads
-use Rattle.text.proofs.output.put_label.Reads as put-label-reads
 
--- src/follow.rt:47:34
-slice-aggregate-put-label : tie.Need-slice-aggregate-put-label
-slice-aggregate-put-label c = search needs
+-- The places that the answers cite, each seen from a later one.
+abbrev after-put-label : tie.After-put-decimal → tie.After-put-label
+after-put-label c = c .before .before .before .before
 
--- src/follow.rt:47:9
-put-label-requires : tie.Need-put-label-requires
-put-label-requires c κs = search needs
-
--- src/follow.rt:48:5
-put-decimal-requires : tie.Need-put-decimal-requires
-put-decimal-requires c κs = search needs
-
--- src/follow.rt:43:1
-same-length : tie.Need-same-length
-same-length c = search needs
-
--- src/follow.rt:43:1
 returns : tie.Need-returns
-returns c = ?
+returns c =
+    let second = c .before .before in
+    let first = after-put-label second in
+    number-laid _ (search needs) (first .before .before .before .before .pre) (first .put-label .ensures) (second .put-decimal .ensures)
 
 pub lay-number-spec : {M : Type 1} → statement M
-lay-number-spec =
-    tie.close
-    (tie.spec
-    slice-aggregate-put-label
-    put-label-requires
-    put-decimal-requires
-    same-length
-    returns)
+lay-number-spec = tie.close (tie.spec (λ c. search needs) (λ c κs. search needs) (λ c κs. search needs) (λ c. search needs) returns)

@@ -1,62 +1,43 @@
+-- `show::follow::same` meets its contract. The loop's invariant: whether all is the same is whether the rest is. The measure is how many bytes are left. Assumes nothing.
+use Prim.Native.Nat.{_-_, _≤_}
+use mathlib.Core.Path.{_≡_, refl, sym, _∙_}
+use native.Mathlib.Omega.{arith}
+use borrow.Author.Needs.{needs}
+use lib.ListN.{length, drop}
+use Rattle.rulebook.specs.Marked.{same}
+use Rattle.show.proofs.Same.{other-length, same-next, other-here, same-end}
 use Rattle.show.proofs.follow.same.Statement.{statement}
 use Rattle.show.proofs.follow.same.Tie as tie
-use Rattle.show.proofs.follow.same.Reads as reads
-use Rattle.show.proofs.follow.same.Lts as lts
 
 abbrev Inv-loop : tie.InvT-loop
-Inv-loop a b i₀ i = ?
+Inv-loop a b i₀ i = (i ≤ length a) × (same a b ≡ same (drop i a) (drop i b))
 
 abbrev μ-loop : tie.MeasureT-loop
-μ-loop a b i₀ i = ?
+μ-loop a b i₀ i = length a - i
 
--- src/follow.rt:30:9
 returns : tie.Need-returns Inv-loop μ-loop
-returns c = ?
+returns c = sym (other-length _ _ (c .if1 .taken))
 
--- src/follow.rt:33:5
 loop-holds : tie.Need-loop-holds Inv-loop μ-loop
-loop-holds c = ?
+loop-holds c = (omega arith, refl)
 
--- src/follow.rt:34:12
-shared-slice-read-if2 : tie.Need-shared-slice-read-if2 Inv-loop μ-loop
-shared-slice-read-if2 c = ?
-
--- src/follow.rt:34:20
-shared-slice-read-if2-2 : tie.Need-shared-slice-read-if2-2 Inv-loop μ-loop
-shared-slice-read-if2-2 c = ?
-
--- src/follow.rt:35:13
 returns-2 : tie.Need-returns-2 Inv-loop μ-loop
-returns-2 c = ?
+returns-2 c =
+    let at = c .before .before .before .before in
+    let long = at .before .if1 .left in
+    sym (at .loop .inv .1 ∙ other-here (at .before .before .args .a .now) (at .before .before .args .b .now) (at .loop .i) (omega arith) (omega arith) (c .if2 .taken))
 
--- src/follow.rt:37:9
-add-i : tie.Need-add-i Inv-loop μ-loop
-add-i c = ?
-
--- src/follow.rt:33:5
-loop-less : tie.Need-loop-less Inv-loop μ-loop
-loop-less c = ?
-
--- src/follow.rt:33:5
 loop-again : tie.Need-loop-again Inv-loop μ-loop
-loop-again c = ?
+loop-again c =
+    let at = c .before .before .before .before in
+    let long = at .before .if1 .left in
+    (omega arith, at .loop .inv .1 ∙ same-next (at .before .before .args .a .now) (at .before .before .args .b .now) (at .loop .i) (omega arith) (omega arith) (c .if2 .left))
 
--- src/follow.rt:26:1
 returns-3 : tie.Need-returns-3 Inv-loop μ-loop
-returns-3 c = ?
+returns-3 c =
+    let at = c .before in
+    let long = at .before .if1 .left in
+    sym (at .loop .inv .1 ∙ same-end (at .before .before .args .a .now) (at .before .before .args .b .now) (at .loop .i) (omega arith) (omega arith))
 
 pub same-spec : {M : Type 1} → statement M
-same-spec =
-    tie.close
-    (tie.spec
-    Inv-loop
-    μ-loop
-    returns
-    loop-holds
-    shared-slice-read-if2
-    shared-slice-read-if2-2
-    returns-2
-    add-i
-    loop-less
-    loop-again
-    returns-3)
+same-spec = tie.close (tie.spec Inv-loop μ-loop returns loop-holds (λ c. omega arith) (λ c. let long = c .before .before .before .before .if1 .left in omega arith) returns-2 (λ c. omega arith) (λ c. omega arith) loop-again returns-3)

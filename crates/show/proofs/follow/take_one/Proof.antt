@@ -1,57 +1,35 @@
+-- `show::follow::take_one` meets its contract: the call is safe, and what it reports is the step. Assumes nothing.
 use borrow.Author.Needs.{needs}
+use Rattle.manager.proofs.Steps.{bounded-by}
+use Rattle.manager.proofs.Playing.{none-behind}
+use Rattle.session.proofs.Steps.{run-safe, count-is, state-is, words-are}
+use mathlib.Core.Path.{refl}
 use Rattle.show.proofs.follow.take_one.Statement.{statement}
 use Rattle.show.proofs.follow.take_one.Tie as tie
-use Rattle.show.proofs.follow.take_one.Reads as reads
-use Rattle.show.proofs.follow.take_one.Lts as lts
-use Rattle.events.proofs.count.Reads as count-reads
-use Rattle.events.proofs.handle.Reads as handle-reads
 
--- src/follow.rt:21:52
-mul-handle : tie.Need-mul-handle
-mul-handle c = search needs
+-- The places that the answers cite, each seen from a later one.
+abbrev start : tie.After-handle-arg3 → tie.Start
+start c = c .before .before .before .before .before .before
 
--- src/follow.rt:21:52
-sub-handle : tie.Need-sub-handle
-sub-handle c = search needs
+abbrev after-handle : tie.After-count → tie.After-handle
+after-handle c = c .before .before .before .before .before
 
--- src/follow.rt:21:52
-part-handle-start : tie.Need-part-handle-start
-part-handle-start c = search needs
-
--- src/follow.rt:21:52
-part-handle-end : tie.Need-part-handle-end
-part-handle-end c = search needs
-
--- src/follow.rt:21:9
 handle-requires : tie.Need-handle-requires
-handle-requires c κs = ?
+handle-requires c κs =
+    let p = start c .pre in
+    record { laid = p .0; bounded = bounded-by _ _ (p .1 .table) (p .0 .rules .value); safe = run-safe _ _ _ _ (p .1) _ }
 
--- src/follow.rt:22:5
-count-requires : tie.Need-count-requires
-count-requires c κs = search needs
-
--- src/follow.rt:17:1
-same-length : tie.Need-same-length
-same-length c = search needs
-
--- src/follow.rt:17:1
-same-length-2 : tie.Need-same-length-2
-same-length-2 c = search needs
-
--- src/follow.rt:17:1
 returns : tie.Need-returns
-returns c = ?
+returns c =
+    let h = after-handle c .handle in
+    let begun = start (after-handle c .before) in
+    let p = begun .pre .1 in
+    let none = none-behind (begun .args .t .now) in
+    record {
+      count = count-is _ _ _ _ p _ none (h .result) _ _ (h .ensures) _ _ refl (c .count .ensures);
+      state = state-is _ _ _ _ p _ none (h .result) _ _ (h .ensures) _ _ refl (c .count .ensures);
+      words = words-are _ _ _ _ p _ none (h .result) _ _ (h .ensures) _ _ refl (c .count .ensures);
+    }
 
 pub take-one-spec : {M : Type 1} → statement M
-take-one-spec =
-    tie.close
-    (tie.spec
-    mul-handle
-    sub-handle
-    part-handle-start
-    part-handle-end
-    handle-requires
-    count-requires
-    same-length
-    same-length-2
-    returns)
+take-one-spec = tie.close (tie.spec (λ c. search needs) (λ c. search needs) (λ c. search needs) (λ c. search needs) handle-requires (λ c κs. search needs) (λ c. search needs) (λ c. search needs) returns)

@@ -1,0 +1,4 @@
+-- Laws that belong to no one function.
+pub mod Same
+pub mod Laid
+pub mod Kept
