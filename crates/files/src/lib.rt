@@ -11,8 +11,8 @@ use libc::STDERR_FILENO;
 use libc::STDOUT_FILENO;
 use text::input::read_words;
 
-// An argument that is not there, or empty, or longer than a path can be.
-fn missing(name: &[u8], usage: &[u8]) {
+// Tells of an argument that is not there, or empty, or longer than a path can be.
+pub fn missing(name: &[u8], usage: &[u8]) {
     if os::errno() == libc::ENAMETOOLONG {
         os::fail(name);
         return;

@@ -14,12 +14,18 @@ use Rattle.words.specs.declared.sections.Layout.{Layout}
 use Rattle.text.specs.Words.{wordsOf}
 use Rattle.session.specs.Printed.{taken, stateAfter}
 use Rattle.session.specs.Promises.{Ready, tracedBy}
+use Rattle.states.specs.Made.{Makes}
+use Rattle.words.specs.Sections.{Laid}
+use Rattle.session.specs.declared.Opening.{Opening}
+use Rattle.session.specs.Promises.{Opens}
+use Rattle.session.proofs.Whole.{opened, opened-state, opened-trace, made-fresh, fresh-ready}
+use Rattle.panel.specs.Printed.{operator}
 use Rattle.session.proofs.Steps.{traced-long, next-ready, words-few}
 use Rattle.session.proofs.Along.{state-append, state-last}
 use Rattle.show.specs.declared.Seen.{Seen}
 use Rattle.show.specs.Printed.{newest}
-use Rattle.show.specs.Promises.{Took, Shown, Watched}
-use Rattle.show.specs.Kept.{Lent, Going, TookOne, Leaves, TookSome, TookBlock, Ran}
+use Rattle.show.specs.Promises.{Took, mostPanel, Shown, Watched}
+use Rattle.show.specs.Kept.{Lent, Last, Going, TookOne, Leaves, TookSome, TookBlock, Ran}
 use Rattle.show.specs.Kept as kept
 
 -- what is ready is refused by neither table nor state
@@ -151,3 +157,66 @@ block-next {t} {s₀} {ws} es i {s} {trace} {n} l inside {e} is {seen = seen} {s
 -- a run that stopped in its first block
 pub some-of : {t s ws es s′ trace′ : List ℕ} {n : ℕ} → TookSome t s es s′ → Ran t s ws es false s′ trace′ n
 some-of {es = es} some = kept.stopped [] record { events = some .events; rest = some .rest; first = some .first ∙ sym (append-nil es); state = some .state }
+
+-- The beginning: the fresh state, and no words yet.
+
+pub fresh-shown : {o : ℕ} {t s₀ trace found out : List ℕ} → Lent o t s₀ trace found out → {k : ℕ} {s : List ℕ} → Makes t s₀ k s → (ws : List ℕ) → ws ≡ []
+    → Shown o t s ws found
+fresh-shown {t = t} {trace = trace} l {s = s} made ws none =
+    record {
+      operator = l .operator;
+      stands = ready-stands t s trace (fresh-ready (l .table) (made-fresh (l .table) (l .state) made) (l .room));
+      few = rw none (omega arith);
+      room = l .bytes;
+    }
+
+pub fresh-going : {o : ℕ} {t : List ℕ} {h : Layout} {s₀ trace found out : List ℕ} → Lent o t s₀ trace found out → {k : ℕ} {s : List ℕ} → Makes t s₀ k s
+    → Laid t h → {kept : ℕ} {found′ : List ℕ} → kept ≤ length found′ → length found′ ≡ length found
+    → Going o t h s trace (record { events = 0; count = 0; kept = kept }) found′ out
+fresh-going l made laid inside long =
+    let room = l .bytes in
+    record {
+      operator = l .operator;
+      laid = laid;
+      ready = fresh-ready (l .table) (made-fresh (l .table) (l .state) made) (l .room);
+      few = l .few;
+      words = omega arith;
+      bytes = inside;
+      room = omega arith;
+      line = l .line;
+    }
+
+pub ran-from : {t s s₁ ws es : List ℕ} {whole : Bool} {s′ trace′ : List ℕ} {n : ℕ} → s₁ ≡ s → Ran t s₁ ws es whole s′ trace′ n → Ran t s ws es whole s′ trace′ n
+ran-from {t} {ws = ws} {es} {whole} {s′} {trace′} {n} is r = subst (λ (v : List ℕ). Ran t v ws es whole s′ trace′ n) is r
+
+-- the end: the panel behind the last event can be laid
+pub going-last : {o : ℕ} {t : List ℕ} {h : Layout} {s trace : List ℕ} {seen : Seen} {found out : List ℕ} → Going o t h s trace seen found out
+    → Last o t s trace (seen .count) out
+going-last {t = t} {s = s} {trace} {seen} g =
+    let few = g .few in
+    let inside = g .words in
+    record {
+      inside = inside;
+      shown = record {
+        operator = g .operator;
+        stands = ready-stands t s trace (g .ready);
+        few = omega (arith, length-take-le (seen .count) trace inside);
+        room = g .line;
+      };
+    }
+
+-- as many words as an opening asks for
+pub opens-lent : {o : ℕ} {t s trace found out : List ℕ} {opening : Opening} → Opens t opening → opening .reason ≡ 0 → length s ≡ opening .state
+    → length trace ≡ opening .trace → operator o ≡ true → mostPanel ≤ length found → mostPanel ≤ length out
+    → Lent o t s trace found out
+opens-lent opens none long room is bytes line =
+    let few = opens .smallTrace in
+    record {
+      operator = is;
+      table = opened opens none;
+      state = long ∙ opened-state opens none;
+      room = let b = opened-trace opens none in omega arith;
+      few = omega arith;
+      bytes = bytes;
+      line = line;
+    }

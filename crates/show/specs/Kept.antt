@@ -10,18 +10,25 @@ use Rattle.session.specs.Printed.{taken, stateAfter}
 use Rattle.session.specs.Promises.{Ready}
 use Rattle.panel.specs.Printed as printed
 use Rattle.show.specs.Printed.{newest}
-use Rattle.show.specs.Promises.{mostPanel}
+use Rattle.show.specs.Promises.{mostPanel, Shown}
 use Rattle.words.specs.declared.sections.Layout.{Layout}
 use Rattle.words.specs.Sections.{Laid}
 use Rattle.show.specs.declared.Seen.{Seen}
 
--- a table that stands, an operator, and words lent for its state and its trace
-pub record Lent (o : ℕ) (t s trace : List ℕ) : Type 0 where
+-- a table that stands, an operator, words lent for its state and its trace, and room for two panels
+pub record Lent (o : ℕ) (t s trace found out : List ℕ) : Type 0 where
   pub operator : printed.operator o ≡ true
   pub table : accepted t ≡ true
   pub state : length s ≡ stateLength t
   pub room : bound t ≤ length trace
   pub few : length trace ≤ 4096
+  pub bytes : mostPanel ≤ length found
+  pub line : mostPanel ≤ length out
+
+-- the panel of a state and of the first n trace words can be laid
+pub record Last (o : ℕ) (t s trace : List ℕ) (n : ℕ) (out : List ℕ) : Type 0 where
+  pub inside : n ≤ length trace
+  pub shown : Shown o t s (take n trace) out
 
 -- operator, table, state and trace are in order; the newest step's words and the panel found are inside what is lent, and a panel has room
 pub record Going (o : ℕ) (t : List ℕ) (h : Layout) (s trace : List ℕ) (seen : Seen) (found out : List ℕ) : Type 0 where

@@ -1,9 +1,11 @@
 -- "`./herringcart panel OPERATOR TABLE EVENTS`: the panel after the last event, with the newest step's words; `--follow` lays it after each
 -- event that changed one of its lines, with the event's number before it. A refused number or table: a message, nothing printed". Events
 -- are taken as `run` takes them, from the fresh state; their numbers are counted from 0.
-use Prim.Native.Nat.{ℕ, _+_, _%_}
+use Prim.Native.Nat.{ℕ, _+_, _-_, _*_, _%_}
 use mathlib.Core.Bool.{Bool, cond, _&&_}
 use mathlib.Core.List.{List, [], _∷_, _++_}
+use lib.Dec.{ltb}
+use Rattle.rulebook.specs.Words.{between}
 use Rattle.rulebook.specs.Reasons.{accepted}
 use Rattle.rulebook.specs.State.{fresh}
 use Rattle.rulebook.specs.Marked.{same}
@@ -40,6 +42,15 @@ following o t es = followed o t 0 (fresh t) (panel o t (fresh t) []) es
 
 unfoldable pub behindLast : ℕ → List ℕ → List ℕ → List ℕ
 behindLast o t es = panel o t (stateAfter t (fresh t) es) (newest t (fresh t) [] es)
+
+-- OPERATOR, in decimal digits. Above 15 a number is no operator's, whatever follows, and a byte that is no digit makes it so.
+
+unfoldable pub withDigit : ℕ → ℕ → ℕ
+withDigit n b = cond (ltb 15 n) n (cond (between 48 57 b) (n * 10 + (b - 48)) 16)
+
+unfoldable pub numberFrom : ℕ → List ℕ → ℕ
+numberFrom n [] = n
+numberFrom n (b ∷ word) = numberFrom (withDigit n b) word
 
 -- what stands on standard output for an operator's number and the bytes of a table file and of an events file
 unfoldable pub shown : Bool → ℕ → List ℕ → List ℕ → List ℕ

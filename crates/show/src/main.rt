@@ -2,12 +2,16 @@
 // printed is laid by `follow`.
 ghost use Prim.Native.Nat.{_≤_};
 ghost use lib.ListN.{length, take};
+ghost use mathlib.Core.Bool.{true};
 ghost use mathlib.Core.List.{[]};
+ghost use mathlib.Core.Path.{_≡_};
 ghost use Rattle.rulebook.specs.State.{fresh};
 ghost use Rattle.text.specs.Words.{wordsOf};
 ghost use Rattle.io.specs.Counts.{Counts};
 ghost use Rattle.show.specs.Promises.{Shown};
-ghost use Rattle.show.specs.Kept.{Lent, Going, TookOne, TookBlock, Ran};
+ghost use Rattle.panel.specs.Printed.{operator as isOperator};
+ghost use Rattle.show.specs.Printed.{withDigit, numberFrom};
+ghost use Rattle.show.specs.Kept.{Lent, Last, Going, TookOne, TookBlock, Ran};
 
 mod follow;
 mod space;
@@ -248,4 +252,205 @@ fn print_last(o: u32, t: &[u32], s: &[u32], ws: &[u32], out: &mut [u8])
     print(&out[..n]);
 }
 
-fn main() {}
+// Makes the fresh state in the lent words, lays its panel as the one that the first event finds, and takes the events from there.
+fn watch_fresh(
+    o: u32,
+    following: bool,
+    t: &[u32],
+    s: &mut [u32],
+    trace: &mut [u32],
+    fd: i32,
+    path: &[u8],
+    block: &mut [u8],
+    first: usize,
+    found: &mut [u8],
+    out: &mut [u8],
+) -> Ended
+    requires { ⌜ Counts first (now block) × Lent o (now t) (now s) (now trace) (now found) (now out) ⌝ }
+    ensures { λ r. ⌜ Last o (now (t .entry)) (now (s .exit)) (now (trace .exit)) (r .seen .count) (now (out .exit)) ⌝ }
+    ensures { λ r. ⌜ Ran (now (t .entry)) (fresh (now (t .entry))) [] (wordsOf (take first (now (block .entry)))) (r .whole) (now (s .exit))
+        (now (trace .exit)) (r .seen .count) ⌝ }
+{
+    manager::make_fresh(t, s);
+    let h = read_accepted(t);
+    let kept = lay_left(o, t, s, &t[t.len()..], found);
+    let from = Seen {
+        events: 0,
+        count: 0,
+        kept,
+    };
+    watch_file(
+        o,
+        following,
+        t,
+        h,
+        s,
+        trace,
+        fd,
+        path,
+        block,
+        first,
+        from,
+        found,
+        out,
+    )
+}
+
+// Takes the events from the fresh state and, where they are not followed, prints the panel behind the last one.
+fn watch_lent(
+    o: u32,
+    following: bool,
+    t: &[u32],
+    s: &mut [u32],
+    trace: &mut [u32],
+    fd: i32,
+    path: &[u8],
+    block: &mut [u8],
+    first: usize,
+    found: &mut [u8],
+    out: &mut [u8],
+)
+    requires { ⌜ Counts first (now block) × Lent o (now t) (now s) (now trace) (now found) (now out) ⌝ }
+{
+    let ended = watch_fresh(
+        o,
+        following,
+        t,
+        s,
+        trace,
+        fd,
+        path,
+        block,
+        first,
+        found,
+        out,
+    );
+    let seen = ended.seen;
+    let count = seen.count;
+    if following {
+        return;
+    }
+    if ended.whole {
+        print_last(o, t, s, &trace[..count], out);
+    }
+}
+
+// Says why nothing is printed; the front tells by the first words that it was a refusal.
+fn refuse(why: &[u8]) {
+    io::write_all(STDERR_FILENO, b"herringcart: refused: ");
+    io::write_all(STDERR_FILENO, why);
+    io::write_all(STDERR_FILENO, b"\n");
+}
+
+// The panel with a table that is not refused, or what refuses it.
+fn watch_table(o: u32, following: bool, t: &[u32], fd: i32, path: &[u8], block: &mut [u8], n: usize)
+    requires { ⌜ Counts n (now block) × (isOperator o ≡ true) ⌝ }
+{
+    let opening = session::open(t);
+    if opening.reason != 0 {
+        refuse(b"the table has a reason: herringcart check TABLE says which");
+        return;
+    }
+    let words = opening.state;
+    let room = opening.trace;
+    let mut states = files::space::state_words();
+    let mut traces = space::trace_words();
+    let mut found = space::panel_bytes();
+    let mut out = space::panel_bytes();
+    let s: &mut [u32] = &mut states[..words];
+    let trace: &mut [u32] = &mut traces[..room];
+    watch_lent(
+        o,
+        following,
+        t,
+        s,
+        trace,
+        fd,
+        path,
+        block,
+        n,
+        &mut found,
+        &mut out,
+    );
+}
+
+// A decimal number with one digit more. Above 15 it is no operator's, whatever follows, and a byte that is no digit makes it so.
+fn with_digit(n: u32, b: u8) -> u32
+    ensures { λ r. ⌜ r ≡ withDigit n b ⌝ }
+{
+    if 15 < n {
+        return n;
+    }
+    if b < 48 {
+        return 16;
+    }
+    if 57 < b {
+        return 16;
+    }
+    n * 10 + (b - 48) as u32
+}
+
+fn read_number(word: &[u8]) -> u32
+    ensures { λ r. ⌜ r ≡ numberFrom 0 (now (word .entry)) ⌝ }
+{
+    let mut n = 0;
+    let mut i = 0;
+    while i < word.len() {
+        n = with_digit(n, word[i]);
+        i += 1;
+    }
+    n
+}
+
+// The operator's number, which is judged before the table, and whether each event is followed: where there is a fourth word.
+fn watch(t: &[u32], fd: i32, path: &[u8], block: &mut [u8], n: usize)
+    requires { ⌜ Counts n (now block) ⌝ }
+{
+    let mut word = io::buffer();
+    let named = os::arg(3, &mut word);
+    if named == 0 {
+        files::missing(b"OPERATOR", b"panel OPERATOR TABLE EVENTS");
+        return;
+    }
+    let o = read_number(&word[..named]);
+    if o < 1 {
+        refuse(b"an operator has a number from 1 to 15, and OPERATOR is another");
+        return;
+    }
+    if 15 < o {
+        refuse(b"an operator has a number from 1 to 15, and OPERATOR is another");
+        return;
+    }
+    let more = os::arg(4, &mut word);
+    watch_table(o, 0 < more, t, fd, path, block, n);
+}
+
+// The events file is opened and its first block read before anything is printed.
+fn events(t: &[u32], path: &mut [u8]) {
+    let mut block = io::large_buffer();
+    let file = files::open(
+        2,
+        b"EVENTS",
+        b"panel OPERATOR TABLE EVENTS",
+        path,
+        &mut block,
+    );
+    let fd = file.fd;
+    let named = file.named;
+    let n = file.bytes;
+    if fd < 0 {
+        return;
+    }
+    watch(t, fd, &path[..named], &mut block, n);
+    libc::close(fd);
+}
+
+fn main() {
+    let mut path = io::buffer();
+    let mut words = files::space::table_words();
+    let table = files::read_table(b"panel OPERATOR TABLE EVENTS", &mut path, &mut words);
+    let count = table.words;
+    if table.read {
+        events(&words[..count], &mut path);
+    }
+}
