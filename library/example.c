@@ -1,6 +1,6 @@
 /* Runs document 01's marked table through the library, the same in edition 2 with a call that fails, and a table whose rules visit
- * more than one expression word; prints what each call gives and holds it against the documents. Leaves with status 1 at the first
- * difference. */
+ * more than one expression word; shows operators their panels; prints what each call gives and holds it against the documents. Leaves
+ * with status 1 at the first difference. */
 #include "herringcart.h"
 
 #include <inttypes.h>
@@ -241,6 +241,55 @@ static void visits(void)
     expect("visits of a play", sum, 4 + 18 + 0 + 4);
 }
 
+/* A panel that is asked for, the answer, and its lines. */
+struct shown {
+    const char *what;
+    uint32_t operator_number;
+    size_t table_words, words, room;
+    uint32_t answer;
+    const char *lines;
+};
+
+/* The panels of the marked run's first event: operator 1 sees its ports, its network and what the step wrote, which the event call's
+ * trace and count are handed on for. Operator 2 owns nothing here and sees nothing. A refusal changes no byte. */
+static void panels(void)
+{
+    enum { ROOM = HERRINGCART_PANEL_BYTES(BOUND), UNTOUCHED_BYTE = 0x55 };
+    static const char six[] = "port 0 81400000\nport 1 00000000\nnetwork 0 80000000\n"
+                              "trace F1000000\ntrace 41000002\ntrace 01001234\n";
+    static const char three[] = "port 0 81400000\nport 1 00000000\nnetwork 0 80000000\n";
+    uint32_t trace[BOUND] = {0}, visits = 99;
+    size_t count = 99;
+    expect("fresh", herringcart_make_fresh(table, TABLE_WORDS, state, STATE_WORDS), 0);
+    expect("answer",
+           herringcart_take_event(table, TABLE_WORDS, state, STATE_WORDS, trace, BOUND, table, 0, 0x11000500, &count, &visits), 0);
+    const struct shown all[] = {
+        {"operator 1", 1, TABLE_WORDS, count, ROOM, HERRINGCART_DONE, six},
+        {"operator 1, in just enough room", 1, TABLE_WORDS, count, sizeof six - 1, HERRINGCART_DONE, six},
+        {"operator 1, without a step's words", 1, TABLE_WORDS, 0, ROOM, HERRINGCART_DONE, three},
+        {"operator 2", 2, TABLE_WORDS, count, ROOM, HERRINGCART_DONE, ""},
+        {"the platform", HERRINGCART_PLATFORM, TABLE_WORDS, count, ROOM, HERRINGCART_NO_OPERATOR, ""},
+        {"a number above 15, with a bad table", 17, TABLE_WORDS - 1, count, ROOM, HERRINGCART_NO_OPERATOR, ""},
+        {"a bad table", 1, TABLE_WORDS - 1, count, ROOM, HERRINGCART_BAD_TABLE, ""},
+        {"a byte too little room", 1, TABLE_WORDS, count, sizeof six - 2, HERRINGCART_NO_ROOM, ""},
+    };
+    for (size_t i = 0; i < sizeof all / sizeof *all; i++) {
+        const struct shown *e = &all[i];
+        uint8_t lines[ROOM];
+        size_t bytes = 99, length = strlen(e->lines);
+        memset(lines, UNTOUCHED_BYTE, sizeof lines);
+        uint32_t answer = herringcart_panel(e->operator_number, table, e->table_words, state, STATE_WORDS, trace, e->words, lines,
+                                            e->room, &bytes);
+        printf("panel, %s: answer %" PRIu32 ", bytes %zu\n", e->what, answer, bytes);
+        expect("answer", answer, e->answer);
+        expect("bytes", bytes, length);
+        /* no 0 ends the lines: their length goes with them */
+        printf("%.*s", (int)bytes, (const char *)lines);
+        for (size_t b = 0; b < ROOM; b++)
+            expect("a byte of the lines", lines[b], b < length ? (uint8_t)e->lines[b] : UNTOUCHED_BYTE);
+    }
+}
+
 /* Another archive than this header's may take other arguments: nothing is called with it. */
 static void version(void)
 {
@@ -284,6 +333,7 @@ int main(void)
     play();
     outcomes();
     visits();
+    panels();
     printf("as the documents have it\n");
     return 0;
 }

@@ -1,8 +1,9 @@
 /* Herringcart: the proved mode manager's calls for C and C++.
  *
- * Tables, states, traces and outcomes are lent as arrays of 32-bit words, each by a pointer and its length in words.
- * docs/TABLES.md has the layout of every word, and what to do about each reason and answer. Every call takes any
- * words: it checks them for itself, and a refusal leaves every word of state and trace as it was.
+ * Tables, states, traces and outcomes are lent as arrays of 32-bit words, each by a pointer and its length in words; a panel's
+ * lines are laid into an array of bytes. docs/TABLES.md has the layout of every word, and what to do about each reason and answer.
+ * Every call takes any words: it checks them for itself, and a refusal leaves every word of state and trace, and every byte of
+ * lines, as it was.
  *
  * What version 5.0 changes for a caller:
  *
@@ -19,6 +20,8 @@
  *   - HERRINGCART_MOST_VISITS is new. Nothing else differs: every table, answer, state, trace and count is 4.0's.
  *
  * 5.1 changes no call, number, state or trace: of the answers 7, which was never given, is not one any more.
+ * 5.2 has one call more, herringcart_panel, with HERRINGCART_NO_OPERATOR, HERRINGCART_NO_ROOM and HERRINGCART_PANEL_BYTES. No call
+ * that was there before differs.
  * docs/CHANGES.md says what the versions before changed; since 4.0 an event call lends outcomes.
  *
  * The linker does not look at arguments. A program that was compiled with the header of another version may link with this
@@ -33,13 +36,13 @@
  * no call can check for itself:
  *
  *   - No pointer is null, for a length of 0 neither: any aligned address other than null will do there.
- *   - uint32_t pointers are aligned for uint32_t, size_t pointers for size_t, uint64_t pointers for uint64_t.
- *   - Each array is valid for its whole length for as long as the call runs: table, events, outcomes and a `const` state to
- *     read, state and trace to read and write. All words of state and trace must have been written once before they are lent,
- *     with whatever values: the trace's too, for the call may read it.
+ *   - uint32_t pointers are aligned for uint32_t, size_t pointers for size_t, uint64_t pointers for uint64_t. Lines may stand anywhere.
+ *   - Each array is valid for its whole length for as long as the call runs: table, events, outcomes, a panel's words and a `const`
+ *     state to read, state, trace and lines to read and write. All words of state and trace and all bytes of lines must have been
+ *     written once before they are lent, with whatever values: the trace's and the lines' too, for the call may read them.
  *   - An array is at most PTRDIFF_MAX bytes long.
- *   - What a call writes (state, trace, *place, *bound, *count, *taken, *visits) overlaps nothing else lent in the same call:
- *     visits neither count nor taken. Table, events, outcomes and a `const` state may overlap.
+ *   - What a call writes (state, trace, lines, *place, *bound, *count, *taken, *visits, *bytes) overlaps nothing else lent in the same
+ *     call: visits neither count nor taken. Table, events, outcomes, a panel's words and a `const` state may overlap.
  *   - While the call runs, no other thread, interrupt or device writes what is lent, and none reads what the call
  *     writes. The table may stand in read-only memory, and any number of calls may read it at the same time.
  *
@@ -71,7 +74,8 @@
  * kept. Measured on an Arm Neoverse N1 an event takes some 30 ns for each word of the table (docs/BENCHMARKS.md): 0.4 us with 12 words,
  * 86 us with 2,892. Tables made to be slow to check take up to 1.4 ms a call. The slowest that are known run 4,080 rule items
  * in one event: 3.5 ms, and 5.2 ms while a port is undefined. herringcart_play checks table and state once for all its events, and then
- * an event costs what it does alone. Whoever has a deadline measures with the table that is to be deployed.
+ * an event costs what it does alone. herringcart_panel checks table and state as an event does, and then goes twice through the
+ * operator's lines. Whoever has a deadline measures with the table that is to be deployed.
  */
 #ifndef HERRINGCART_H
 #define HERRINGCART_H
@@ -85,9 +89,9 @@
 
 /* The version of this header and of the archive beside it. docs/CHANGES.md says what each version changes. The number is
  * what herringcart_version of that archive gives. */
-#define HERRINGCART_VERSION "5.1"
+#define HERRINGCART_VERSION "5.2"
 #define HERRINGCART_VERSION_MAJOR 5
-#define HERRINGCART_VERSION_MINOR 1
+#define HERRINGCART_VERSION_MINOR 2
 #define HERRINGCART_VERSION_NUMBER (UINT32_C(65536) * HERRINGCART_VERSION_MAJOR + HERRINGCART_VERSION_MINOR)
 
 #ifdef __cplusplus
@@ -101,6 +105,12 @@ extern "C" {
 
 /* The most expression words that an event can visit, 127 * (256 + 4096). */
 #define HERRINGCART_MOST_VISITS 552704
+
+/* Bytes that are always enough for a panel's lines, by how many trace words are handed in: 104 things of at most 21 bytes (64 ports,
+ * 8 networks and 32 sources are the most that a table has), and 15 for each trace word. For an array of one's own:
+ *
+ *         static uint8_t lines[HERRINGCART_PANEL_BYTES(HERRINGCART_TRACE_WORDS)]; */
+#define HERRINGCART_PANEL_BYTES(words) (2184 + 15 * (size_t)(words))
 
 /* The most stack a call takes, in bytes. */
 #define HERRINGCART_STACK_BYTES 16384
@@ -121,7 +131,8 @@ enum herringcart_reason {
 };
 
 /* What the other calls answer, in the order in which the answers are tried: 8 stands between 4 and 5. 7 is not used: document 01
- * had it for a list at an eighth level, and a table that could start one is HERRINGCART_TOO_DEEP; that no call gives 7 is proved. */
+ * had it for a list at an eighth level, and a table that could start one is HERRINGCART_TOO_DEEP; that no call gives 7 is proved.
+ * herringcart_panel has two answers more, below. */
 enum herringcart_answer {
     HERRINGCART_DONE = 0,
     HERRINGCART_BAD_TABLE = 1,          /* the table has a reason */
@@ -133,6 +144,12 @@ enum herringcart_answer {
     HERRINGCART_BAD_OUTCOME = 8,        /* an outcome word is above 1, whether a call would read it or not */
     HERRINGCART_NO_SUCH_THING = 5,      /* no such port, source or network, or not one for this kind */
     HERRINGCART_OTHER_OWNER = 6         /* the thing is not the owner's */
+};
+
+/* What herringcart_panel alone answers. Its answers are tried in the order 9, 1, 2, 11. */
+enum herringcart_panel_answer {
+    HERRINGCART_NO_OPERATOR = 9, /* the number is 0, the platform's, or above 15 */
+    HERRINGCART_NO_ROOM = 11     /* the lines need more bytes than are lent */
 };
 
 /* The kinds of events. */
@@ -221,6 +238,32 @@ uint32_t herringcart_take_event(const uint32_t *table, size_t table_words, uint3
 uint32_t herringcart_play(const uint32_t *table, size_t table_words, uint32_t *state, size_t state_words, uint32_t *trace,
                           size_t trace_words, const uint32_t *events, size_t event_words, size_t *taken, size_t *count,
                           uint64_t *visits);
+
+/* Shows one operator its panel. words are the newest step's trace words, those that its count covers: the event call's trace and
+ * *count as it left them. A refused event wrote none, and before any event there are none: words_count is 0 then, and words any aligned
+ * address but null. Whose step it was and whether the words are a trace at all is not looked at; any words will do.
+ *
+ * Gives 0, and then the lines stand at the front of lines, *bytes of them in all, and the bytes behind are unchanged. No 0 byte ends
+ * them. Or the first of these that holds, in this order: HERRINGCART_NO_OPERATOR, the number is 0 or above 15; HERRINGCART_BAD_TABLE;
+ * HERRINGCART_UNFIT_STATE; HERRINGCART_NO_ROOM, lines_bytes is less than the lines need. Then no byte of lines has changed. Always
+ * writes *bytes: 0 if refused, and also where the operator has nothing to see, which is no refusal. HERRINGCART_PANEL_BYTES(words_count)
+ * bytes of room are enough for every table.
+ *
+ * A line is a name, for a thing its number in the table, and the word in eight hex digits, and ends in a newline:
+ *
+ *         port 0 81400000
+ *         network 0 80000000
+ *         source 2 40000008
+ *         trace F1000000
+ *
+ * First come the operator's ports, then its networks, then its sources, each by number, with their words of the state; then those of
+ * the trace words that have the operator in their owner field, in the order in which they were handed in. Nothing else is shown: nothing
+ * of a stranger; nothing of the platform, neither its things nor its trace words; and no rule's word, the operator's own neither. That
+ * the lines hang on nothing else is proved: accepted tables of equal counts that give the operator the same numbered things, with fitting
+ * states and traces that agree in the operator's words, give the same bytes. */
+uint32_t herringcart_panel(uint32_t operator_number, const uint32_t *table, size_t table_words, const uint32_t *state,
+                           size_t state_words, const uint32_t *words, size_t words_count, uint8_t *lines, size_t lines_bytes,
+                           size_t *bytes);
 
 #ifdef __cplusplus
 }

@@ -24,7 +24,8 @@
 static uint32_t table[TABLE_WORDS];
 static uint32_t state[STATE_WORDS];
 static uint32_t trace[HERRINGCART_TRACE_WORDS];
-static size_t place, count;
+static uint8_t lines[HERRINGCART_PANEL_BYTES(HERRINGCART_TRACE_WORDS)];
+static size_t place, count, laid;
 static uint32_t bound, visits;
 
 static void make_table(uint32_t edition)
@@ -83,6 +84,15 @@ static uint32_t take_event(void)
     return herringcart_take_event(table, TABLE_WORDS, state, STATE_WORDS, trace, bound, outcomes, 1, 0x10000500, &count, &visits);
 }
 
+/* The whole trace handed in, each word in turn the operator's. */
+static uint32_t panel(void)
+{
+    static uint32_t words[HERRINGCART_TRACE_WORDS];
+    for (size_t i = 0; i < HERRINGCART_TRACE_WORDS; i++)
+        words[i] = 0x01000000 | (uint32_t)i;
+    return herringcart_panel(1, table, TABLE_WORDS, state, STATE_WORDS, words, HERRINGCART_TRACE_WORDS, lines, sizeof lines, &laid);
+}
+
 static _Alignas(65536) unsigned char stack[STACK];
 
 struct measured {
@@ -130,7 +140,7 @@ static int measure(uint32_t edition)
         uint32_t (*call)(void);
     } calls[] = {
         {"check_table", check_table}, {"make_fresh", make_fresh}, {"check_state", check_state}, {"play", play},
-        {"take_event", take_event},
+        {"take_event", take_event},   {"panel", panel},
     };
     int more = 0;
     make_table(edition);
@@ -140,7 +150,12 @@ static int measure(uint32_t edition)
         if (bytes > HERRINGCART_STACK_BYTES)
             more = 1;
     }
-    /* In the last call every list started and every rule item ran; of the deepest list's two outside calls edition 2 leaves
+    /* The port is the platform's: the panel has the trace words alone. */
+    if (laid != 15 * HERRINGCART_TRACE_WORDS) {
+        printf("%zu bytes of panel\n", laid);
+        exit(1);
+    }
+    /* In the event every list started and every rule item ran; of the deepest list's two outside calls edition 2 leaves
      * out the second. */
     size_t expected = 2 * LEVELS + (edition == 2 ? 1 : 2) + 2 * (LISTS - LEVELS);
     if (count != expected) {

@@ -1,5 +1,6 @@
-//! One case through both sides, every answer and every lent word compared.
+//! One case through both sides, every answer and every lent word and byte compared.
 
+pub mod panels;
 mod plays;
 
 use std::fmt;
@@ -10,21 +11,24 @@ use second::state::state_length;
 use second::stream::{STATE_FILL, TRACE_FILL};
 use second::words::{HEADER, Section, Table};
 
+use self::panels::Shown;
 use crate::nearest::Visited;
 use crate::subject::Subject;
 
-/// The first thing the two sides say differently.
+/// The first thing the two sides say differently, and what each says of it.
 #[derive(Clone, PartialEq, Eq, Debug)]
 pub struct Difference {
     pub what: String,
-    pub proved: Vec<u32>,
-    pub second: Vec<u32>,
+    pub proved: String,
+    pub second: String,
+    /// The panel, where it is one that differs: without its case it differs as well.
+    pub panel: Option<Box<Shown>>,
 }
 
 impl fmt::Display for Difference {
     fn fmt(&self, f: &mut fmt::Formatter) -> fmt::Result {
-        let (proved, second) = (Words(&self.proved), Words(&self.second));
-        writeln!(f, "differs: {}\n  proved: {proved}\n  second: {second}", self.what)
+        let Difference { what, proved, second, .. } = self;
+        writeln!(f, "differs: {what}\n  proved: {proved}\n  second: {second}")
     }
 }
 
@@ -41,23 +45,45 @@ impl fmt::Display for Words<'_> {
 /// Guard words on each side of what is lent: more than one call could step
 /// over by a miscounted thing.
 const GUARDS: usize = 64;
-const GUARD: u32 = 0xC3C3_C3C3;
 
-/// Words lent out of the middle of a larger buffer, so that a word written
+/// What is lent: words, or bytes.
+trait Unit: Copy + PartialEq {
+    const GUARD: Self;
+    fn told(units: &[Self]) -> String;
+}
+
+impl Unit for u32 {
+    const GUARD: u32 = 0xC3C3_C3C3;
+
+    fn told(words: &[u32]) -> String {
+        Words(words).to_string()
+    }
+}
+
+impl Unit for u8 {
+    const GUARD: u8 = 0xC3;
+
+    /// Lines are text; what is not shows as its code.
+    fn told(bytes: &[u8]) -> String {
+        format!("\"{}\"", bytes.escape_ascii())
+    }
+}
+
+/// Words or bytes lent out of the middle of a larger buffer, so that one written
 /// outside them shows.
 #[derive(Clone, PartialEq, Eq)]
-struct Lent(Vec<u32>);
+struct Lent<U = u32>(Vec<U>);
 
-impl Lent {
-    fn of(words: &[u32]) -> Self {
-        Lent([&[GUARD; GUARDS], words, &[GUARD; GUARDS]].concat())
+impl<U: Unit> Lent<U> {
+    fn of(units: &[U]) -> Self {
+        Lent([&[U::GUARD; GUARDS], units, &[U::GUARD; GUARDS]].concat())
     }
 
-    fn filled(length: usize, fill: u32) -> Self {
+    fn filled(length: usize, fill: U) -> Self {
         Lent::of(&vec![fill; length])
     }
 
-    fn words(&mut self) -> &mut [u32] {
+    fn words(&mut self) -> &mut [U] {
         let end = self.0.len() - GUARDS;
         &mut self.0[GUARDS..end]
     }
@@ -75,15 +101,24 @@ fn visits_words(subject: &impl Subject, visits: u64) -> Vec<u32> {
 }
 
 /// Fails with both sides' words where they differ.
-fn same(what: impl FnOnce() -> String, proved: &[u32], second: &[u32]) -> Result<(), Difference> {
+fn same<U: Unit>(
+    what: impl FnOnce() -> String,
+    proved: &[U],
+    second: &[U],
+) -> Result<(), Difference> {
     if proved == second {
         return Ok(());
     }
-    Err(Difference { what: what(), proved: proved.to_vec(), second: second.to_vec() })
+    let (what, proved, second) = (what(), U::told(proved), U::told(second));
+    Err(Difference { what, proved, second, panel: None })
 }
 
 /// As `same`; where a guard differs, the guards are shown too.
-fn same_lent(what: &dyn Fn() -> String, proved: &Lent, second: &Lent) -> Result<(), Difference> {
+fn same_lent<U: Unit>(
+    what: &dyn Fn() -> String,
+    proved: &Lent<U>,
+    second: &Lent<U>,
+) -> Result<(), Difference> {
     if proved == second {
         return Ok(());
     }
@@ -123,6 +158,7 @@ pub fn compare(subject: &impl Subject, case: &Case) -> Result<Visited, Differenc
     }
     plays::compare_plays(subject, table.words(), case)?;
     same_lent(&|| "table after the plays".into(), &table, &untouched)?;
+    panels::compare_panels(subject, case)?;
     Ok(visited)
 }
 

@@ -1,5 +1,5 @@
-//! `compare fixed`: what the second program's fixed cases ask, and the cases
-//! that a hunt has found, through both sides.
+//! `compare fixed`: what the second program's fixed cases ask, with their panels
+//! and the panels' program, and the cases that a hunt has found, through both sides.
 
 use std::collections::BTreeSet;
 use std::fs::{self, File};
@@ -7,12 +7,15 @@ use std::io::BufReader;
 use std::path::{Path, PathBuf};
 
 use second::cases::Case;
+use second::program::words;
 use second::stream::{case_words, read_case, write_words};
-use second::testing::run_fixed;
+use second::testing::{AskedPanelRun, run_fixed};
 
 use crate::differ::compare;
-use crate::generated::told;
+use crate::differ::panels::{Shown, compare_panel};
+use crate::generated::{told, told_panel};
 use crate::nearest::Nearest;
+use crate::panel::by_library;
 use crate::subject::Proved;
 
 /// Where found cases are kept: in the source, for they are fixed cases.
@@ -26,17 +29,37 @@ pub fn fixed() -> Result<(), String> {
     let ran = run_fixed();
     let fixed = ran.len();
     let (mut seen, mut nearest) = (BTreeSet::new(), Nearest::default());
+    let (mut panels, mut runs) = (0, 0);
     for case in ran {
         case.outcome.map_err(|what| format!("fixed case {}: {what}", case.name))?;
         for asked in case.asked.iter().filter(|&asked| seen.insert(case_words(asked))) {
             let visited = compare(&Proved, asked).map_err(|_| told(case.name, asked))?;
             nearest.meet(visited, || case.name.into());
         }
+        for shown in case.panels.iter().map(Shown::recorded) {
+            compare_panel(&Proved, &shown).map_err(|_| told_panel(&Proved, case.name, &shown))?;
+        }
+        for run in &case.panel_runs {
+            compare_panel_run(run).map_err(|what| format!("fixed case {}: {what}", case.name))?;
+        }
+        panels += case.panels.len();
+        runs += case.panel_runs.len();
     }
     let found = replay(&folder())?;
     println!("{fixed} fixed cases asked {} things: no difference\n{nearest}", seen.len());
+    println!("{panels} panels and {runs} runs of the panel's program: no difference");
     println!("{found} found cases: no difference");
     Ok(())
+}
+
+/// What the panel's program printed over the second program's rules, over the library.
+fn compare_panel_run(run: &AskedPanelRun) -> Result<(), String> {
+    let (table, events) = (words(&run.table), words(&run.events));
+    let proved = by_library(run.operator, &table, &events, run.follow);
+    if proved == run.printed {
+        return Ok(());
+    }
+    Err(format!("differs: {run:?}\n  proved: {proved:?}"))
 }
 
 /// Every case file of the folder; gives how many cases there were.

@@ -4,11 +4,12 @@ use second::cases::{Case, Cases};
 use second::testing;
 use second::testing::coverage::Coverage;
 
+use crate::differ::panels::Shown;
 use crate::differ::{Words, bound, compare};
 use crate::nearest::Nearest;
 use crate::number;
-use crate::shrink::smallest_difference;
-use crate::subject::Proved;
+use crate::shrink::{smallest_difference, smallest_panel};
+use crate::subject::{Proved, Subject};
 
 /// Seeds, each with how many of its first cases are run.
 pub fn cases(pairs: &[&str]) -> Result<(), String> {
@@ -38,9 +39,18 @@ pub fn cases(pairs: &[&str]) -> Result<(), String> {
     }
 }
 
-/// A case that differs, made as small as it goes, with what each side says.
+/// A case that differs, made as small as it goes, with what each side says. Where a panel differs, that is told without its case.
 pub fn told(name: &str, case: &Case) -> String {
-    let (case, difference) = smallest_difference(&Proved, case);
+    told_of(&Proved, name, case)
+}
+
+pub fn told_of(subject: &impl Subject, name: &str, case: &Case) -> String {
+    if let Err(difference) = compare(subject, case)
+        && let Some(shown) = difference.panel
+    {
+        return told_panel(subject, name, &shown);
+    }
+    let (case, difference) = smallest_difference(subject, case);
     let Case { table, state, room, events, .. } = &case;
     format!(
         "{name}, made smaller:\ntable: {}\nstate: {}\nroom: {room}\nevents: {}\noutcomes: {}\nvisits: {}\n{difference}",
@@ -49,6 +59,19 @@ pub fn told(name: &str, case: &Case) -> String {
         Words(events),
         outcomes(&case),
         visits(&case)
+    )
+}
+
+/// A panel that differs, made as small as it goes, with what each side says.
+pub fn told_panel(subject: &impl Subject, name: &str, shown: &Shown) -> String {
+    let (Shown { operator, table, state, words, room }, difference) =
+        smallest_panel(subject, shown);
+    format!(
+        "{name}, a panel, made smaller:\noperator: {operator}\ntable: {}\nstate: {}\ntrace words: {}\nbytes of room: {}\n{difference}",
+        Words(&table),
+        Words(&state),
+        Words(&words),
+        room.len()
     )
 }
 

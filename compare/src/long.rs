@@ -4,6 +4,8 @@
 //! the state moves all the time, and a program that starts a block from another state than the last one left prints
 //! something else: that is seen of each file before the program is run on it.
 
+mod panels;
+
 use second::cases::draft::Draft;
 use second::cases::prng::Prng;
 use second::cases::sequences::sequence;
@@ -12,7 +14,8 @@ use second::program::{cost, played, printed};
 use second::words::Table;
 
 use crate::bench::{MARKED, example, marked_run};
-use crate::programs::{Program, bytes, expected};
+use crate::kind::Kind;
+use crate::programs::{Program, bytes};
 
 /// The events of one of the program's blocks, which has 65,536 bytes.
 const BLOCK: usize = 16_384;
@@ -29,8 +32,8 @@ struct Long {
     past: usize,
 }
 
-pub fn long(kind: &str, folder: &str, command: &[&str]) -> Result<(), String> {
-    let program = Program::new(folder, command, expected(kind)?)?;
+pub fn long(name: &str, folder: &str, command: &[&str]) -> Result<(), String> {
+    let program = Program::new(folder, command)?;
     let mut rng = Prng::new(SEED);
     let [truck, _] = example("truck").ok_or("examples/truck is missing")?;
     let plan = Plan::rich(&mut rng);
@@ -40,24 +43,42 @@ pub fn long(kind: &str, folder: &str, command: &[&str]) -> Result<(), String> {
         Long { name: "truck", draft: draft(&truck)?, events: 2 * BLOCK + 9_001, past: 3 },
         Long { name: "generated table", draft: generated, events: 2 * BLOCK + 1, past: 2 },
     ];
-    for Long { name, draft, events: count, past } in files {
-        let (table, mut events) = (draft.words(), sent(&mut rng, &draft, count));
-        let shown = match kind {
-            "play" => {
-                // A refused event would end the play.
-                events = taken(&table, &events);
-                play_shows(&table, &events)
-            }
-            "cost" => cost_shows(&table, &events),
-            _ => shows(&table, &events),
-        };
-        let compared = moves(&table, &events)
-            .and(shown)
-            .and_then(|()| program.compare(&bytes(&table, 0), &bytes(&events, past)));
-        compared.map_err(|what| format!("{name}: {what}"))?;
-        println!("{kind}, {name}: {} events: the same bytes", events.len());
+    for Long { name: of, draft, events: count, past } in files {
+        let (table, events) = (draft.words(), sent(&mut rng, &draft, count));
+        let compared = compare(name, &program, &table, events, past);
+        let count = compared.map_err(|what| format!("{of}: {what}"))?;
+        println!("{name}, {of}: {count} events: the same bytes");
     }
-    if kind == "cost" { costliest_in_the_middle(&program) } else { Ok(()) }
+    match name {
+        "cost" => costliest_in_the_middle(&program),
+        "panel" => panels::kept_over_blocks(&program),
+        _ => Ok(()),
+    }
+}
+
+/// One file; gives how many events were sent.
+fn compare(
+    name: &str,
+    program: &Program,
+    table: &[u32],
+    mut events: Vec<u32>,
+    past: usize,
+) -> Result<usize, String> {
+    let kinds = match name {
+        "run" => shows(table, &events).map(|()| vec![Kind::Run])?,
+        "play" => {
+            // A refused event would end the play.
+            events = taken(table, &events);
+            play_shows(table, &events).map(|()| vec![Kind::Play])?
+        }
+        "cost" => cost_shows(table, &events).map(|()| vec![Kind::Cost])?,
+        "panel" => panels::shown(table, &mut events)?,
+        _ => return Err(format!("neither run nor play nor cost nor panel: {name}")),
+    };
+    moves(table, &events)?;
+    let (table, bytes) = (bytes(table, 0), bytes(&events, past));
+    kinds.iter().try_for_each(|kind| program.compare(kind, &table, &bytes))?;
+    Ok(events.len())
 }
 
 fn draft(table: &[u32]) -> Result<Draft, String> {
@@ -132,7 +153,7 @@ fn costliest_in_the_middle(program: &Program) -> Result<(), String> {
     if !cost(&table, &events).ends_with(&named) {
         return Err("the second program names another event as the costliest".into());
     }
-    program.compare(&table, &events)?;
+    program.compare(&Kind::Cost, &table, &events)?;
     println!("cost, the costliest event in the middle: the same bytes");
     Ok(())
 }

@@ -5,8 +5,10 @@ mod differ;
 mod found;
 mod generated;
 mod hunt;
+mod kind;
 mod long;
 mod nearest;
+mod panel;
 mod programs;
 mod shrink;
 mod subject;
@@ -20,8 +22,9 @@ const USAGE: &str = "usage: compare cases SEED COUNT [SEED COUNT ...]
        compare run TABLE EVENTS [OUTCOMES]
        compare play TABLE EVENTS
        compare cost TABLE EVENTS
-       compare programs run|play|cost DIR COUNT SEED PROGRAM...
-       compare long run|play|cost DIR PROGRAM...
+       compare panel OPERATOR TABLE EVENTS [--follow]
+       compare programs run|play|cost|panel DIR COUNT SEED PROGRAM...
+       compare long run|play|cost|panel DIR PROGRAM...
        compare day DIR PROGRAM...
        compare bench
        compare bench-programs PROGRAM...
@@ -40,9 +43,13 @@ fn end_quietly_in_a_closed_pipe() {
 }
 
 fn main() -> ExitCode {
-    end_quietly_in_a_closed_pipe();
     let args: Vec<String> = std::env::args().skip(1).collect();
     let args: Vec<&str> = args.iter().map(String::as_str).collect();
+    // Its status is 0 in a closed pipe, which that of a program ended by a signal is not.
+    if let ["panel", ref words @ ..] = args[..] {
+        return panel::panel(words, USAGE);
+    }
+    end_quietly_in_a_closed_pipe();
     let done = match args[..] {
         ["cases", ref pairs @ ..] if !pairs.is_empty() => generated::cases(pairs),
         ["fixed"] => found::fixed(),

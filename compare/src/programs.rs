@@ -9,9 +9,11 @@ use std::time::Duration;
 
 use herringcart::End;
 use second::cases::{Case, Cases};
-use second::program::{self, played, printed, words};
+use second::program::words;
 
+use crate::bench::MARKED;
 use crate::differ::Words;
+use crate::kind::{Expected, Kind, kinds};
 use crate::number;
 use crate::shrink::smallest;
 
@@ -19,7 +21,7 @@ use crate::shrink::smallest;
 const LIMIT: Duration = Duration::from_secs(60);
 
 /// A file's whole words.
-fn read(path: &str) -> Result<Vec<u32>, String> {
+pub fn read(path: &str) -> Result<Vec<u32>, String> {
     fs::read(path).map(|bytes| words(&bytes)).map_err(|why| format!("cannot read {path}: {why}"))
 }
 
@@ -128,32 +130,18 @@ fn cost_by_library(table: &[u32], events: &[u32]) -> String {
     lines
 }
 
-/// What the second program prints for the bytes of a table and of its events.
-pub type Expected = fn(&[u8], &[u8]) -> String;
-
-/// What `run`, `play` and `cost` are compared with, by their names.
-pub fn expected(name: &str) -> Result<Expected, String> {
-    match name {
-        "run" => Ok(printed),
-        "play" => Ok(played),
-        "cost" => Ok(program::cost),
-        _ => Err(format!("neither run nor play nor cost: {name}")),
-    }
-}
-
-/// The program's command line, what it is to print, and the two files it is given.
+/// The program's command line, and the two files it is given.
 pub struct Program<'a> {
     command: &'a [&'a str],
-    expected: Expected,
     table: PathBuf,
     events: PathBuf,
 }
 
 impl<'a> Program<'a> {
-    pub fn new(folder: &str, command: &'a [&'a str], expected: Expected) -> Result<Self, String> {
+    pub fn new(folder: &str, command: &'a [&'a str]) -> Result<Self, String> {
         fs::create_dir_all(folder).map_err(|why| format!("cannot make {folder}: {why}"))?;
         let file = |name: &str| Path::new(folder).join(name);
-        Ok(Program { command, expected, table: file("table"), events: file("events") })
+        Ok(Program { command, table: file("table"), events: file("events") })
     }
 
     pub fn write(&self, table: &[u8], events: &[u8]) -> Result<(), String> {
@@ -162,35 +150,42 @@ impl<'a> Program<'a> {
             .map_err(|why| format!("cannot write {}: {why}", self.table.display()))
     }
 
-    /// Starts the program on its two files.
-    pub fn start(&self) -> Result<Output, String> {
+    fn ready(&self, kind: &Kind) -> Result<Command, String> {
         let (name, arguments) = self.command.split_first().ok_or("no program")?;
         let mut command = Command::new(name);
-        command.args(arguments).arg(&self.table).arg(&self.events);
-        command.output().map_err(|why| format!("cannot start {name}: {why}"))
+        command.args(arguments).arg(&self.table).arg(&self.events).args(kind.behind());
+        Ok(command)
+    }
+
+    /// Starts the program on its two files.
+    pub fn start(&self, kind: &Kind) -> Result<Output, String> {
+        let mut command = self.ready(kind)?;
+        command.output().map_err(|why| format!("cannot start {}: {why}", self.command[0]))
     }
 
     /// Starts the program on its two files, its output thrown away.
-    pub fn quietly(&self) -> Result<(), String> {
-        let (name, arguments) = self.command.split_first().ok_or("no program")?;
-        let mut command = Command::new(name);
-        command.args(arguments).arg(&self.table).arg(&self.events).stdout(Stdio::null());
-        let status = command.status().map_err(|why| format!("cannot start {name}: {why}"))?;
+    pub fn quietly(&self, kind: &Kind) -> Result<(), String> {
+        let (name, mut command) = (self.command[0], self.ready(kind)?);
+        let status = command.stdout(Stdio::null()).status();
+        let status = status.map_err(|why| format!("cannot start {name}: {why}"))?;
         if status.success() { Ok(()) } else { Err(format!("{name}: {status}")) }
     }
 
     /// Fails where its standard output is not the second program's.
-    pub fn compare(&self, table: &[u8], events: &[u8]) -> Result<(), String> {
+    pub fn compare(&self, kind: &Kind, table: &[u8], events: &[u8]) -> Result<(), String> {
         self.write(table, events)?;
-        let output = self.start()?;
-        let expected = (self.expected)(table, events);
-        if output.stdout == expected.as_bytes() && output.status.code().is_some() {
+        let output = self.start(kind)?;
+        let Expected { lines: expected, told } = kind.expected(table, events);
+        let ended = output.status.code().is_some();
+        let said = !output.stderr.is_empty();
+        if output.stdout == expected.as_bytes() && ended && told.is_none_or(|told| told == said) {
             return Ok(());
         }
         let given = String::from_utf8_lossy(&output.stdout);
         let line = given.lines().zip(expected.lines()).take_while(|(g, e)| g == e).count();
+        let told = told.map_or("", |told| if told { " and a message" } else { " and no message" });
         Err(format!(
-            "{}, output differs at line {}: {:?} where the second program has {:?}; {}",
+            "{kind:?}: {}, output differs at line {}: {:?} where the second program has {:?}{told}; standard error: {:?}",
             output.status,
             line + 1,
             given.lines().nth(line),
@@ -206,41 +201,59 @@ pub fn bytes(words: &[u32], past: usize) -> Vec<u8> {
     bytes.chain([0x5A, 0xA5, 0xFF].into_iter().take(past)).collect()
 }
 
+/// How many events there are up to the last that wrote trace words, all if none did. A panel that is not followed shows the words of
+/// the last event alone, and few cases end with one that wrote some.
+fn written(case: &Case) -> usize {
+    let mut state = vec![0; herringcart::state_words(&case.table)];
+    let mut trace = vec![0; second::check(&case.table).b];
+    second::fresh(&case.table, &mut state);
+    let mut wrote =
+        |&event: &u32| second::step(&case.table, &mut state, &mut trace, event, &[]).count > 0;
+    let wrote: Vec<bool> = case.events.iter().map(&mut wrote).collect();
+    wrote.iter().rposition(|&wrote| wrote).map_or(wrote.len(), |last| last + 1)
+}
+
 pub fn programs(
-    kind: &str,
+    name: &str,
     folder: &str,
     count: &str,
     seed: &str,
     command: &[&str],
 ) -> Result<(), String> {
     let (count, seed): (usize, u64) = (number(count)?, number(seed)?);
-    let program = Program::new(folder, command, expected(kind)?)?;
+    let program = Program::new(folder, command)?;
     for (place, made) in Cases::new(seed).take(count).enumerate() {
         let past = place % 4;
-        let compare = |case: &Case| {
-            program.compare(&bytes(&case.table, past), &bytes(&case.events, 3 - past))
-        };
         // The program makes its own state, and lends B and no outcomes.
-        let case = Case { state: vec![], room: 0, ..made.case.lending_none() };
-        if let Err(what) = compare(&case) {
-            let case = smallest(&case, |case| compare(case).is_err(), LIMIT);
-            let what = compare(&case).err().unwrap_or(what);
-            let (table, events) = (Words(&case.table), Words(&case.events));
-            return Err(format!(
-                "case {place} of seed {seed}, made smaller:\ntable: {table}\nevents: {events}\n{what}"
-            ));
+        let mut case = Case { state: vec![], room: 0, ..made.case.lending_none() };
+        if name == "panel" && place % 4 >= 2 {
+            case.events.truncate(written(&case));
+        }
+        for kind in kinds(name, place, &case.table)? {
+            let compare = |case: &Case| {
+                program.compare(&kind, &bytes(&case.table, past), &bytes(&case.events, 3 - past))
+            };
+            if let Err(what) = compare(&case) {
+                let case = smallest(&case, |case| compare(case).is_err(), LIMIT);
+                let what = compare(&case).err().unwrap_or(what);
+                let (table, events) = (Words(&case.table), Words(&case.events));
+                return Err(format!(
+                    "case {place} of seed {seed}, made smaller:\ntable: {table}\nevents: {events}\n{what}"
+                ));
+            }
         }
     }
-    missing_files(&program)?;
-    println!("{kind}, {count} cases of seed {seed}: the same bytes; an unreadable file is told");
+    kinds(name, 1, &MARKED)?.iter().try_for_each(|kind| missing_files(&program, kind))?;
+    println!("{name}, {count} cases of seed {seed}: the same bytes; an unreadable file is told");
     Ok(())
 }
 
 /// A file that cannot be read is a message on standard error and no output.
-fn missing_files(program: &Program) -> Result<(), String> {
+fn missing_files(program: &Program, kind: &Kind) -> Result<(), String> {
+    program.write(&bytes(&MARKED, 0), &[])?;
     for missing in [&program.events, &program.table] {
         fs::remove_file(missing).map_err(|why| why.to_string())?;
-        let output = program.start()?;
+        let output = program.start(kind)?;
         if !output.stdout.is_empty() || output.stderr.is_empty() {
             return Err(format!("without {}: {output:?}", missing.display()));
         }

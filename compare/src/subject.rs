@@ -1,7 +1,7 @@
 //! What is compared with the second program: the proved code. It stands behind
 //! a trait so that the tests can put a wrong one in its place.
 
-use herringcart::{Answer, Check, Played};
+use herringcart::{Answer, Check, Panel, Played};
 
 pub trait Subject {
     /// Whether its visits are compared: a side that was made before Q-10 reports none.
@@ -38,6 +38,17 @@ pub trait Subject {
 
     fn play(&self, table: &[u32], state: &mut [u32], trace: &mut [u32], events: &[u32]) -> Played {
         herringcart::play(table, state, trace, events)
+    }
+
+    fn panel(
+        &self,
+        operator: u32,
+        table: &[u32],
+        state: &[u32],
+        words: &[u32],
+        lines: &mut [u8],
+    ) -> Panel {
+        herringcart::panel(operator, table, state, words, lines)
     }
 }
 

@@ -3,9 +3,9 @@
 use std::time::{Duration, Instant};
 
 use herringcart::End;
-use second::program::played;
 
 use super::{example, target};
+use crate::kind::Kind;
 use crate::programs::{Program, bytes};
 
 const TICKS: usize = 8_640_000;
@@ -42,10 +42,10 @@ fn recorded(times: usize) -> Result<[Vec<u32>; 2], String> {
 
 /// `compare day`: the whole day by the program, byte for byte what the second program prints.
 pub fn day(folder: &str, command: &[&str]) -> Result<(), String> {
-    let program = Program::new(folder, command, played)?;
+    let program = Program::new(folder, command)?;
     for (name, times) in DAYS {
         let [table, events] = recorded(times)?;
-        program.compare(&bytes(&table, 0), &bytes(&events, 0))?;
+        program.compare(&Kind::Play, &bytes(&table, 0), &bytes(&events, 0))?;
         println!("a day of {TICKS} ticks, {name}: the same bytes");
     }
     Ok(())
@@ -99,19 +99,19 @@ fn with_printing(table: &[u32], events: &[u32], command: &[&str]) -> Result<(), 
     let folder = target().join("compare/bench").to_string_lossy().into_owned();
     let judge = target().join("second/release/second").to_string_lossy().into_owned();
     let second = [judge.as_str(), "play"];
-    let second = Program::new(&folder, &second, played)?;
-    let proved = Program::new(&folder, command, played)?;
+    let second = Program::new(&folder, &second)?;
+    let proved = Program::new(&folder, command)?;
     proved.write(&bytes(table, 0), &bytes(events, 0))?;
     for (name, program) in [("proved", &proved), ("second", &second)] {
         let mut best = Duration::MAX;
         for _ in 0..REPEATS {
             let start = Instant::now();
-            program.quietly()?;
+            program.quietly(&Kind::Play)?;
             best = best.min(start.elapsed());
         }
         println!("  {name} program, with its output: {best:.2?}");
     }
-    if proved.start()?.stdout == second.start()?.stdout {
+    if proved.start(&Kind::Play)?.stdout == second.start(&Kind::Play)?.stdout {
         return Ok(());
     }
     Err("the two programs print other bytes".into())

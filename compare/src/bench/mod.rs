@@ -7,6 +7,7 @@ mod clock;
 mod day;
 mod editions;
 mod hostile;
+mod panels;
 mod programs;
 mod sized;
 #[cfg(test)]
@@ -93,6 +94,7 @@ pub fn bench() -> Result<(), String> {
         row(&name, &draft.words(), &[wide::request(&draft)], &[])?;
     }
     visits::prices()?;
+    panels::panels()?;
     hostile_tables()
 }
 

@@ -4,9 +4,8 @@ use std::collections::hash_map::DefaultHasher;
 use std::hash::{Hash, Hasher};
 use std::time::{Duration, Instant};
 
-use second::program::printed;
-
 use super::{MARKED, example, marked_run, target};
+use crate::kind::Kind;
 use crate::programs::{Program, bytes};
 
 const EVENTS: usize = 400_000;
@@ -30,9 +29,8 @@ fn both(name: &str, table: &[u32], run: &[u32], command: &[&str]) -> Result<(), 
     let judge = target().join("second/release/second").to_string_lossy().into_owned();
     let folder = target().join("compare/bench").to_string_lossy().into_owned();
     let (table, events) = (bytes(table, 0), bytes(&events, 0));
-    let (proved, by_proved) = timed(&Program::new(&folder, command, printed)?, &table, &events)?;
-    let (second, by_second) =
-        timed(&Program::new(&folder, &[&judge, "run"], printed)?, &table, &events)?;
+    let (proved, by_proved) = timed(&Program::new(&folder, command)?, &table, &events)?;
+    let (second, by_second) = timed(&Program::new(&folder, &[&judge, "run"])?, &table, &events)?;
     let ratio = proved.as_secs_f64() / second.as_secs_f64();
     println!("{name}: proved {proved:.2?}, second {second:.2?}, ratio {ratio:.2}");
     println!("  output {} bytes, hash {:016X}", by_proved.0, by_proved.1);
@@ -52,7 +50,7 @@ fn timed(
     let (mut best, mut told) = (Duration::MAX, (0, 0));
     for _ in 0..REPEATS {
         let start = Instant::now();
-        let output = program.start()?;
+        let output = program.start(&Kind::Run)?;
         best = best.min(start.elapsed());
         let mut hasher = DefaultHasher::new();
         output.stdout.hash(&mut hasher);

@@ -286,3 +286,18 @@ fn lists_that_nothing_starts_are_in_the_rows_that_say_so_alone() {
         assert!(reason != 10 || place == items - 1, "{name}: place {place}");
     }
 }
+
+#[test]
+fn the_large_panel_is_of_every_thing_and_word() {
+    let table = panels::owned(sized::sized(68)).words();
+    assert_eq!(second::check(&table).reason, 0);
+    let request = sized::events()[0] | 1 << 24;
+    let shown = panels::behind(1, &table, request);
+    let read = Table::of(&table).expect("a header");
+    let things = [Section::Ports, Section::Networks, Section::Sources].map(|s| read.count(s));
+    let mut lines = shown.room.clone();
+    let laid = second::panel(1, &table, &shown.state, &shown.words, &mut lines);
+    let count = lines[..laid.bytes].iter().filter(|&&byte| byte == b'\n').count();
+    assert!(shown.words.len() > 68 && count == things.iter().sum::<usize>() + shown.words.len());
+    assert_eq!(panels::behind(2, &table, request).needs(), 0);
+}

@@ -5,12 +5,14 @@ mod things;
 #[cfg(test)]
 mod tests;
 
+use std::iter::repeat;
 use std::time::{Duration, Instant};
 
 use second::cases::Case;
-use second::stream::TRACE_FILL;
+use second::stream::{PANEL_FILL, TRACE_FILL};
 use second::words::{SECTIONS, Section};
 
+use crate::differ::panels::{Shown, compare_panel};
 use crate::differ::{Difference, compare};
 use crate::subject::Subject;
 
@@ -21,12 +23,41 @@ const LIMIT: Duration = Duration::from_secs(20);
 pub fn smallest_difference(subject: &impl Subject, case: &Case) -> (Case, Difference) {
     let differs = |case: &Case| compare(subject, case).is_err();
     let case = smallest(case, differs, LIMIT);
-    let difference = compare(subject, &case).err().unwrap_or_else(|| Difference {
-        what: "nothing any more: a side does not answer alike when asked again".into(),
-        proved: vec![],
-        second: vec![],
-    });
+    let difference = compare(subject, &case).err().unwrap_or_else(not_again);
     (case, difference)
+}
+
+fn not_again() -> Difference {
+    let what = "nothing any more: a side does not answer alike when asked again".into();
+    Difference { what, proved: String::new(), second: String::new(), panel: None }
+}
+
+/// The smallest panel found that the two sides differ on, and how they differ. The ways are those of a case, whose events the trace
+/// words stand in for: which panels a case is asked for hangs on all its words, so that a smaller case may not be asked for the one
+/// that differs. First the room stays by as much above or below what the lines need as it is, then it is made smaller too. An
+/// operator's number stays.
+pub fn smallest_panel(subject: &impl Subject, shown: &Shown) -> (Shown, Difference) {
+    let panel = |case: &Case, room: usize| Shown {
+        operator: shown.operator,
+        table: case.table.clone(),
+        state: case.state.clone(),
+        words: case.events.clone(),
+        room: shown.room.iter().copied().chain(repeat(PANEL_FILL)).take(room).collect(),
+    };
+    let above = shown.room.len() as isize - shown.needs() as isize;
+    let tied = |case: &Case| {
+        let needs = panel(case, 0).needs() as isize;
+        panel(case, (needs + above).max(0) as usize)
+    };
+    let differs = |shown: Shown| compare_panel(subject, &shown).is_err();
+    let Shown { table, state, words: events, room, .. } = shown.clone();
+    let case = Case { table, state, room: room.len(), events, outcomes: vec![] };
+    let small = smallest(&case, |case| differs(tied(case)), LIMIT / 2);
+    let case = Case { room: tied(&small).room.len(), ..small };
+    let small = smallest(&case, |case| differs(panel(case, case.room)), LIMIT / 2);
+    let small = panel(&small, small.room);
+    let difference = compare_panel(subject, &small).err().unwrap_or_else(not_again);
+    (small, difference)
 }
 
 /// Makes a case smaller while `differs` holds of it, until no way is left or

@@ -1,5 +1,7 @@
 //! A side made wrong on purpose is found and its case made small.
 
+mod panels;
+
 use herringcart::{Answer, End, Played};
 use second::cases::draft::Draft;
 use second::cases::{Case, Cases};

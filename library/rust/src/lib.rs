@@ -1,10 +1,11 @@
 //! The proved mode manager for Rust. Tables, states, traces and outcomes are
 //! slices of 32-bit words; `docs/TABLES.md` has the layout of each and what to do
-//! about each reason and answer. Answers are the documents' numbers.
+//! about each reason and answer. A panel's lines are laid into a slice of bytes.
+//! Answers are the documents' numbers.
 //!
 //! Every call takes any words: it checks them for itself, and a refusal leaves
-//! every lent word as it was. Nothing is kept between calls, no heap is used,
-//! and calls on different states may run at the same time.
+//! every lent word and byte as it was. Nothing is kept between calls, no heap is
+//! used, and calls on different states may run at the same time.
 //!
 //! ```
 //! // An archive of another version may take other arguments.
@@ -24,6 +25,12 @@
 //! assert_eq!(trace[..answer.count], [0xF100_0000, 0x4100_0002, 0x0100_1234]);
 //! // Its rule has one condition.
 //! assert_eq!(answer.visits, 1);
+//! // What operator 1 sees of it.
+//! let newest = &trace[..answer.count];
+//! let mut lines = vec![0; herringcart::panel_bytes(newest.len())];
+//! let panel = herringcart::panel(1, &table, &state, newest, &mut lines);
+//! assert_eq!(panel.number, 0);
+//! assert!(lines[..panel.bytes].starts_with(b"port 0 81400000\nport 1 00000000\n"));
 //! ```
 #![no_std]
 
@@ -114,9 +121,34 @@ pub struct Played {
     pub visits: u64,
 }
 
+/// Bytes that are always enough for a panel, by how many trace words are handed
+/// in: 104 things of at most 21 bytes, and 15 for each trace word.
+pub const fn panel_bytes(words: usize) -> usize {
+    2184 + 15 * words
+}
+
+/// What a panel is answered with.
+#[derive(Clone, Copy, PartialEq, Eq, Debug)]
+pub struct Panel {
+    /// 0 the lines are laid; or the first of these that holds, in this order: 9
+    /// the number is 0 or above 15; 1 the table has a reason; 2 the state does not
+    /// fit; 11 the lines need more bytes than are lent.
+    pub number: u32,
+    /// How many bytes were laid at the front of the lent ones. 0 if refused, and
+    /// also where the operator has nothing to see, which is no refusal.
+    pub bytes: usize,
+}
+
+impl Panel {
+    /// Whether the lines were laid.
+    pub fn done(self) -> bool {
+        self.number == 0
+    }
+}
+
 mod c {
     // As library/herringcart.h declares them. A slice is lent as its pointer
-    // and its length in words.
+    // and its length, in words or, of lines, in bytes.
     unsafe extern "C" {
         pub safe fn herringcart_version() -> u32;
         pub fn herringcart_check_table(
@@ -163,6 +195,18 @@ mod c {
             taken: *mut usize,
             count: *mut usize,
             visits: *mut u64,
+        ) -> u32;
+        pub fn herringcart_panel(
+            operator_number: u32,
+            table: *const u32,
+            table_words: usize,
+            state: *const u32,
+            state_words: usize,
+            words: *const u32,
+            words_count: usize,
+            lines: *mut u8,
+            lines_bytes: usize,
+            bytes: *mut usize,
         ) -> u32;
     }
 }
@@ -292,4 +336,40 @@ pub fn play(table: &[u32], state: &mut [u32], trace: &mut [u32], events: &[u32])
         _ => unreachable!("the call gives no other number, which is proved"),
     };
     Played { end, taken, count, visits }
+}
+
+/// Shows an operator its panel: lays its lines at the front of the lent bytes,
+/// those behind them unchanged; refused, no byte has changed. `words` are the
+/// newest step's trace words, `&trace[..count]` as the event left them: none
+/// before any event, and none behind a refused one. `panel_bytes` of their number
+/// is always room enough.
+///
+/// A line is as `port 0 81400000`, `network 0 80000000`, `source 2 40000008` or
+/// `trace F1000000`, with a newline: the operator's ports, networks and sources,
+/// each by number, then those of the words that have it in their owner field.
+/// Nothing of a stranger is shown, nothing of the platform, and no rule's word.
+pub fn panel(
+    operator: u32,
+    table: &[u32],
+    state: &[u32],
+    words: &[u32],
+    lines: &mut [u8],
+) -> Panel {
+    let mut bytes = usize::MAX;
+    // SAFETY: see above; bytes is a local of its own.
+    let number = unsafe {
+        c::herringcart_panel(
+            operator,
+            table.as_ptr(),
+            table.len(),
+            state.as_ptr(),
+            state.len(),
+            words.as_ptr(),
+            words.len(),
+            lines.as_mut_ptr(),
+            lines.len(),
+            &mut bytes,
+        )
+    };
+    Panel { number, bytes }
 }
