@@ -11,6 +11,7 @@ use Rattle.laws.proofs.Acceptance.{reason-given, no-place}
 use Rattle.laws.proofs.Steps.{fault-is, answer-small, refusal-changes-nothing}
 use Rattle.tables.specs.Finding.{promised}
 use Rattle.manager.specs.Promises.{ChecksTableIn, MakesFreshIn, ChecksStateIn, TakesEventIn}
+use Rattle.demands.proofs.Panel.{panel-answered}
 use Rattle.demands.proofs.Plays.{play-answered}
 use Rattle.demands.specs.Demand1.{TableAnswered, FreshAnswered, StateAnswered, EventAnswered, Demand1}
 
@@ -64,4 +65,4 @@ event-answered t s trace os e k n v s′ trace′ p =
     same r = refusal-changes-nothing t s (length trace) os e (λ z. r (p .answer ∙ z))
 
 pub demand-1 : Demand1
-demand-1 = record { checkTable = table-answered; makeFresh = fresh-answered; checkState = state-answered; takeEvent = event-answered; play = play-answered }
+demand-1 = record { checkTable = table-answered; makeFresh = fresh-answered; checkState = state-answered; takeEvent = event-answered; panel = panel-answered; play = play-answered }

@@ -20,9 +20,11 @@ use Rattle.laws.specs.Reached.{Unreached, ListsStarted}
 use Rattle.stranger.specs.Logs.{Entry, Log, stateAfter, logFrom, joined}
 use Rattle.stranger.specs.Heard.{HeardCounts}
 use Rattle.manager.specs.Promises.{TakesEventIn}
+use Rattle.panel.specs.Printed.{panel}
+use Rattle.panel.specs.Same.{PrintsAlike}
 use Rattle.demands.specs.Calls.{Played}
 use Rattle.demands.specs.Plays.{PlayAnswered, PlayGoes}
-use Rattle.demands.specs.Demand1.{TableAnswered, FreshAnswered, StateAnswered, EventAnswered}
+use Rattle.demands.specs.Demand1.{TableAnswered, FreshAnswered, StateAnswered, EventAnswered, PanelAnswered}
 use Rattle.demands.specs.Demand2.{Steps}
 use Rattle.demands.specs.Demand3.{Demand3After}
 
@@ -71,6 +73,18 @@ pub record OfEvent (t s trace os : List ℕ) (e k n v : ℕ) (s′ trace′ : Li
   -- the log goes on: calls that led from s₀ to s, and this one
   pub taken : k ≡ 0 → (s₀ : List ℕ) (xs : List Entry) → Played t s₀ xs → stateAfter s₀ xs ≡ s
       → Played t s₀ (xs ++ record { event = e; outcomes = os; state = s′; words = take n trace′ } ∷ [])
+
+-- Q-13, of a panel for number o, with n bytes laid into `out`
+pub record OfPanel (o : ℕ) (t s ws out : List ℕ) (k n : ℕ) (out′ : List ℕ) : Type 0 where
+  -- "Number 0 or above 15 (answer 9), then a table or state that meets answer 1 or 2, is refused; nothing is printed"; then too little room
+  pub answered : PanelAnswered o t s ws out k n out′
+  -- exactly the operator's lines
+  pub lines : k ≡ 0 → take n out′ ≡ panel o t s ws
+  -- so much room is always enough
+  pub enough : 104 * 21 + 15 * length ws ≤ length out → k ≡ 11 → ⊥
+  -- "Accepted tables of equal counts that give the operator the same numbered things, with fitting states and traces agreeing in that
+  -- operator's words, print the same bytes."
+  pub alike : PrintsAlike o t s ws out k n out′
 
 -- Q-1, of a play of es: k what ended it, n events taken, m trace words written
 pub record OfPlay (t s trace es : List ℕ) (k n m v : ℕ) (s′ trace′ : List ℕ) : Type 0 where

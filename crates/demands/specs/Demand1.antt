@@ -4,13 +4,15 @@ use mathlib.Core.Path.{_≡_}
 use mathlib.Core.Logic.{_⊎_}
 use mathlib.Core.Bool.{true, false}
 use mathlib.Core.List.{List}
-use Prim.Native.Nat.{ℕ, _≤_}
+use Prim.Native.Nat.{ℕ, _≤_, _<_}
 use lib.ListN.{length}
 use Rattle.rulebook.specs.Reasons.{accepted, bound}
 use Rattle.rulebook.specs.State.{stateLength, fits, fresh}
 use Rattle.rulebook.specs.Step.{firstFault}
 use Rattle.laws.specs.Acceptance.{Given}
 use Rattle.manager.specs.Promises.{ChecksTableIn, MakesFreshIn, ChecksStateIn, TakesEventIn, PlaysIn}
+use Rattle.panel.specs.Printed.{panel}
+use Rattle.panel.specs.Promises.{ShowsIn}
 use Rattle.demands.specs.Plays.{PlayAnswered}
 
 -- the table check: the first reason that holds, at the lowest word that breaks its rule; B of an accepted table
@@ -45,11 +47,23 @@ pub record EventAnswered (t s trace os : List ℕ) (e k n v : ℕ) (s′ trace�
   -- Q-10: "Refusals report 0"
   pub noVisits : (k ≡ 0 → ⊥) → v ≡ 0
 
+-- the panel: 9 before 1 before 2, then 11
+pub record PanelAnswered (o : ℕ) (t s ws out : List ℕ) (k n : ℕ) (out′ : List ℕ) : Type 0 where
+  pub noOperator : (o ≡ 0) ⊎ (15 < o) → k ≡ 9
+  pub badTable : 1 ≤ o → o ≤ 15 → accepted t ≡ false → k ≡ 1
+  pub unfit : 1 ≤ o → o ≤ 15 → accepted t ≡ true → fits t s ≡ false → k ≡ 2
+  pub noRoom : 1 ≤ o → o ≤ 15 → accepted t ≡ true → fits t s ≡ true → length out < length (panel o t s ws) → k ≡ 11
+  pub done : 1 ≤ o → o ≤ 15 → accepted t ≡ true → fits t s ≡ true → length (panel o t s ws) ≤ length out → k ≡ 0
+  pub bytesKept : (k ≡ 0 → ⊥) → out′ ≡ out
+  pub noBytes : (k ≡ 0 → ⊥) → n ≡ 0
+
 pub record Demand1 : Type 0 where
   pub checkTable : (t : List ℕ) (reason place b : ℕ) → ChecksTableIn t reason place b → TableAnswered t reason place b
   pub makeFresh : (t s : List ℕ) (k : ℕ) (s′ : List ℕ) → MakesFreshIn t s k s′ → FreshAnswered t s k s′
   pub checkState : (t s : List ℕ) (k : ℕ) → ChecksStateIn t s k → StateAnswered t s k
   pub takeEvent : (t s trace os : List ℕ) (e k n v : ℕ) (s′ trace′ : List ℕ) → TakesEventIn t s trace os e k n v s′ trace′
       → EventAnswered t s trace os e k n v s′ trace′
+  -- Q-13: of a panel
+  pub panel : (o : ℕ) (t s ws out : List ℕ) (k n : ℕ) (out′ : List ℕ) → ShowsIn o t s ws out k n out′ → PanelAnswered o t s ws out k n out′
   -- Q-1: of a play the first refusal, and what it changes nothing of
   pub play : (t s trace es : List ℕ) (k n m v : ℕ) (s′ trace′ : List ℕ) → PlaysIn t s trace es k n m v s′ trace′ → PlayAnswered t s trace es k n m v s′ trace′

@@ -1,12 +1,14 @@
-// The entries of `manager`.
+// The entries of `manager`, and the panel above it.
 ghost use Rattle.tables.specs.Finding.{finding};
 ghost use Rattle.states.specs.Made.{numberOf as madeNumber};
 ghost use Rattle.events.specs.Answers.{numberOf, countOf, visitsOf};
 ghost use Rattle.manager.specs.Answers.{stateNumber, endNumber};
-ghost use Rattle.demands.specs.Conclusions.{OfTable, OfFresh, OfState, OfEvent, OfPlay};
+ghost use Rattle.demands.specs.Conclusions.{OfTable, OfFresh, OfState, OfEvent, OfPlay, OfPanel};
+ghost use Rattle.panel.specs.Promises.{numberOf as panelNumber, bytesOf};
 use events::Answer;
 use manager::Fit;
 use manager::Played;
+use panel::Shown;
 use states::Made;
 use tables::Checked;
 
@@ -40,4 +42,10 @@ pub fn play(t: &[u32], s: &mut [u32], trace: &mut [u32], es: &[u32]) -> Played
         (r .visits) (now (s .exit)) (now (trace .exit)) ⌝ }
 {
     manager::play(t, s, trace, es)
+}
+
+pub fn show(o: u32, t: &[u32], s: &[u32], ws: &[u32], out: &mut [u8]) -> Shown
+    ensures { λ r. ⌜ OfPanel o (now (t .entry)) (now (s .entry)) (now (ws .entry)) (now (out .entry)) (panelNumber r) (bytesOf r) (now (out .exit)) ⌝ }
+{
+    panel::show(o, t, s, ws, out)
 }

@@ -1,5 +1,5 @@
 // The same entries as a gateway links them, in numbers.
-ghost use Rattle.demands.specs.Conclusions.{OfTable, OfFresh, OfState, OfEvent, OfPlay};
+ghost use Rattle.demands.specs.Conclusions.{OfTable, OfFresh, OfState, OfEvent, OfPlay, OfPanel};
 
 pub fn check_table(t: &[u32], place: &mut usize, bound: &mut u32) -> u32
     ensures { λ r. ⌜ OfTable (now (t .entry)) r (now (place .exit)) (now (bound .exit)) ⌝ }
@@ -47,4 +47,10 @@ pub fn play(
         (now (visits .exit)) (now (s .exit)) (now (trace .exit)) ⌝ }
 {
     gateway::herringcart_play(t, s, trace, es, taken, count, visits)
+}
+
+pub fn show(o: u32, t: &[u32], s: &[u32], ws: &[u32], out: &mut [u8], bytes: &mut usize) -> u32
+    ensures { λ r. ⌜ OfPanel o (now (t .entry)) (now (s .entry)) (now (ws .entry)) (now (out .entry)) r (now (bytes .exit)) (now (out .exit)) ⌝ }
+{
+    gateway::herringcart_panel(o, t, s, ws, out, bytes)
 }
