@@ -4,3 +4,5 @@ pub mod Along
 pub mod Answers
 pub mod Same
 pub mod Short
+pub mod Marked
+pub mod Alike

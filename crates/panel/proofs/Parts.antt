@@ -1,11 +1,12 @@
 -- A part's numbers, words and lines, part by part, and how long they are. Assumes nothing.
 use Prim.Native.Nat.{ℕ, zero, suc, _+_, _-_, _<_, _≤_}
 use mathlib.Core.Path.{_≡_, refl, sym, ap, _∙_}
+use mathlib.Core.Bool.{Bool, true, false}
 use mathlib.Core.List.{List, [], _∷_, _++_, append-nil}
 use native.Mathlib.Omega.{arith}
 use lib.ListN.{length, length-append}
 use lib.Dec.{eqb}
-use borrow.Author.Tests.{ne-eqb, eq-eqb}
+use borrow.Author.Tests.{ne-eqb}
 use Rattle.text.specs.Lines.{decimal, places}
 use Rattle.text.proofs.Digits.{length-digits, length-hex}
 use Rattle.text.proofs.Decimal.{decimal-within}
@@ -53,20 +54,21 @@ length-line part i w = rw (length-append (label part ++ numeral part i), length-
 -- the line of a word that is the operator's, and of one that is not
 
 module _ (part o : ℕ) (t s ws : List ℕ) (i : ℕ) where
-  pub own-line : owner part t ws i ≡ o → lineAt part o t s ws i ≡ line part i (shownWord part t s ws i)
+  pub own-line : eqb (owner part t ws i) o ≡ true → lineAt part o t s ws i ≡ line part i (shownWord part t s ws i)
   unfolding lineAt
-  own-line e = rw (eq-eqb (owner part t ws i) o e)
+  own-line e = rw e
 
-  pub no-line : (owner part t ws i ≡ o → ⊥) → lineAt part o t s ws i ≡ []
+  pub no-line : eqb (owner part t ws i) o ≡ false → lineAt part o t s ws i ≡ []
   unfolding lineAt
-  no-line n = rw (ne-eqb (owner part t ws i) o n)
+  no-line e = rw e
 
-  -- and how long it is, where r is whose the word is and n is as long as its name
-  pub own-length : {r n : ℕ} → r ≡ owner part t ws i → r ≡ o → n ≡ length (label part ++ numeral part i) → n + 9 ≡ length (lineAt part o t s ws i)
+  -- and how long it is, where r is whether the word is the operator's and n is as long as its name
+  pub own-length : {r : Bool} {n : ℕ} → r ≡ eqb (owner part t ws i) o → r ≡ true → n ≡ length (label part ++ numeral part i)
+      → n + 9 ≡ length (lineAt part o t s ws i)
   own-length whose mine long = rw (own-line (sym whose ∙ mine), length-line part i (shownWord part t s ws i)) (ap (λ (k : ℕ). k + 9) long)
 
-  pub no-length : {r : ℕ} → r ≡ owner part t ws i → (r ≡ o → ⊥) → 0 ≡ length (lineAt part o t s ws i)
-  no-length whose other = rw (no-line (λ e. other (whose ∙ e)))
+  pub no-length : {r : Bool} → r ≡ eqb (owner part t ws i) o → r ≡ false → 0 ≡ length (lineAt part o t s ws i)
+  no-length whose other = rw (no-line (sym whose ∙ other))
 
 -- lines, the first taken off, and those of none
 

@@ -3,3 +3,4 @@ pub mod Printed
 pub mod Promises
 pub mod Same
 pub mod Inside
+pub mod Marked

@@ -3,6 +3,7 @@
 ghost use mathlib.Core.Path.{_≡_};
 ghost use mathlib.Core.List.{[], _∷_, _++_};
 ghost use Prim.Native.Nat.{_+_, _<_, _≤_};
+ghost use lib.Dec.{eqb};
 ghost use lib.ListN.{length};
 ghost use Rattle.rulebook.specs.Words.{word as wordOf};
 ghost use Rattle.text.specs.Lines.{decimal};
@@ -89,6 +90,14 @@ fn owner(part: u32, t: &[u32], c: Counts, ws: &[u32], i: usize) -> u32
     word(ws, i) / 16777216 % 16
 }
 
+// Whether a part's i-th word is the operator's.
+fn own(part: u32, o: u32, t: &[u32], c: Counts, ws: &[u32], i: usize) -> bool
+    requires { ⌜ There part (now t) (now ws) c i ⌝ }
+    ensures { λ r. ⌜ r ≡ eqb (ownerOf part (now (t .entry)) (now (ws .entry)) i) o ⌝ }
+{
+    owner(part, t, c, ws, i) == o
+}
+
 // A part's i-th word: a port's, a network's or a source's in the state, or a trace word.
 fn shown_word(part: u32, t: &[u32], c: Counts, s: &[u32], ws: &[u32], i: usize) -> u32
     requires { ⌜ There part (now t) (now ws) c i ⌝ }
@@ -136,7 +145,7 @@ fn length_at(part: u32, o: u32, t: &[u32], c: Counts, s: &[u32], ws: &[u32], i: 
     requires { ⌜ There part (now t) (now ws) c i ⌝ }
     ensures { λ r. ⌜ r ≡ length (lineAt part o (now (t .entry)) (now (s .entry)) (now (ws .entry)) i) ⌝ }
 {
-    if owner(part, t, c, ws, i) == o {
+    if own(part, o, t, c, ws, i) {
         name_length(part, t, c, ws, i) + 9
     } else {
         0
@@ -235,7 +244,7 @@ fn lay_at(
     requires { ⌜ There part (now t) (now ws) c i × (at + length (lineAt part o (now t) (now s) (now ws) i) ≤ length (now out)) ⌝ }
     ensures { λ r. ⌜ PutAt (lineAt part o (now (t .entry)) (now (s .entry)) (now (ws .entry)) i) (now (out .entry)) at r (now (out .exit)) ⌝ }
 {
-    if owner(part, t, c, ws, i) == o {
+    if own(part, o, t, c, ws, i) {
         let w = shown_word(part, t, c, s, ws, i);
         lay_line(out, at, part, i, w)
     } else {

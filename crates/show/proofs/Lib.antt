@@ -2,3 +2,4 @@
 pub mod Same
 pub mod Laid
 pub mod Kept
+pub mod Whole

@@ -2,3 +2,4 @@
 pub mod Printed
 pub mod Promises
 pub mod Kept
+pub mod Calls

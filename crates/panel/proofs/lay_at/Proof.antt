@@ -10,7 +10,7 @@ use Rattle.panel.proofs.lay_at.Statement.{statement}
 use Rattle.panel.proofs.lay_at.Tie as tie
 
 -- The places that the answers cite, each seen from a later one.
-abbrev start : tie.After-owner → tie.Start
+abbrev start : tie.After-own → tie.Start
 start c = c .before .before .before .before .before
 
 abbrev then1 : tie.After-lay-line → tie.Then1
@@ -21,7 +21,7 @@ lay-line-requires c κs =
     let mine = c .before .before in
     let a = start (mine .before) .args in
     let asked = start (mine .before) .pre in
-    let own = own-line (a .part) (a .o) (a .t .now) (a .s .now) (a .ws .now) (a .i) (sym (mine .before .owner .ensures) ∙ mine .if1 .taken) in
+    let own = own-line (a .part) (a .o) (a .t .now) (a .s .now) (a .ws .now) (a .i) (sym (mine .before .own .ensures) ∙ mine .if1 .taken) in
     let one = length-line (a .part) (a .i) (c .before .shown-word .result) in
     let other = length-line (a .part) (a .i) (shownWord (a .part) (a .t .now) (a .s .now) (a .ws .now) (a .i)) in
     omega (arith, ap length own)
@@ -31,13 +31,13 @@ returns c =
     let laid = c .before .before in
     let mine = then1 laid in
     let a = start (mine .before) .args in
-    rw (own-line (a .part) (a .o) (a .t .now) (a .s .now) (a .ws .now) (a .i) (sym (mine .before .owner .ensures) ∙ mine .if1 .taken))
+    rw (own-line (a .part) (a .o) (a .t .now) (a .s .now) (a .ws .now) (a .i) (sym (mine .before .own .ensures) ∙ mine .if1 .taken))
     (rw (laid .before .before .shown-word .ensures) at (laid .lay-line .ensures))
 
 returns-2 : tie.Need-returns-2
 returns-2 c =
     let a = start (c .before) .args in
-    rw (no-line (a .part) (a .o) (a .t .now) (a .s .now) (a .ws .now) (a .i) (λ e. c .if1 .left (c .before .owner .ensures ∙ e)))
+    rw (no-line (a .part) (a .o) (a .t .now) (a .s .now) (a .ws .now) (a .i) (sym (c .before .own .ensures) ∙ c .if1 .left))
     (put-none _ _)
 
 pub lay-at-spec : {M : Type 1} → statement M
