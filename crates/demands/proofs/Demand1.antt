@@ -65,4 +65,12 @@ event-answered t s trace os e k n v s′ trace′ p =
     same r = refusal-changes-nothing t s (length trace) os e (λ z. r (p .answer ∙ z))
 
 pub demand-1 : Demand1
-demand-1 = record { checkTable = table-answered; makeFresh = fresh-answered; checkState = state-answered; takeEvent = event-answered; panel = panel-answered; play = play-answered }
+demand-1 =
+    record {
+      checkTable = table-answered;
+      makeFresh = fresh-answered;
+      checkState = state-answered;
+      takeEvent = event-answered;
+      panel = panel-answered;
+      play = play-answered;
+    }

@@ -49,4 +49,22 @@ returns-4 c =
     rw name (one-put {line = 116 ∷ 114 ∷ 97 ∷ 99 ∷ 101 ∷ 32 ∷ []} asked (c .before .before .put-label .ensures))
 
 pub lay-name-spec : {M : Type 1} → statement M
-lay-name-spec = tie.close (tie.spec (λ c. search needs) lay-numbered-requires (λ c. search needs) returns (λ c. search needs) lay-numbered-requires-2 (λ c. search needs) returns-2 (λ c. search needs) lay-numbered-requires-3 (λ c. search needs) returns-3 (λ c. search needs) (λ c κs. search needs) (λ c. search needs) returns-4)
+lay-name-spec =
+    tie.close
+    (tie.spec
+    (λ c. search needs)
+    lay-numbered-requires
+    (λ c. search needs)
+    returns
+    (λ c. search needs)
+    lay-numbered-requires-2
+    (λ c. search needs)
+    returns-2
+    (λ c. search needs)
+    lay-numbered-requires-3
+    (λ c. search needs)
+    returns-3
+    (λ c. search needs)
+    (λ c κs. search needs)
+    (λ c. search needs)
+    returns-4)

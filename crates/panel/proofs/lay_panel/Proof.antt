@@ -53,4 +53,12 @@ returns c =
     (four .lay-part4 .ensures)
 
 pub lay-panel-spec : {M : Type 1} → statement M
-lay-panel-spec = tie.close (tie.spec lay-part-requires lay-part-requires-2 lay-part-requires-3 lay-part-requires-4 (λ c. search needs) returns)
+lay-panel-spec =
+    tie.close
+    (tie.spec
+    lay-part-requires
+    lay-part-requires-2
+    lay-part-requires-3
+    lay-part-requires-4
+    (λ c. search needs)
+    returns)

@@ -44,4 +44,16 @@ returns c =
     laid-end _ _ _ _ _ _ _ (start l .pre .1) _ _ _ (omega arith) (l .loop .inv .1)
 
 pub lay-part-spec : {M : Type 1} → statement M
-lay-part-spec = tie.close (tie.spec Inv-loop μ-loop (λ c κs. search needs) loop-holds lay-at-requires (λ c. omega arith) (λ c. omega arith) loop-again (λ c. c .before .loop .inv .1 .long) returns)
+lay-part-spec =
+    tie.close
+    (tie.spec
+    Inv-loop
+    μ-loop
+    (λ c κs. search needs)
+    loop-holds
+    lay-at-requires
+    (λ c. omega arith)
+    (λ c. omega arith)
+    loop-again
+    (λ c. c .before .loop .inv .1 .long)
+    returns)

@@ -42,4 +42,16 @@ returns-4 c = (
 )
 
 pub name-length-spec : {M : Type 1} → statement M
-name-length-spec = tie.close (tie.spec numeral-length-requires (λ c. search needs) returns numeral-length-requires-2 (λ c. search needs) returns-2 numeral-length-requires-3 (λ c. search needs) returns-3 returns-4)
+name-length-spec =
+    tie.close
+    (tie.spec
+    numeral-length-requires
+    (λ c. search needs)
+    returns
+    numeral-length-requires-2
+    (λ c. search needs)
+    returns-2
+    numeral-length-requires-3
+    (λ c. search needs)
+    returns-3
+    returns-4)

@@ -66,4 +66,22 @@ returns-4 c =
     rw (by-trace _ _ _ _ _ (else3 .before .before .if1 .left) (else3 .before .if2 .left) (else3 .if3 .left), c .word4 .ensures)
 
 pub owner-spec : {M : Type 1} → statement M
-owner-spec = tie.close (tie.spec add-word (λ c κs. search needs) returns (λ c. search needs) mul-word add-word-3 (λ c κs. search needs) returns-2 (λ c. search needs) (λ c. search needs) (λ c. search needs) add-word-6 (λ c κs. search needs) returns-3 (λ c κs. search needs) returns-4)
+owner-spec =
+    tie.close
+    (tie.spec
+    add-word
+    (λ c κs. search needs)
+    returns
+    (λ c. search needs)
+    mul-word
+    add-word-3
+    (λ c κs. search needs)
+    returns-2
+    (λ c. search needs)
+    (λ c. search needs)
+    (λ c. search needs)
+    add-word-6
+    (λ c κs. search needs)
+    returns-3
+    (λ c κs. search needs)
+    returns-4)

@@ -47,4 +47,20 @@ returns-4 c =
     (left-of _ _ (told3 .before .behind-sources .given .1) (third told3 .part-room3 .ensures)) (c .part-room4 .result) (c .part-room4 .ensures)
 
 pub panel-room-spec : {M : Type 1} → statement M
-panel-room-spec = tie.close (tie.spec (λ c κs. search needs) (λ c. search needs) (λ c. search needs) returns (λ c κs. search needs) (λ c. search needs) (λ c. search needs) returns-2 (λ c κs. search needs) (λ c. search needs) (λ c. search needs) returns-3 (λ c κs. search needs) returns-4)
+panel-room-spec =
+    tie.close
+    (tie.spec
+    (λ c κs. search needs)
+    (λ c. search needs)
+    (λ c. search needs)
+    returns
+    (λ c κs. search needs)
+    (λ c. search needs)
+    (λ c. search needs)
+    returns-2
+    (λ c κs. search needs)
+    (λ c. search needs)
+    (λ c. search needs)
+    returns-3
+    (λ c κs. search needs)
+    returns-4)

@@ -42,4 +42,16 @@ returns-2 : tie.Need-returns-2 Inv-loop μ-loop
 returns-2 c = left-end _ _ _ _ _ _ _ _ (omega (arith, c .before .before .count .ensures)) (c .before .loop .inv .1)
 
 pub part-room-spec : {M : Type 1} → statement M
-part-room-spec = tie.close (tie.spec Inv-loop μ-loop count-requires loop-holds length-at-requires returns (λ c. omega arith) (λ c. omega arith) loop-again returns-2)
+part-room-spec =
+    tie.close
+    (tie.spec
+    Inv-loop
+    μ-loop
+    count-requires
+    loop-holds
+    length-at-requires
+    returns
+    (λ c. omega arith)
+    (λ c. omega arith)
+    loop-again
+    returns-2)

@@ -68,4 +68,22 @@ returns-4 c =
     done _ _ _ _ _ is (sym (checked .check-state .ensures) ∙ ap stateNumber (fits .enum-told3 .given .1)) (omega arith) (laid .lay-panel .ensures)
 
 pub show-spec : {M : Type 1} → statement M
-show-spec = tie.close (tie.spec (λ c κs. search needs) (λ c. search needs) (λ c. search needs) returns (λ c κs. search needs) (λ c. search needs) (λ c κs. search needs) returns-2 (λ c κs. search needs) (λ c κs. search needs) (λ c. search needs) (λ c. search needs) returns-3 lay-panel-requires (λ c. search needs) returns-4)
+show-spec =
+    tie.close
+    (tie.spec
+    (λ c κs. search needs)
+    (λ c. search needs)
+    (λ c. search needs)
+    returns
+    (λ c κs. search needs)
+    (λ c. search needs)
+    (λ c κs. search needs)
+    returns-2
+    (λ c κs. search needs)
+    (λ c κs. search needs)
+    (λ c. search needs)
+    (λ c. search needs)
+    returns-3
+    lay-panel-requires
+    (λ c. search needs)
+    returns-4)

@@ -65,4 +65,19 @@ returns-4 c =
     rw (by-trace _ _ _ _ _ (else3 .before .before .if1 .left) (else3 .before .if2 .left) (else3 .if3 .left)) (c .word4 .ensures)
 
 pub shown-word-spec : {M : Type 1} → statement M
-shown-word-spec = tie.close (tie.spec (λ c κs. search needs) returns (λ c. search needs) add-word-2 (λ c κs. search needs) returns-2 (λ c. search needs) (λ c. search needs) add-word-5 (λ c κs. search needs) returns-3 (λ c κs. search needs) returns-4)
+shown-word-spec =
+    tie.close
+    (tie.spec
+    (λ c κs. search needs)
+    returns
+    (λ c. search needs)
+    add-word-2
+    (λ c κs. search needs)
+    returns-2
+    (λ c. search needs)
+    (λ c. search needs)
+    add-word-5
+    (λ c κs. search needs)
+    returns-3
+    (λ c κs. search needs)
+    returns-4)

@@ -13,4 +13,17 @@ slice-aggregate-print-2 : tie.Need-slice-aggregate-print-2
 slice-aggregate-print-2 c = sym (length-take-le _ _ (c .before .before .before .before .before .before .before .before .before .before .before .pre))
 
 pub print-change-spec : {M : Type 1} → statement M
-print-change-spec = tie.close (tie.spec (λ c. search needs) (λ c κs. search needs) (λ c. search needs) (λ c κs. search needs) (λ c. search needs) slice-aggregate-print (λ c κs. search needs) (λ c. search needs) slice-aggregate-print-2 (λ c κs. search needs) (λ c. search needs))
+print-change-spec =
+    tie.close
+    (tie.spec
+    (λ c. search needs)
+    (λ c κs. search needs)
+    (λ c. search needs)
+    (λ c κs. search needs)
+    (λ c. search needs)
+    slice-aggregate-print
+    (λ c κs. search needs)
+    (λ c. search needs)
+    slice-aggregate-print-2
+    (λ c κs. search needs)
+    (λ c. search needs))

@@ -10,4 +10,12 @@ slice-aggregate-print : tie.Need-slice-aggregate-print
 slice-aggregate-print c = sym (length-take-le _ _ (search needs))
 
 pub print-last-spec : {M : Type 1} → statement M
-print-last-spec = tie.close (tie.spec (λ c κs. search needs) (λ c. search needs) slice-aggregate-print (λ c κs. search needs) (λ c. search needs) (λ c. search needs))
+print-last-spec =
+    tie.close
+    (tie.spec
+    (λ c κs. search needs)
+    (λ c. search needs)
+    slice-aggregate-print
+    (λ c κs. search needs)
+    (λ c. search needs)
+    (λ c. search needs))

@@ -1,4 +1,5 @@
--- `show::read_number` meets its contract. The loop's invariant: what the whole word says is what the rest of it makes of the number so far. The measure is how many bytes are left. Assumes nothing.
+-- `show::read_number` meets its contract. The loop's invariant: what the whole word says is what the rest of it makes of the number so far.
+-- The measure is how many bytes are left. Assumes nothing.
 use Prim.Native.Nat.{_-_, _≤_}
 use mathlib.Core.Path.{_≡_, refl, sym, _∙_}
 use native.Mathlib.Numerals.{add-one}
@@ -34,4 +35,15 @@ returns c =
     sym (rw (drop-of-length-le word {i = at .loop .i} (omega arith)) at (at .loop .inv .1))
 
 pub read-number-spec : {M : Type 1} → statement M
-read-number-spec = tie.close (tie.spec Inv-loop μ-loop loop-holds (λ c. omega arith) (λ c κs. search needs) (λ c. omega arith) (λ c. omega arith) loop-again returns)
+read-number-spec =
+    tie.close
+    (tie.spec
+    Inv-loop
+    μ-loop
+    loop-holds
+    (λ c. omega arith)
+    (λ c κs. search needs)
+    (λ c. omega arith)
+    (λ c. omega arith)
+    loop-again
+    returns)

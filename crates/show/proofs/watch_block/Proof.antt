@@ -1,4 +1,5 @@
--- `show::watch_block` meets its contract. The loop's invariant: all is in order for the next event, and the first i are taken. The measure is how many are left. Assumes nothing.
+-- `show::watch_block` meets its contract. The loop's invariant: all is in order for the next event, and the first i are taken. The measure is
+-- how many are left. Assumes nothing.
 use Prim.Native.Nat.{_+_, _-_, _≤_}
 use mathlib.Core.Path.{_≡_, refl, ap, _∙_}
 use mathlib.Core.Bool.{false≢true}
@@ -70,7 +71,8 @@ one-more : (c : tie.After-watch-one Inv-loop μ-loop)
     (c .watch-one .last .1 .1 .1 .1 .1 .0) (c .watch-one .last .1 .1 .1 .1 .1 .1 .0) (c .watch-one .result .seen .count)
 one-more c =
     let l = at-loop c in
-    block-next (wordsOf (start (l .before) .args .block .now)) (l .loop .i) (l .loop .inv .6) (omega (arith, l .before .word-count .ensures)) (after-read-word c .read-word .ensures) (c .watch-one .ensures)
+    block-next (wordsOf (start (l .before) .args .block .now)) (l .loop .i) (l .loop .inv .6)
+    (omega (arith, l .before .word-count .ensures)) (after-read-word c .read-word .ensures) (c .watch-one .ensures)
 
 returns : tie.Need-returns Inv-loop μ-loop
 returns c =
@@ -103,4 +105,25 @@ returns-2 c =
     record { all = λ ok. rw whole at (l .inv .6); some = took-first _ (l .i) (l .inv .6 .state); next = l .inv .5 }
 
 pub watch-block-spec : {M : Type 1} → statement M
-watch-block-spec = tie.close (tie.spec Inv-loop μ-loop (λ c κs. search needs) loop-holds (λ c κs. search needs) watch-one-requires (λ c. omega arith) same-length same-length-2 same-length-3 same-length-4 returns (λ c. omega arith) loop-again (λ c. c .before .loop .inv .1) (λ c. c .before .loop .inv .2) (λ c. c .before .loop .inv .3) (λ c. c .before .loop .inv .4) returns-2)
+watch-block-spec =
+    tie.close
+    (tie.spec
+    Inv-loop
+    μ-loop
+    (λ c κs. search needs)
+    loop-holds
+    (λ c κs. search needs)
+    watch-one-requires
+    (λ c. omega arith)
+    same-length
+    same-length-2
+    same-length-3
+    same-length-4
+    returns
+    (λ c. omega arith)
+    loop-again
+    (λ c. c .before .loop .inv .1)
+    (λ c. c .before .loop .inv .2)
+    (λ c. c .before .loop .inv .3)
+    (λ c. c .before .loop .inv .4)
+    returns-2)

@@ -96,4 +96,25 @@ returns-2 c =
     (l .inv .6, l .inv .7 _ _ _ _ (ran-none _ _ (l .trace) (l .block) (l .n) (l .seen .count)))
 
 pub watch-file-spec : {M : Type 1} → statement M
-watch-file-spec = tie.close (tie.spec Inv-loop μ-loop loop-holds next-block-requires same-length same-length-2 same-length-3 same-length-4 same-length-5 returns (λ c. omega arith) (λ c. omega arith) loop-again (λ c. c .before .loop .inv .0) (λ c. c .before .loop .inv .1) (λ c. c .before .loop .inv .2) (λ c. c .before .loop .inv .3) (λ c. c .before .loop .inv .4) returns-2)
+watch-file-spec =
+    tie.close
+    (tie.spec
+    Inv-loop
+    μ-loop
+    loop-holds
+    next-block-requires
+    same-length
+    same-length-2
+    same-length-3
+    same-length-4
+    same-length-5
+    returns
+    (λ c. omega arith)
+    (λ c. omega arith)
+    loop-again
+    (λ c. c .before .loop .inv .0)
+    (λ c. c .before .loop .inv .1)
+    (λ c. c .before .loop .inv .2)
+    (λ c. c .before .loop .inv .3)
+    (λ c. c .before .loop .inv .4)
+    returns-2)

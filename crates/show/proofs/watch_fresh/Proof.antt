@@ -51,4 +51,20 @@ returns c =
     (going-last (ran .watch-file .ensures .0), ran-from (made-fresh (p .table) (p .state) (made .make-fresh .ensures)) (ran .watch-file .ensures .1))
 
 pub watch-fresh-spec : {M : Type 1} → statement M
-watch-fresh-spec = tie.close (tie.spec (λ c κs. search needs) (λ c κs. search needs) (λ c. search needs) (λ c. search needs) (λ c. search needs) (λ c. search needs) lay-left-requires watch-file-requires same-length (λ c. search needs) (λ c. search needs) (λ c. search needs) (λ c. search needs) returns)
+watch-fresh-spec =
+    tie.close
+    (tie.spec
+    (λ c κs. search needs)
+    (λ c κs. search needs)
+    (λ c. search needs)
+    (λ c. search needs)
+    (λ c. search needs)
+    (λ c. search needs)
+    lay-left-requires
+    watch-file-requires
+    same-length
+    (λ c. search needs)
+    (λ c. search needs)
+    (λ c. search needs)
+    (λ c. search needs)
+    returns)

@@ -41,4 +41,20 @@ returns-2 c =
     (laid .lay-change .kept .1 .1 .1 .1 .1 .1 .0)
 
 pub watch-one-spec : {M : Type 1} → statement M
-watch-one-spec = tie.close (tie.spec (λ c κs. search needs) (λ c κs. search needs) (λ c. search needs) (λ c. search needs) returns slice-reshare-prefix-lay-change slice-aggregate-lay-change lay-change-requires (λ c κs. search needs) (λ c. search needs) (λ c. search needs) (λ c. search needs) (λ c. search needs) returns-2)
+watch-one-spec =
+    tie.close
+    (tie.spec
+    (λ c κs. search needs)
+    (λ c κs. search needs)
+    (λ c. search needs)
+    (λ c. search needs)
+    returns
+    slice-reshare-prefix-lay-change
+    slice-aggregate-lay-change
+    lay-change-requires
+    (λ c κs. search needs)
+    (λ c. search needs)
+    (λ c. search needs)
+    (λ c. search needs)
+    (λ c. search needs)
+    returns-2)

@@ -39,4 +39,23 @@ watch-lent-requires c κs =
     )
 
 pub watch-table-spec : {M : Type 1} → statement M
-watch-table-spec = tie.close (tie.spec (λ c κs. search needs) (λ c. search needs) (λ c κs. search needs) (λ c. search needs) (λ c κs. search needs) (λ c κs. search needs) (λ c κs. search needs) (λ c κs. search needs) (λ c. search needs) slice-aggregate-s (λ c. search needs) slice-aggregate-trace (λ c. search needs) (λ c. search needs) watch-lent-requires (λ c. search needs) (λ c. search needs))
+watch-table-spec =
+    tie.close
+    (tie.spec
+    (λ c κs. search needs)
+    (λ c. search needs)
+    (λ c κs. search needs)
+    (λ c. search needs)
+    (λ c κs. search needs)
+    (λ c κs. search needs)
+    (λ c κs. search needs)
+    (λ c κs. search needs)
+    (λ c. search needs)
+    slice-aggregate-s
+    (λ c. search needs)
+    slice-aggregate-trace
+    (λ c. search needs)
+    (λ c. search needs)
+    watch-lent-requires
+    (λ c. search needs)
+    (λ c. search needs))

@@ -45,4 +45,21 @@ returns-2 c =
     (put .put-label .ensures)
 
 pub lay-change-spec : {M : Type 1} → statement M
-lay-change-spec = tie.close (tie.spec (λ c κs. search needs) (λ c. search needs) slice-aggregate-same (λ c. search needs) slice-aggregate-same-2 (λ c κs. search needs) (λ c. search needs) (λ c. search needs) returns (λ c. search needs) slice-aggregate-put-label (λ c κs. search needs) (λ c. search needs) (λ c. search needs) returns-2)
+lay-change-spec =
+    tie.close
+    (tie.spec
+    (λ c κs. search needs)
+    (λ c. search needs)
+    slice-aggregate-same
+    (λ c. search needs)
+    slice-aggregate-same-2
+    (λ c κs. search needs)
+    (λ c. search needs)
+    (λ c. search needs)
+    returns
+    (λ c. search needs)
+    slice-aggregate-put-label
+    (λ c κs. search needs)
+    (λ c. search needs)
+    (λ c. search needs)
+    returns-2)

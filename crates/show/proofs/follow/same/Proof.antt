@@ -1,4 +1,5 @@
--- `show::follow::same` meets its contract. The loop's invariant: whether all is the same is whether the rest is. The measure is how many bytes are left. Assumes nothing.
+-- `show::follow::same` meets its contract. The loop's invariant: whether all is the same is whether the rest is. The measure is how many
+-- bytes are left. Assumes nothing.
 use Prim.Native.Nat.{_-_, _≤_}
 use mathlib.Core.Path.{_≡_, refl, sym, _∙_}
 use native.Mathlib.Omega.{arith}
@@ -25,19 +26,35 @@ returns-2 : tie.Need-returns-2 Inv-loop μ-loop
 returns-2 c =
     let at = c .before .before .before .before in
     let long = at .before .if1 .left in
-    sym (at .loop .inv .1 ∙ other-here (at .before .before .args .a .now) (at .before .before .args .b .now) (at .loop .i) (omega arith) (omega arith) (c .if2 .taken))
+    let a = at .before .before .args in
+    sym (at .loop .inv .1 ∙ other-here (a .a .now) (a .b .now) (at .loop .i) (omega arith) (omega arith) (c .if2 .taken))
 
 loop-again : tie.Need-loop-again Inv-loop μ-loop
 loop-again c =
     let at = c .before .before .before .before in
     let long = at .before .if1 .left in
-    (omega arith, at .loop .inv .1 ∙ same-next (at .before .before .args .a .now) (at .before .before .args .b .now) (at .loop .i) (omega arith) (omega arith) (c .if2 .left))
+    let a = at .before .before .args in
+    (omega arith, at .loop .inv .1 ∙ same-next (a .a .now) (a .b .now) (at .loop .i) (omega arith) (omega arith) (c .if2 .left))
 
 returns-3 : tie.Need-returns-3 Inv-loop μ-loop
 returns-3 c =
     let at = c .before in
     let long = at .before .if1 .left in
-    sym (at .loop .inv .1 ∙ same-end (at .before .before .args .a .now) (at .before .before .args .b .now) (at .loop .i) (omega arith) (omega arith))
+    let a = at .before .before .args in
+    sym (at .loop .inv .1 ∙ same-end (a .a .now) (a .b .now) (at .loop .i) (omega arith) (omega arith))
 
 pub same-spec : {M : Type 1} → statement M
-same-spec = tie.close (tie.spec Inv-loop μ-loop returns loop-holds (λ c. omega arith) (λ c. let long = c .before .before .before .before .if1 .left in omega arith) returns-2 (λ c. omega arith) (λ c. omega arith) loop-again returns-3)
+same-spec =
+    tie.close
+    (tie.spec
+    Inv-loop
+    μ-loop
+    returns
+    loop-holds
+    (λ c. omega arith)
+    (λ c. let long = c .before .before .before .before .if1 .left in omega arith)
+    returns-2
+    (λ c. omega arith)
+    (λ c. omega arith)
+    loop-again
+    returns-3)

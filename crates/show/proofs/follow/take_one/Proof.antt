@@ -32,4 +32,15 @@ returns c =
     }
 
 pub take-one-spec : {M : Type 1} → statement M
-take-one-spec = tie.close (tie.spec (λ c. search needs) (λ c. search needs) (λ c. search needs) (λ c. search needs) handle-requires (λ c κs. search needs) (λ c. search needs) (λ c. search needs) returns)
+take-one-spec =
+    tie.close
+    (tie.spec
+    (λ c. search needs)
+    (λ c. search needs)
+    (λ c. search needs)
+    (λ c. search needs)
+    handle-requires
+    (λ c κs. search needs)
+    (λ c. search needs)
+    (λ c. search needs)
+    returns)
