@@ -1,4 +1,5 @@
--- What the functions that take and lay promise: their input, their result, and every lent word and byte afterwards.
+-- What the functions that take and lay promise: their input, their result, every lent word afterwards, and what then stands at the front of
+-- the lent bytes.
 use Prim.Native.Nat.{ℕ, _+_, _*_, _≤_}
 use mathlib.Core.Path.{_≡_}
 use mathlib.Core.Bool.{true, not}
@@ -21,10 +22,6 @@ pub record Took (t : List ℕ) (e : ℕ) (s trace : List ℕ) (n : ℕ) (s′ tr
 -- the most bytes that a panel has: 21 for each of 104 things, 15 for each of 4,096 trace words
 abbrev pub mostPanel : ℕ
 mostPanel = 104 * 21 + 4096 * 15
-
--- the most bytes that an event's number has: `event `, 20 digits and a newline
-abbrev pub mostNumber : ℕ
-mostNumber = 6 + 20 + 1
 
 -- an operator, a table and a state that stand, few enough trace words, and room for the panel
 pub record Shown (o : ℕ) (t s ws out : List ℕ) : Type 0 where
