@@ -24,6 +24,7 @@ use Rattle.demands.proofs.Demand1.{table-answered, fresh-answered, even
 use Rattle.demands.proofs.Demand2.{steps, lists, evaluated, accepts}
 use Rattle.demands.proofs.Requests.{clears, heards}
 use Rattle.demands.proofs.Demand3.{demand-3}
+use Rattle.demands.proofs.Nothing.{nothing, sent-appended, one-call, one-play}
 use Rattle.demands.proofs.Calls.{appended}
 use Rattle.demands.proofs.Plays.{play-answered, play-log, play-state, play-words}
 use Rattle.demands.proofs.Resumed.{play-goes}
@@ -40,7 +41,7 @@ of-table t reason place b p =
     }
 
 pub of-fresh : (t s : List ℕ) (k : ℕ) (s′ : List ℕ) → MakesFreshIn t s k s′ → OfFresh t s k s′
-of-fresh t s k s′ p = record { answered = fresh-answered t s k s′ p; waits = λ z. demand-3 t s k s′ p z }
+of-fresh t s k s′ p = record { answered = fresh-answered t s k s′ p; waits = λ z. demand-3 t s k s′ p z; nothing = λ z. nothing t s k s′ p z }
 
 -- a table with a reason is met before all else
 bad-table : (t s : List ℕ) (room : ℕ) (os : List ℕ) (e k : ℕ) → k ≡ firstFault t s room os e → accepted t ≡ false → k ≡ 1
@@ -81,6 +82,7 @@ of-event t s trace os e k n v s′ trace′ p =
         most = rw (p .visits) (step-most t s (length trace) os e);
       };
       taken = λ z s₀ xs q is. appended s q is (calls.taken os e p z calls.none);
+      sent = λ o lends s₀ xs q is. sent-appended t o s q is (one-call t o os e p lends);
     }
 
 bad-play : (t s : List ℕ) (k : ℕ) {A : Type 0} → ((refusedState t s ≡ 0 → ⊥) → (k ≡ refusedState t s) × A) → accepted t ≡ false → k ≡ 1
@@ -97,4 +99,5 @@ of-play t s trace es k n m v s′ trace′ p =
       words = play-words t s trace es k n m v s′ trace′ p;
       unreached = λ l un. bad-play t s k (play-answered t s trace es k n m v s′ trace′ p .unstood) (unreached-refused t l un);
       taken = λ s₀ xs q is. appended s q is (rw append-nil at (calls.played es p calls.none));
+      sent = λ o s₀ xs q is. sent-appended t o s q is (one-play t o es p);
     }

@@ -157,7 +157,7 @@ module _ (t : List ℕ) (h : accepted t ≡ true) where
 
 -- The demand, from whatever state `make_fresh` made.
 
-accepted-when : (t s : List ℕ) (k : ℕ) (s′ : List ℕ) → MakesFreshIn t s k s′ → k ≡ 0 → accepted t ≡ true
+pub accepted-when : (t s : List ℕ) (k : ℕ) (s′ : List ℕ) → MakesFreshIn t s k s′ → k ≡ 0 → accepted t ≡ true
 accepted-when t s k s′ p z = split (accepted t) (λ a. a) (λ a. let y = fresh-answered t s k s′ p .badTable a in absurd (omega arith))
 
 pub demand-3 : Demand3OfCalls

@@ -7,6 +7,7 @@ pub mod Demand1
 pub mod Demand2
 pub mod Calls
 pub mod Demand3
+pub mod Nothing
 pub mod Requests
 pub mod Conclusions
 pub mod Given

@@ -15,7 +15,7 @@ use Rattle.laws.proofs.Tests.{split}
 use Rattle.laws.proofs.Facts.{facts}
 use Rattle.panel.specs.Printed.{panel, operator, answer}
 use Rattle.panel.specs.Promises.{ShowsIn}
-use Rattle.panel.proofs.Same.{laid-bytes, prints-alike}
+use Rattle.panel.proofs.Same.{laid-bytes, laid-count, laid-behind, prints-alike}
 use Rattle.panel.proofs.Short.{panel-short}
 use Rattle.demands.specs.Demand1.{PanelAnswered}
 use Rattle.demands.specs.Conclusions.{OfPanel}
@@ -60,4 +60,4 @@ module _ (o : ℕ) (t s ws out : List ℕ) (k n : ℕ) (out′ : List ℕ) (p : 
       (λ is. let y : 9 ≡ 11 = rw is at (sym (p .answer) ∙ e) in omega arith)
 
   pub of-panel : OfPanel o t s ws out k n out′
-  of-panel = record { answered = panel-answered; lines = laid-bytes p; enough = always-enough; alike = prints-alike p }
+  of-panel = record { answered = panel-answered; lines = laid-bytes p; count = laid-count p; behind = laid-behind p; enough = always-enough; alike = prints-alike p }

@@ -5,7 +5,7 @@ use mathlib.Core.List.{List, [], _∷_, _++_}
 use mathlib.Core.Logic.{_↔_}
 use mathlib.Core.Bool.{true}
 use Prim.Native.Nat.{ℕ, _+_, _*_, _≤_, _<_}
-use lib.ListN.{length, take}
+use lib.ListN.{length, getD, take, drop}
 use Rattle.rulebook.specs.Words.{word}
 use Rattle.rulebook.specs.Table.{edition, rules}
 use Rattle.rulebook.specs.Reasons.{bound}
@@ -19,14 +19,17 @@ use Rattle.laws.specs.MoreLevels.{MoreLevels}
 use Rattle.laws.specs.Reached.{Unreached, ListsStarted}
 use Rattle.stranger.specs.Logs.{Entry, Log, stateAfter, logFrom, joined}
 use Rattle.stranger.specs.Heard.{HeardCounts}
+use Rattle.stranger.specs.Nothing.{Sending, entries, allTaken, isShared, Lends}
 use Rattle.manager.specs.Promises.{TakesEventIn}
 use Rattle.panel.specs.Printed.{panel}
 use Rattle.panel.specs.Same.{PrintsAlike}
 use Rattle.demands.specs.Calls.{Played}
+use Rattle.demands.specs.Sent.{Sent, endedBy}
 use Rattle.demands.specs.Plays.{PlayAnswered, PlayGoes}
 use Rattle.demands.specs.Demand1.{TableAnswered, FreshAnswered, StateAnswered, EventAnswered, PanelAnswered}
 use Rattle.demands.specs.Demand2.{Steps}
 use Rattle.demands.specs.Demand3.{Demand3After}
+use Rattle.demands.specs.Nothing.{NothingAfter}
 
 pub record OfTable (t : List ℕ) (reason place b : ℕ) : Type 0 where
   pub answered : TableAnswered t reason place b
@@ -42,6 +45,8 @@ pub record OfFresh (t s : List ℕ) (k : ℕ) (s′ : List ℕ) : Type 0 where
   pub answered : FreshAnswered t s k s′
   -- whatever calls follow from this state
   pub waits : k ≡ 0 → Demand3After t s′
+  -- Q-14: "Nothing of a stranger at all"
+  pub nothing : k ≡ 0 → NothingAfter t s′
 
 abbrev pub OfState : List ℕ → List ℕ → ℕ → Type 0
 OfState t s k = StateAnswered t s k
@@ -73,13 +78,18 @@ pub record OfEvent (t s trace os : List ℕ) (e k n v : ℕ) (s′ trace′ : Li
   -- the log goes on: calls that led from s₀ to s, and this one
   pub taken : k ≡ 0 → (s₀ : List ℕ) (xs : List Entry) → Played t s₀ xs → stateAfter s₀ xs ≡ s
       → Played t s₀ (xs ++ record { event = e; outcomes = os; state = s′; words = take n trace′ } ∷ [])
+  -- and the run, whatever the answer
+  pub sent : (o : ℕ) → (isShared o e ≡ true → Lends t (length trace) os) → (s₀ : List ℕ) (xs : List Sending) → Sent t o s₀ xs → stateAfter s₀ (entries xs) ≡ s
+      → Sent t o s₀ (xs ++ record { answer = k; entry = record { event = e; outcomes = os; state = s′; words = take n trace′ } } ∷ [])
 
 -- Q-13, of a panel for number o, with n bytes laid into `out`
 pub record OfPanel (o : ℕ) (t s ws out : List ℕ) (k n : ℕ) (out′ : List ℕ) : Type 0 where
   -- "Number 0 or above 15 (answer 9), then a table or state that meets answer 1 or 2, is refused; nothing is printed"; then too little room
   pub answered : PanelAnswered o t s ws out k n out′
-  -- exactly the operator's lines
+  -- exactly the operator's lines, at the front of the bytes lent; those behind them are as they were
   pub lines : k ≡ 0 → take n out′ ≡ panel o t s ws
+  pub count : k ≡ 0 → n ≡ length (panel o t s ws)
+  pub behind : k ≡ 0 → drop n out′ ≡ drop n out
   -- so much room is always enough
   pub enough : 104 * 21 + 15 * length ws ≤ length out → k ≡ 11 → ⊥
   -- "Accepted tables of equal counts that give the operator the same numbered things, with fitting states and traces agreeing in that
@@ -98,3 +108,5 @@ pub record OfPlay (t s trace es : List ℕ) (k n m v : ℕ) (s′ trace′ : Lis
   pub unreached : (l : ℕ) → Unreached t l → k ≡ 1
   -- the log goes on: calls that led from s₀ to s, and this play
   pub taken : (s₀ : List ℕ) (xs : List Entry) → Played t s₀ xs → stateAfter s₀ xs ≡ s → Played t s₀ (xs ++ logFrom t s (take n es))
+  pub sent : (o : ℕ) (s₀ : List ℕ) (xs : List Sending) → Sent t o s₀ xs → stateAfter s₀ (entries xs) ≡ s
+      → Sent t o s₀ (xs ++ (allTaken (logFrom t s (take n es)) ++ endedBy k (getD es n 0) s′))

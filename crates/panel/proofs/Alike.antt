@@ -18,14 +18,14 @@ use Rattle.rulebook.specs.Reasons.{check}
 use Rattle.rulebook.specs.State.{thing, ownerOf, packPort, packRule, packNetwork, portFits, ruleFits, networkFits, thingFits, fitsAt, fits}
 use Rattle.rulebook.specs.State.{freshPort, freshThing, freshAt, fresh, freshAnswer, freshState}
 use Rattle.rulebook.specs.Lists.{traceWord, setPort, setNetwork, effect, unread, act, stops, valueIn, undefinedIn, unready, resultIn, visitsIn, choice}
-use Rattle.rulebook.specs.Lists.{choiceIn, setResult, runItem, runItems, runList}
+use Rattle.rulebook.specs.Lists.{choiceIn, setResult, runItem, runItems, runList, own}
 use Rattle.rulebook.specs.Arbitration.{unmarkPort, unmarkPorts, evaluated, storeResult, storeResults, visitsBy, ruleVisits, chooses, chosen}
 use Rattle.rulebook.specs.Arbitration.{ofPriority, orderBelow, order, runIf, runChosen, decide, arbitrate}
 use Rattle.rulebook.specs.Events.{only, request, shown, moveNetwork, takes, wait, offBus, busOff, countedNetwork, tickedNetwork, tickNetwork}
 use Rattle.rulebook.specs.Events.{tickTimer, tickThings, markedIn, arbitrateMarked, tick, changed, happen}
 use Rattle.rulebook.specs.Step.{wellFormed, named, present, suited, known, sentByOwner, goodOrFailed, outcomesKnown, firstFault, refusedState}
 use Rattle.rulebook.specs.Step.{conclude, heeded, step}
-use Rattle.panel.specs.Same.{SameThings, SameWords, own}
+use Rattle.panel.specs.Same.{SameThings, SameWords}
 
 -- two ports, one of operator 1, and a rule of operator 1 on its port; the other port is operator 2's, or operator 3's and deferred
 

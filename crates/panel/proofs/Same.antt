@@ -3,19 +3,20 @@ use Prim.Native.Nat.{ℕ, zero, suc, _+_, _<_}
 use mathlib.Core.Path.{_≡_, refl, sym, ap, _∙_}
 use mathlib.Core.Bool.{Bool, true, false, cond, not}
 use mathlib.Core.List.{List, [], _∷_, _++_}
-use native.Mathlib.Nat.{add-zero}
+use native.Mathlib.Nat.{add-zero, zero-add}
 use native.Mathlib.Omega.{arith}
-use lib.ListN.{length, take}
-use lib.Seq.{take-append-seam}
+use lib.ListN.{length, take, drop}
+use lib.Seq.{take-append-seam, drop-append-seam}
 use lib.Dec.{ltb, eqb}
 use borrow.Author.Tests.{eqb-true}
 use Rattle.rulebook.specs.Words.{word}
+use Rattle.rulebook.specs.Lists.{traceOwner, own}
 use Rattle.rulebook.specs.Step.{refusedState}
 use Rattle.text.specs.Puts.{lay}
 use Rattle.panel.specs.Printed.{byPart, count, owner, shownWord, label, numeral, line, lineAt, lines, partLines, panel, answer}
-use Rattle.panel.specs.Printed.{traceOwner, thePorts, theNetworks, theSources, theTrace, operator}
+use Rattle.panel.specs.Printed.{thePorts, theNetworks, theSources, theTrace, operator}
 use Rattle.panel.specs.Promises.{ShowsIn}
-use Rattle.panel.specs.Same.{SameThings, SameWords, own, SamePrint, PrintsAlike}
+use Rattle.panel.specs.Same.{SameThings, SameWords, SamePrint, PrintsAlike}
 
 -- lines go by what each is
 lines-same : (f g : ℕ → List ℕ) (i j n : ℕ) → ((k : ℕ) → k < n → f (i + k) ≡ g (j + k)) → lines i n f ≡ lines j n g
@@ -102,13 +103,24 @@ module _ (o : ℕ) (t₁ s₁ ws₁ t₂ s₂ ws₂ : List ℕ) (things : SameTh
   same-panel =
       rw (same-ports, same-networks, same-sources, traced o t₁ s₁ ws₁, traced o t₂ s₂ ws₂, words .trace)
 
--- the bytes that were laid
-pub laid-bytes : {o : ℕ} {t s ws out : List ℕ} {k n : ℕ} {out′ : List ℕ} → ShowsIn o t s ws out k n out′ → k ≡ 0 → take n out′ ≡ panel o t s ws
-unfolding lay
-laid-bytes h z =
-    let done = rw (sym (h .answer) ∙ z) at (h .count) in
-    let bytes = rw (sym (h .answer) ∙ z) at (h .bytes) in
-    rw (done, bytes) (take-append-seam _ _)
+-- The bytes that were laid, how many, and those behind them.
+
+module _ {o : ℕ} {t s ws out : List ℕ} {k n : ℕ} {out′ : List ℕ} (h : ShowsIn o t s ws out k n out′) (z : k ≡ 0) where
+  pub laid-count : n ≡ length (panel o t s ws)
+  laid-count = rw (sym (h .answer) ∙ z) at (h .count)
+
+  laid-all : out′ ≡ lay out 0 (panel o t s ws)
+  laid-all = rw (sym (h .answer) ∙ z) at (h .bytes)
+
+  pub laid-bytes : take n out′ ≡ panel o t s ws
+  unfolding lay
+  laid-bytes = rw (laid-count, laid-all) (take-append-seam _ _)
+
+  pub laid-behind : drop n out′ ≡ drop n out
+  unfolding lay
+  laid-behind =
+      let xs = panel o t s ws in
+      rw (laid-count, laid-all) (drop-append-seam xs (drop (0 + length xs) out) ∙ ap (λ (i : ℕ). drop i out) (zero-add (length xs)))
 
 -- the answer, where table and state stand
 answered : (o : ℕ) (t s ws : List ℕ) (room : ℕ) → refusedState t s ≡ 0

@@ -6,9 +6,10 @@ use mathlib.Core.Bool.{Bool, cond, not}
 use mathlib.Core.List.{List, [], _∷_, _++_}
 use lib.ListN.{length}
 use lib.Dec.{ltb, eqb}
-use Rattle.rulebook.specs.Words.{word, field, between}
+use Rattle.rulebook.specs.Words.{word, between}
 use Rattle.rulebook.specs.Table.{ports, networks, sources, portOwner, networkOwner, sourceOwner}
 use Rattle.rulebook.specs.State.{networkIndex, sourceIndex}
+use Rattle.rulebook.specs.Lists.{traceOwner}
 use Rattle.rulebook.specs.Step.{refusedState}
 use Rattle.text.specs.Lines.{decimal, hexLine}
 
@@ -29,10 +30,6 @@ theTrace = 3
 unfoldable pub byPart : {A : Type 0} → ℕ → A → A → A → A → A
 byPart part port network source trace =
     cond (eqb part thePorts) port (cond (eqb part theNetworks) network (cond (eqb part theSources) source trace))
-
--- "Trace word: kind(4), owner(4) of the list that holds it"
-abbrev pub traceOwner : ℕ → ℕ
-traceOwner w = field 4 4 w
 
 -- how many words a part has; whose the i-th is; the word itself; `port `, `network `, `source `, `trace `
 

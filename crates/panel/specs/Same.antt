@@ -2,16 +2,15 @@
 -- operator's words, print the same bytes."
 use Prim.Native.Nat.{ℕ, _<_}
 use mathlib.Core.Path.{_≡_}
-use mathlib.Core.Bool.{cond}
-use mathlib.Core.List.{List, [], _∷_}
+use mathlib.Core.List.{List}
 use lib.ListN.{length, take}
 use lib.Dec.{eqb}
 use Rattle.rulebook.specs.Words.{word}
 use Rattle.rulebook.specs.Table.{portOwner, networkOwner, sourceOwner}
 use Rattle.rulebook.specs.Table as table
 use Rattle.rulebook.specs.State.{networkIndex, sourceIndex}
+use Rattle.rulebook.specs.Lists.{own}
 use Rattle.rulebook.specs.Step.{refusedState}
-use Rattle.panel.specs.Printed.{traceOwner}
 use Rattle.panel.specs.Promises.{ShowsIn}
 
 -- "of equal counts that give the operator the same numbered things": of ports, networks and sources; how many expressions, rules, lists
@@ -23,11 +22,6 @@ pub record SameThings (o : ℕ) (t₁ t₂ : List ℕ) : Type 0 where
   pub ownPorts : (p : ℕ) → p < table.ports t₁ → eqb (portOwner t₁ p) o ≡ eqb (portOwner t₂ p) o
   pub ownNetworks : (n : ℕ) → n < table.networks t₁ → eqb (networkOwner t₁ n) o ≡ eqb (networkOwner t₂ n) o
   pub ownSources : (k : ℕ) → k < table.sources t₁ → eqb (sourceOwner t₁ k) o ≡ eqb (sourceOwner t₂ k) o
-
--- the operator's trace words, in order
-unfoldable pub own : ℕ → List ℕ → List ℕ
-own o [] = []
-own o (w ∷ ws) = cond (eqb (traceOwner w) o) (w ∷ own o ws) (own o ws)
 
 -- "states and traces agreeing in that operator's words"
 pub record SameWords (o : ℕ) (t₁ s₁ ws₁ t₂ s₂ ws₂ : List ℕ) : Type 0 where

@@ -2,6 +2,7 @@
 pub mod AtOrAbove
 pub mod Reached
 pub mod Marked
+pub mod Mentioned
 pub mod OneStep
 pub mod Play
 pub mod Outcomes

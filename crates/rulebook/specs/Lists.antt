@@ -4,7 +4,7 @@ use mathlib.Core.Bool.{Bool, true, false, cond, _&&_, _||_, not}
 use mathlib.Core.List.{List, [], _∷_, _++_}
 use lib.ListN.{set, drop}
 use lib.Dec.{eqb}
-use Rattle.rulebook.specs.Words.{word, inField, until}
+use Rattle.rulebook.specs.Words.{word, field, inField, until}
 use Rattle.rulebook.specs.Table.{reload, ruleExpression, trueList, falseList, noList}
 use Rattle.rulebook.specs.Table.{listOwner, triggered, firstItem, itemCount, itemKind, abort, itemA, itemB}
 use Rattle.rulebook.specs.Table.{itemCall, itemClear, itemStart, itemStop, itemAsk, itemRule, byItem}
@@ -42,6 +42,23 @@ traceWord kind owner a b = inField 0 4 kind + inField 4 4 owner + inField 8 8 a 
 
 abbrev pub traceListStart : ℕ
 traceListStart = 15
+
+abbrev pub traceKind : ℕ → ℕ
+traceKind w = field 0 4 w
+
+abbrev pub traceOwner : ℕ → ℕ
+traceOwner w = field 4 4 w
+
+abbrev pub traceA : ℕ → ℕ
+traceA w = field 8 8 w
+
+abbrev pub traceB : ℕ → ℕ
+traceB w = field 16 16 w
+
+-- one owner's own trace words, in order
+unfoldable pub own : ℕ → List ℕ → List ℕ
+own o [] = []
+own o (w ∷ ws) = cond (eqb (traceOwner w) o) (w ∷ own o ws) (own o ws)
 
 -- a port written anew, which defines it
 unfoldable pub setPort : ℕ → ℕ → ℕ → ℕ → List ℕ → List ℕ

@@ -7,11 +7,11 @@ use Prim.Native.Nat.{ℕ}
 use native.Mathlib.Nat.{mod-eq-of-lt}
 use native.Mathlib.Omega.{arith}
 use Rattle.rulebook.specs.Table.{stranger, listOwner}
-use Rattle.rulebook.specs.Lists.{Run, start, become, emit, leave, visit, traceWord}
+use Rattle.rulebook.specs.Lists.{Run, start, become, emit, leave, visit, traceWord, traceOwner}
 use Rattle.laws.proofs.Tests.{split}
 use Rattle.laws.proofs.Fields.{digit-small, trace-owner}
 use Rattle.laws.proofs.Frame.{Framed, framed-words}
-use Rattle.stranger.specs.View.{SameView, traceOwner, ownWords}
+use Rattle.stranger.specs.View.{SameView, ownWords}
 use Rattle.stranger.specs.Outcomes.{metAt, met, Agree}
 use Rattle.stranger.proofs.View.{same-view-refl, same-view-sym, same-view-trans}
 use Rattle.stranger.proofs.Outcomes.{agree-front, leftBy, met-both, met-one, met-hidden, met-next}

@@ -11,7 +11,7 @@ use lib.Dec.{eqb}
 use borrow.Author.Tests.{eqb-true, eqb-false, eq-eqb, ne-eqb, not-false}
 use Rattle.rulebook.specs.Table.{ports, networks, rules, items, portEvent, portTimer, listOwner, itemKind, itemA, itemB, itemAsk, itemRule}
 use Rattle.rulebook.specs.State.{ruleIndex, networkIndex, undefinedResult, askedFull, Network, networkOf}
-use Rattle.rulebook.specs.Lists.{Run, traceListStart, traceWord, setPort, networkIn, setNetwork, effect, act, setResult, judge}
+use Rattle.rulebook.specs.Lists.{Run, traceListStart, traceWord, setPort, networkIn, setNetwork, effect, act, setResult, judge, traceKind, traceA, traceB}
 use Rattle.rulebook.specs.Arbitration.{unmarkPort, unmarkPorts, storeResult, storeResults, evaluated, arbitrate}
 use Rattle.laws.specs.Facts.{Facts}
 use Rattle.laws.proofs.Tests.{split, or-none}
@@ -21,7 +21,6 @@ use Rattle.laws.proofs.Items.{clear-there, start-there, stop-there, ask-there, 
 use Rattle.laws.proofs.Cases.{effect-cases}
 use Rattle.laws.proofs.Runs.{item-there, KeptByActs, decide-keeps, effect-keeps, unmark-keeps, store-keeps}
 use Rattle.laws.proofs.FitKept.{Fits, fit-kept}
-use Rattle.stranger.specs.View.{traceKind, traceA, traceB}
 use Rattle.stranger.specs.Demand.{asks, asksOther, anyWord, lastAsked}
 use Rattle.stranger.proofs.Arbitrated.{asked-word}
 

@@ -10,7 +10,7 @@ use native.Mathlib.Omega.{arith}
 use lib.Dec.{eqb}
 use borrow.Author.Tests.{eqb-true}
 use Rattle.rulebook.specs.Table.{networks, networkOwner, deferred, listOwner, itemKind, itemA, itemB, itemAsk, itemRule, platform, stranger}
-use Rattle.rulebook.specs.Lists.{Run, emit, traceWord, traceListStart, act, judge}
+use Rattle.rulebook.specs.Lists.{Run, emit, traceWord, traceListStart, act, judge, traceKind, traceOwner, traceA}
 use Rattle.rulebook.specs.Arbitration.{arbitrate}
 use Rattle.rulebook.specs.Events.{request, tick, arbitrateMarked, happen}
 use Rattle.laws.specs.Facts.{Facts}
@@ -22,7 +22,7 @@ use Rattle.laws.proofs.Order.{each-both}
 use Rattle.laws.proofs.Runs.{Within, item-there, KeptByActs, decide-keeps}
 use Rattle.laws.proofs.Happen.{happen-cases}
 use Rattle.stranger.specs.Demand.{asks, asksOther, anyWord}
-use Rattle.stranger.specs.View.{traceKind, traceOwner, traceA, AsksOwn, ownWords}
+use Rattle.stranger.specs.View.{AsksOwn, ownWords}
 use Rattle.stranger.proofs.More.{pick}
 use Rattle.stranger.proofs.Alike.{word-owner}
 use Rattle.stranger.proofs.Owners.{self-known, platform-known, network-owned}

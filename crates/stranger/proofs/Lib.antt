@@ -28,3 +28,5 @@ pub mod NotEmpty
 pub mod Failing
 pub mod Demand3
 pub mod Partner
+pub mod Nothing
+pub mod Runs

@@ -14,7 +14,7 @@ use Rattle.rulebook.specs.Table.{itemClear, itemStart, itemStop, itemAsk, itemL
 use Rattle.rulebook.specs.State.{ruleIndex, networkIndex, undefinedResult}
 use Rattle.rulebook.specs.Reasons.{portOfKind, itemOwned}
 use Rattle.rulebook.specs.Lists.{Run, emit, traceWord, traceListStart, setPort, setNetwork, effect, act, stops, unready, choiceIn, setResult, judge, runChoice}
-use Rattle.rulebook.specs.Lists.{runRule, runItem, runItems, runList}
+use Rattle.rulebook.specs.Lists.{runRule, runItem, runItems, runList, traceOwner}
 use Rattle.laws.specs.Facts.{Facts}
 use Rattle.laws.proofs.Tests.{split}
 use Rattle.laws.proofs.Fields.{digit-small}
@@ -23,7 +23,7 @@ use Rattle.laws.proofs.Items.{clear-there, start-there, stop-there, ask-there, 
 use Rattle.laws.proofs.Cases.{item-list, item-rule, item-act, item-cases, rule-unready, rule-ready, choice-none, choice-some, effect-cases}
 use Rattle.laws.proofs.Frame.{Framed, framed-words, framed-until, rule-framed, item-framed, list-framed}
 use Rattle.laws.proofs.Runs.{Within, item-there, Keeps, item-keeps, list-keeps}
-use Rattle.stranger.specs.View.{SameView, traceOwner}
+use Rattle.stranger.specs.View.{SameView}
 use Rattle.stranger.specs.Outcomes.{calls, metAt, met, Agree}
 use Rattle.stranger.proofs.More.{pick-both}
 use Rattle.stranger.proofs.View.{same-view-refl, write-hidden, write-alike, port-word, rule-word, network-word}

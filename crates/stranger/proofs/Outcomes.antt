@@ -9,11 +9,10 @@ use native.Mathlib.Nat.{mod-eq-of-lt}
 use lib.Dec.{eqb}
 use borrow.Author.Tests.{ne-eqb}
 use Rattle.rulebook.specs.Table.{itemKind, itemCall, itemRule, stranger}
-use Rattle.rulebook.specs.Lists.{Run, traceWord, traceListStart, unread, act, judge}
+use Rattle.rulebook.specs.Lists.{Run, traceWord, traceListStart, unread, act, judge, traceKind, traceOwner}
 use Rattle.laws.proofs.Tests.{split}
 use Rattle.laws.proofs.Fields.{digit-small, trace-kind}
 use Rattle.laws.proofs.Runs.{KeptByActs}
-use Rattle.stranger.specs.View.{traceKind, traceOwner}
 use Rattle.stranger.specs.Outcomes.{calls, behind, metAt, met, Agree}
 
 -- Agreeing.

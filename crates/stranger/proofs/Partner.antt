@@ -15,7 +15,7 @@ use Rattle.rulebook.specs.Table.{stranger}
 use Rattle.rulebook.specs.Expressions.{deepest}
 use Rattle.rulebook.specs.State.{undefinedResult}
 use Rattle.rulebook.specs.Lists.{Run, start, emit, leave, visit, visitsIn, traceWord, traceListStart, setPort, effect, unread, act, stops, unready, choiceIn}
-use Rattle.rulebook.specs.Lists.{judge, runChoice, runRule, runItem, runItems, runList}
+use Rattle.rulebook.specs.Lists.{judge, runChoice, runRule, runItem, runItems, runList, traceOwner}
 use Rattle.rulebook.specs.Arbitration.{runIf, runChosen, order, decide, arbitrate}
 use Rattle.rulebook.specs.Events.{only, request, arbitrateMarked, tick, happen}
 use Rattle.rulebook.specs.Step.{outcomesKnown, goodOrFailed, refusedEvent, heeded}
@@ -29,7 +29,6 @@ use Rattle.laws.proofs.Order.{each-both}
 use Rattle.laws.proofs.Happen.{Taken, taken-event, Event, aTick, aMode, aRequest, ofSource, ofNetwork, event}
 use Rattle.laws.proofs.Play.{none-heeded}
 use Rattle.stranger.specs.Logs.{Entry, Log, logFrom, strangersEntry, struckOut}
-use Rattle.stranger.specs.View.{traceOwner}
 use Rattle.stranger.specs.Outcomes.{calls, behind, metAt, met, metBy, metIn, Agree, AgreeEach, ButStrangers, NoneRead, Partner, MayMeet}
 use Rattle.stranger.proofs.More.{pick}
 use Rattle.stranger.proofs.Outcomes.{leftBy, left-both, met-both, met-one, calls-kind, no-call}
@@ -315,25 +314,25 @@ module _ (t : List ℕ) (o : ℕ) where
 
 -- Where no outcome is read, every call meets 0.
 
-abbrev Zeros : List ℕ → Type 0
+abbrev pub Zeros : List ℕ → Type 0
 Zeros ms = Each (λ v. v ≡ 0) ms
 
-agree-zeros : (ls ms : List ℕ) → Zeros ls → Zeros ms → Agree ls ms
+pub agree-zeros : (ls ms : List ℕ) → Zeros ls → Zeros ms → Agree ls ms
 agree-zeros [] ms h k = tt
 agree-zeros (a ∷ ls) [] h k = tt
 agree-zeros (a ∷ ls) (b ∷ ms) h k = (h .0 ∙ sym (k .0), agree-zeros ls ms (h .1) (k .1))
 
-abbrev AllZeros : List (List ℕ) → Type 0
+abbrev pub AllZeros : List (List ℕ) → Type 0
 AllZeros [] = Unit {0}
 AllZeros (l ∷ ls) = Zeros l × AllZeros ls
 
-agree-all-zeros : (ls ms : List (List ℕ)) → AllZeros ls → AllZeros ms → AgreeEach ls ms
+pub agree-all-zeros : (ls ms : List (List ℕ)) → AllZeros ls → AllZeros ms → AgreeEach ls ms
 agree-all-zeros [] ms h k = tt
 agree-all-zeros (l ∷ ls) [] h k = tt
 agree-all-zeros (l ∷ ls) (m ∷ ms) h k = (agree-zeros l m (h .0) (k .0), agree-all-zeros ls ms (h .1) (k .1))
 
 module _ (t : List ℕ) (o : ℕ) where
-  met-zeros : (x : Entry) → heeded t (x .outcomes) ≡ [] → Zeros (metBy t o x)
+  pub met-zeros : (x : Entry) → heeded t (x .outcomes) ≡ [] → Zeros (metBy t o x)
   met-zeros x h = each-met _ refl o _ (x .words) (rw h tt)
 
   none-met : (xs : List Entry) → NoneRead t xs → AllZeros (metIn t o xs)

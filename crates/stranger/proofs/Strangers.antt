@@ -29,7 +29,7 @@ pub record SameSeen (t : List ℕ) (o : ℕ) (x y : Entry) : Type 0 where
   pub state : SameView t o (x .state) (y .state)
   pub words : ownWords o (x .words) ≡ ownWords o (y .words)
 
-empty : {e : ℕ} {es : List ℕ} → _≡_ {A = List ℕ} [] (e ∷ es) → ⊥
+pub empty : {e : ℕ} {es : List ℕ} → _≡_ {A = List ℕ} [] (e ∷ es) → ⊥
 empty z = let y : _≡_ {A = ℕ} 0 1 = cc in omega arith
 
 module _ (t : List ℕ) (h : accepted t ≡ true) (o : ℕ) where
@@ -49,7 +49,7 @@ module _ (t : List ℕ) (h : accepted t ≡ true) (o : ℕ) where
       (λ e. clash (rw (tick-owner t (x .event) (taken f) (eqb-true _ _ (unfold ticks in e))) at k) (platform-known o))
       (λ e. e)
 
-  kept-same : (s₁ s₂ : List ℕ) (x y : Entry) → Follows t s₁ x → Follows t s₂ y → x .event ≡ y .event → strangersEntry o x ≡ false → SameView t o s₁ s₂
+  pub kept-same : (s₁ s₂ : List ℕ) (x y : Entry) → Follows t s₁ x → Follows t s₂ y → x .event ≡ y .event → strangersEntry o x ≡ false → SameView t o s₁ s₂
       → Agree (metBy t o x) (metBy t o y) → SameSeen t o x y
   unfolding strangersEntry
   kept-same s₁ s₂ x y f g e k v agree =

@@ -8,11 +8,10 @@ use Rattle.rulebook.specs.Words.{word, inField}
 use Rattle.rulebook.specs.Table.{networkPort, eTicks, sourcePort, timeout, itemAsk}
 use Rattle.rulebook.specs.State.{sourceIndex, definedOf, valueOf, remainingOf, askedFull, stateCheck, stateFull, stateRecover}
 use Rattle.rulebook.specs.State.{statusNone, statusPending, statusValidated, statusExpired}
-use Rattle.rulebook.specs.Lists.{networkIn}
+use Rattle.rulebook.specs.Lists.{networkIn, traceKind, traceA, traceB}
 use Rattle.rulebook.specs.Events.{eventKind, eventIndex, eventTick, eventWakeup, eventValid, eventBusOff, eventClear, eventHeard}
 use Rattle.rulebook.specs.Events.{statusIn, shown, takes, counterPlusOne, wait, listens}
 use Rattle.stranger.specs.Logs.{Entry, stateAfter}
-use Rattle.stranger.specs.View.{traceKind, traceA, traceB}
 
 unfoldable pub ticks : Entry → Bool
 ticks x = eqb (eventKind (x .event)) eventTick

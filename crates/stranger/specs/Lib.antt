@@ -6,3 +6,5 @@ pub mod Demand
 pub mod Statements
 pub mod Failing
 pub mod Heard
+pub mod Nothing
+pub mod Differ

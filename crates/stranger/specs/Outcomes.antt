@@ -10,8 +10,8 @@ use lib.Dec.{eqb}
 use Rattle.rulebook.specs.Words.{word}
 use Rattle.rulebook.specs.Table.{edition, itemCall, stranger}
 use Rattle.rulebook.specs.Step.{heeded}
+use Rattle.rulebook.specs.Lists.{traceKind, traceOwner}
 use Rattle.stranger.specs.Logs.{Entry, logFrom, strangersEntry, struckOut}
-use Rattle.stranger.specs.View.{traceKind, traceOwner}
 
 -- the word of an outside call
 unfoldable pub calls : ℕ → Bool

@@ -6,9 +6,10 @@ use mathlib.Core.Logic.{_⊎_}
 use mathlib.Core.List.{List, [], _∷_}
 use Prim.Native.Nat.{ℕ, zero, suc}
 use lib.ListN.{length}
-use Rattle.rulebook.specs.Words.{word, field}
+use Rattle.rulebook.specs.Words.{word}
 use Rattle.rulebook.specs.Table.{networkOwner, itemAsk, platform, stranger}
 use Rattle.rulebook.specs.State.{stateLength, thing, ownerOf}
+use Rattle.rulebook.specs.Lists.{traceKind, traceOwner, traceA}
 use Rattle.stranger.specs.Logs.{Entry, strangersEntry}
 
 -- State words. A word's owner is that of its port, rule, network or source.
@@ -30,21 +31,8 @@ visibleFrom t o s i (suc n) =
 unfoldable pub visibleWords : List ℕ → ℕ → List ℕ → List ℕ
 visibleWords t o s = visibleFrom t o s 0 (stateLength t)
 
--- Trace words: kind, owner of the list that holds it, a, b.
+-- Trace words: those of o and of the platform together, in order.
 
-abbrev pub traceKind : ℕ → ℕ
-traceKind w = field 0 4 w
-
-abbrev pub traceOwner : ℕ → ℕ
-traceOwner w = field 4 4 w
-
-abbrev pub traceA : ℕ → ℕ
-traceA w = field 8 8 w
-
-abbrev pub traceB : ℕ → ℕ
-traceB w = field 16 16 w
-
--- the trace words of o and of the platform together, in order
 unfoldable pub ownWords : ℕ → List ℕ → List ℕ
 ownWords o [] = []
 ownWords o (w ∷ ws) = elim (stranger o (traceOwner w)) [ true ↦ ownWords o ws | false ↦ w ∷ ownWords o ws ]
