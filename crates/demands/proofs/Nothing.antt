@@ -73,7 +73,8 @@ module _ (t : List ℕ) (h : accepted t ≡ true) (o : ℕ) where
       let to = play-state t s w es k n m v u w′ p in
       let there : Fits t u = rw to at (log-fits t h s (logFrom t s (take n es)) log fit) in
       log-ran t h o s (logFrom t s (take n es)) fit log
-      (rw to (ended-ran u k (getD es n 0) ys there (λ four. a .refused (stands t s h fit) (λ z. omega arith) (λ z. omega arith) .1) (sent-ran u ys there later)))
+      (rw to
+      (ended-ran u k (getD es n 0) ys there (λ four. a .refused (stands t s h fit) (λ z. omega arith) (λ z. omega arith) .1) (sent-ran u ys there later)))
 
 -- What was sent, and then more, from the state that it left.
 
@@ -145,12 +146,15 @@ module _ (t : List ℕ) (h : accepted t ≡ true) where
     file-ran o = rw append-nil at (log-ran t h o (fresh t) (logFrom t (fresh t) es) (fresh-fits t h) (whole .0) runs.none)
 
     file-stands : refusedState t s′ ≡ 0
-    file-stands = rw (whole .1) at (stands t (stateAfter (fresh t) (logFrom t (fresh t) es)) h (log-fits t h (fresh t) (logFrom t (fresh t) es) (whole .0) (fresh-fits t h)))
+    file-stands =
+        let log = logFrom t (fresh t) es in
+        rw (whole .1) at (stands t (stateAfter (fresh t) log) h (log-fits t h (fresh t) log (whole .0) (fresh-fits t h)))
 
   files-same : (o : ℕ) (es fs : List ℕ) → kept o es ≡ kept o fs → {n v m u : ℕ} {s₁ ws₁ s₂ ws₂ : List ℕ} → Resumed t (fresh t) es 0 n v s₁ ws₁
       → Resumed t (fresh t) fs 0 m u s₂ ws₂ → SameOwn t o s₁ ws₁ s₂ ws₂
   files-same o es fs e r q =
-      let ends = nothing-of-strangers t h (λ w xs. Ran t w (fresh t) xs) (λ w xs x. x) .ends o _ _ (file-ran es r o) (file-ran fs q o) (played-share t o (fresh t) es fs e) in
+      let runs-same = nothing-of-strangers t h (λ w xs. Ran t w (fresh t) xs) (λ w xs x. x) in
+      let ends = runs-same .ends o _ _ (file-ran es r o) (file-ran fs q o) (played-share t o (fresh t) es fs e) in
       rw (entries-taken (logFrom t (fresh t) es), entries-taken (logFrom t (fresh t) fs), whole es r .1, whole es r .2, whole fs q .1, whole fs q .2) at ends
 
   nothing-after : NothingAfter t (fresh t)

@@ -60,4 +60,12 @@ module _ (o : ℕ) (t s ws out : List ℕ) (k n : ℕ) (out′ : List ℕ) (p : 
       (λ is. let y : 9 ≡ 11 = rw is at (sym (p .answer) ∙ e) in omega arith)
 
   pub of-panel : OfPanel o t s ws out k n out′
-  of-panel = record { answered = panel-answered; lines = laid-bytes p; count = laid-count p; behind = laid-behind p; enough = always-enough; alike = prints-alike p }
+  of-panel =
+      record {
+        answered = panel-answered;
+        lines = laid-bytes p;
+        count = laid-count p;
+        behind = laid-behind p;
+        enough = always-enough;
+        alike = prints-alike p;
+      }

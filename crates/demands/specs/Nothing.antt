@@ -24,7 +24,9 @@ pub record NothingAfter (t s : List ℕ) : Type 0 where
       (λ x y. SamePanels t o (x .entry .state) (x .entry .words) (y .entry .state) (y .entry .words))
   -- "In play the statement covers sequences that run to the end": two files of events that agree in the shared ones, each played from s, resumed at
   -- "trace full" with whatever traces, until all of it is taken. In play all calls are good, so nothing is asked of outcomes.
-  pub plays : (o : ℕ) (es fs : List ℕ) → kept o es ≡ kept o fs → {n v m u : ℕ} {s₁ ws₁ s₂ ws₂ : List ℕ} → Resumed t s es 0 n v s₁ ws₁ → Resumed t s fs 0 m u s₂ ws₂
+  pub plays : (o : ℕ) (es fs : List ℕ) → kept o es ≡ kept o fs → {n v m u : ℕ} {s₁ ws₁ s₂ ws₂ : List ℕ}
+      → Resumed t s es 0 n v s₁ ws₁
+      → Resumed t s fs 0 m u s₂ ws₂
       → SameOwn t o s₁ ws₁ s₂ ws₂ × SamePanels t o s₁ ws₁ s₂ ws₂
 
 abbrev pub NothingOfCalls : Type 0

@@ -169,7 +169,8 @@ shared-too : (o : ℕ) (x : Sending) (xs : List Sending) → isShared o (x .entr
 unfolding shared
 shared-too o x xs k = rw (k, shared)
 
-joined-first : (o : ℕ) (x : Sending) (xs : List Sending) → ownWords o (joined (entries (x ∷ xs))) ≡ ownWords o (x .entry .words) ++ ownWords o (joined (entries xs))
+joined-first : (o : ℕ) (x : Sending) (xs : List Sending)
+    → ownWords o (joined (entries (x ∷ xs))) ≡ ownWords o (x .entry .words) ++ ownWords o (joined (entries xs))
 unfolding joined entries
 joined-first o x xs = own-both o (x .entry .words) (joined (entries xs))
 
@@ -224,7 +225,8 @@ module _ (t : List ℕ) (h : accepted t ≡ true) (o : ℕ) where
       (λ k. split (isShared o d₂)
       (λ j. let heads : d ∷ eventsOf (shared o later) ≡ d₂ ∷ eventsOf (shared o later₂) = rw (k, j, shared) at e in
       let is : d ≡ d₂ = cc in
-      let agree : edition t ≡ 2 → Agree (metBy t o (x .entry)) (metBy t o (y .entry)) × AgreeEach (metByEach t o (shared o later)) (metByEach t o (shared o later₂)) =
+      let agree : edition t ≡ 2 → Agree (metBy t o (x .entry)) (metBy t o (y .entry)) ×
+      AgreeEach (metByEach t o (shared o later)) (metByEach t o (shared o later₂)) =
       λ two. rw (k, j, shared) at (a two) in
       let same : Kept t o x y = rw is (shared-same t h o s₁ s₂ fit₁ fit₂ v d₂ room room₂ os os₂ j (l k) (l₂ j) (λ two. rw is at (agree two .0))) in
       pass-both t o x y k j same

@@ -39,7 +39,8 @@ module _ (t : List ℕ) (h : accepted t ≡ true) (o : ℕ) where
       → Ran t o (x .state) xs → Ran t o s (record { answer = k; entry = x } ∷ xs)
   unfolding sending
   by-step s room k x {xs} lends is later =
-      let run : Ran t o s (sending t s room (x .outcomes) (x .event) ∷ xs) = runs.sent {s = s} room (x .outcomes) (x .event) {xs = xs} lends (rw (is .1) later) in
+      let run : Ran t o s (sending t s room (x .outcomes) (x .event) ∷ xs) =
+      runs.sent {s = s} room (x .outcomes) (x .event) {xs = xs} lends (rw (is .1) later) in
       subst (λ (y : Sending). Ran t o s (y ∷ xs)) (made-of k x (step t s room (x .outcomes) (x .event)) (is .0) (is .1) (is .2)) run
 
   pub sent-taken : (s : List ℕ) (x : Entry) {xs : List Sending} → Fits t s → Follows t s x → Ran t o (x .state) xs
@@ -55,7 +56,8 @@ module _ (t : List ℕ) (h : accepted t ≡ true) (o : ℕ) where
   unfolding outcomesKnown all
   sent-refused s e fit n later =
       let is = step-refused t s (bound t) [] e h fit (omega arith) n in
-      by-step s (bound t) (refusedEvent t [] e) (record { event = e; outcomes = []; state = s; words = [] }) (λ k. record { enough = omega arith; known = refl })
+      by-step s (bound t) (refusedEvent t [] e) (record { event = e; outcomes = []; state = s; words = [] })
+      (λ k. record { enough = omega arith; known = refl })
       (ap (λ (r : Result). r .answer) is, ap (λ (r : Result). r .state) is, ap (λ (r : Result). r .words) is) later
 
   -- a log, and what was sent behind it
