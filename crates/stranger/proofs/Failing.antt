@@ -27,13 +27,27 @@ use Rattle.rulebook.specs.Step.{heeded, step}
 use Rattle.rulebook.specs.Marked.{same, gives}
 use Rattle.stranger.specs.Outcomes.{calls, behind, metAt, met}
 use Rattle.stranger.specs.Failing.{lending, afterAll, eaters, eatersFresh, eaten, bothOwners, bothFresh, withStranger, struck, bothFail}
-use Rattle.stranger.specs.Nothing.{Sending, isShared, shared, eventsOf, sending, Ran, ShareAllBut}
+use Rattle.stranger.specs.Nothing.{Sending, isShared, shared, eventsOf, metByEach, sending, Ran, ShareAllBut}
 use Rattle.stranger.specs.Nothing as runs
 use Rattle.stranger.specs.Differ.{three, tickBehind, run, answersOf, lastWords, withTaken, withRefused, mayDiffer, platformNeeded}
-use Rattle.stranger.specs.Differ.{ownAndTicks, CountsToo, PositionsToo, PlatformFree, OutcomesFree}
+use Rattle.stranger.specs.Differ.{bothFailing, bothFailingStruck, ownAndTicks, CountsToo, PositionsToo, PlatformFree, OutcomesFree}
 use Rattle.stranger.proofs.Strangers.{empty}
 
-pub computed : (eaten && bothFail && mayDiffer && platformNeeded) ≡ true
+-- a run as Differ computes it
+ran-behind : (t : List ℕ) (o : ℕ) (s es os : List ℕ) → outcomesKnown os ≡ true → Ran t o s (tickBehind t s es os)
+unfolding tickBehind outcomesKnown all
+ran-behind t o s [] os known = runs.sent (bound t) os 0 (λ k. record { enough = omega arith; known = known }) runs.none
+ran-behind t o s (e ∷ es) os known =
+    runs.sent (bound t) [] e (λ k. record { enough = omega arith; known = refl }) (ran-behind t o (step t s (bound t) [] e .state) es os known)
+
+pub record Computed : Type 0 where
+  pub runs : (eaten && bothFail && mayDiffer && platformNeeded) ≡ true
+  -- Q-14's condition is met where calls of both owners fail, with strangers' events that differ: what was met in the three shared events agrees
+  pub mayShare : ShareAllBut bothOwners 1 bothFailing bothFailingStruck
+  -- the stronger statements are false, each by two runs
+  pub broken : (CountsToo → ⊥) × (PositionsToo → ⊥) × (PlatformFree → ⊥) × (OutcomesFree → ⊥)
+
+pub computed : Computed
 unfolding digit first all any sum listed each until part abort aSize byItem stranger operator expressionNests expressionWithin expressionMentions
     mentions condition expressionHolds holds settled skipsRight expressionVisited visited hasHeader knownEdition countsInside exactLength portFields
     expressionFields itemFields ownFields
@@ -47,31 +61,13 @@ unfolding digit first all any sum listed each until part abort aSize byItem stra
     arbitrateMarked tick changed happen wellFormed named present suited known sentByOwner goodOrFailed outcomesKnown firstFault conclude heeded
     step same gives calls behind metAt met lending afterAll bothOwners bothFresh withStranger struck bothFail eaters eatersFresh eaten
     own sending isShared shared eventsOf three tickBehind run answersOf lastWords withTaken withRefused mayDiffer platformNeeded
-computed = refl
-
--- a run as Differ computes it
-ran-behind : (t : List ℕ) (o : ℕ) (s es os : List ℕ) → outcomesKnown os ≡ true → Ran t o s (tickBehind t s es os)
-unfolding tickBehind outcomesKnown all
-ran-behind t o s [] os known = runs.sent (bound t) os 0 (λ k. record { enough = omega arith; known = known }) runs.none
-ran-behind t o s (e ∷ es) os known =
-    runs.sent (bound t) [] e (λ k. record { enough = omega arith; known = refl }) (ran-behind t o (step t s (bound t) [] e .state) es os known)
-
--- The stronger statements, each with the two runs that break it.
-pub broken : (CountsToo → ⊥) × (PositionsToo → ⊥) × (PlatformFree → ⊥) × (OutcomesFree → ⊥)
-unfolding digit first all any sum listed each until part abort aSize byItem stranger operator expressionNests expressionWithin expressionMentions
-    mentions condition expressionHolds holds settled skipsRight expressionVisited visited hasHeader knownEdition countsInside exactLength portFields
-    expressionFields itemFields ownFields
-    networkHas held mayShow expressionNames listOrNone itemNames names itemNests listNests listWithin nesting strangersPort ruleOwned itemOwned owners
-    ruleReaches itemReaches listReaches reachesWithin reachedBy reached itemCost listCost costWithin bound affordable breaks lowest orNext firstOf
-    check thing ownerOf packPort packRule packNetwork portFits ruleFits networkFits thingFits fitsAt fits freshPort freshThing freshAt fresh
-    freshAnswer freshState traceWord setPort setNetwork effect unread act stops valueIn undefinedIn unready resultIn visitsIn choice choiceIn setResult runItem
-    runItems runList unmarkPort unmarkPorts evaluated storeResult storeResults visitsBy ruleVisits chooses chosen ofPriority orderBelow order
-    runIf runChosen decide
-    arbitrate only request shown moveNetwork takes wait offBus busOff countedNetwork tickedNetwork tickNetwork tickTimer tickThings markedIn
-    arbitrateMarked tick changed happen wellFormed named present suited known sentByOwner goodOrFailed outcomesKnown firstFault conclude heeded
-    step same gives calls behind metAt met lending afterAll bothOwners bothFresh withStranger struck bothFail eaters eatersFresh eaten
-    own sending isShared shared eventsOf three tickBehind run answersOf lastWords withTaken withRefused mayDiffer platformNeeded ownAndTicks
-broken = (counts, positions, platform, outcomes)
+    metByEach bothFailing bothFailingStruck ownAndTicks
+computed =
+    record {
+      runs = refl;
+      mayShare = record { events = refl; outcomes = λ two. (tt, (tt, ((refl, (refl, tt)), tt))) };
+      broken = (counts, positions, platform, outcomes);
+    }
   where
     ran : (es : List ℕ) → Ran three 1 (fresh three) (run es)
     ran es = ran-behind three 1 (fresh three) es [] refl

@@ -13,7 +13,7 @@ use Rattle.rulebook.specs.Lists.{traceOwner, own}
 use Rattle.rulebook.specs.Events.{eventOwner}
 use Rattle.rulebook.specs.Step.{step}
 use Rattle.rulebook.specs.Marked.{same}
-use Rattle.stranger.specs.Failing.{eaters}
+use Rattle.stranger.specs.Failing.{eaters, bothOwners}
 use Rattle.stranger.specs.Nothing.{Sending, sending, shared, eventsOf, Ran, SameAfter, AfterEach, AfterEachShared}
 
 -- A port of the platform's, of operator 1's and of operator 2's, each deferred, and "it equals 5" of each. Operator 1 has a rule on the platform's
@@ -69,6 +69,14 @@ unfoldable pub platformNeeded : Bool
 platformNeeded =
     same (own 1 (lastWords [] (run (0x10000500 ∷ [])))) (0xF1000000 ∷ 0x0100000A ∷ [])
     && same (own 1 (lastWords [] (run []))) []
+
+-- What is asked of outcomes can be met where calls fail: Failing's table of edition 2, the tick that lends operator 2's call a good outcome and the platform's
+-- and operator 1's a failed one, beside the tick that lends the two failed ones, operator 2's request struck out and a malformed word of its in the place.
+unfoldable pub bothFailing : List Sending
+bothFailing = tickBehind bothOwners (fresh bothOwners) (0x10000500 ∷ 0x11010500 ∷ 0x12020500 ∷ []) (0 ∷ 1 ∷ 1 ∷ [])
+
+unfoldable pub bothFailingStruck : List Sending
+bothFailingStruck = tickBehind bothOwners (fresh bothOwners) (0x10000500 ∷ 0x92000000 ∷ 0x11010500 ∷ []) (1 ∷ 1 ∷ [])
 
 -- Stronger than Q-14, and false (proofs/Failing): of the total counts; of the positions of operator 1's words; with the platform's events free as
 -- well, ticks and operator 1's own alone shared; with nothing asked of outcomes.
