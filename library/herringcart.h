@@ -22,6 +22,8 @@
  * 5.1 changes no call, number, state or trace: of the answers 7, which was never given, is not one any more.
  * 5.2 has one call more, herringcart_panel, with HERRINGCART_NO_OPERATOR, HERRINGCART_NO_ROOM and HERRINGCART_PANEL_BYTES. No call
  * that was there before differs.
+ * 5.3 changes no call, number, state or trace. What is promised of them is more: for one operator they go by its own events, the platform's and
+ * the ticks alone, whatever other operators send (docs/CHANGES.md).
  * docs/CHANGES.md says what the versions before changed; since 4.0 an event call lends outcomes.
  *
  * The linker does not look at arguments. A program that was compiled with the header of another version may link with this
@@ -89,9 +91,9 @@
 
 /* The version of this header and of the archive beside it. docs/CHANGES.md says what each version changes. The number is
  * what herringcart_version of that archive gives. */
-#define HERRINGCART_VERSION "5.2"
+#define HERRINGCART_VERSION "5.3"
 #define HERRINGCART_VERSION_MAJOR 5
-#define HERRINGCART_VERSION_MINOR 2
+#define HERRINGCART_VERSION_MINOR 3
 #define HERRINGCART_VERSION_NUMBER (UINT32_C(65536) * HERRINGCART_VERSION_MAJOR + HERRINGCART_VERSION_MINOR)
 
 #ifdef __cplusplus

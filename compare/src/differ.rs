@@ -1,10 +1,12 @@
 //! One case through both sides, every answer and every lent word and byte compared.
 
+pub mod pairs;
 pub mod panels;
 mod plays;
 
 use std::fmt;
 
+use herringcart::Answer;
 use second::cases::Case;
 use second::program::WHOLE_TREE;
 use second::state::state_length;
@@ -87,6 +89,18 @@ impl<U: Unit> Lent<U> {
         let end = self.0.len() - GUARDS;
         &mut self.0[GUARDS..end]
     }
+
+    /// So many of the first, or all where they are fewer: a side may count wrongly.
+    fn front(&mut self, count: usize) -> Vec<U> {
+        let words = self.words();
+        words[..count.min(words.len())].to_vec()
+    }
+}
+
+/// What the proved side gave in a call, and whether the second program gave the same.
+struct Tried<G> {
+    given: G,
+    alike: Result<(), Difference>,
 }
 
 /// A number beside words; one that is no word shows as the largest.
@@ -148,12 +162,10 @@ pub fn compare(subject: &impl Subject, case: &Case) -> Result<Visited, Differenc
         let what = |part: &str| format!("event {number} ({event:08X}), {part}");
         let (room, outcomes) = (case.room, case.lent(number));
         let called = Called { table: table.words(), room, outcomes, event };
-        let visits = compare_event(subject, called, &mut states, &what)?;
-        // Two sides that are wrong alike would else not show.
-        let within = visits.min(visited.bound);
-        let bounded = || what("visits, which are at most 127 (R + B)");
-        same(bounded, &[as_word(visits as usize)], &[as_word(within as usize)])?;
-        visited.most = visited.most.max(visits);
+        let Tried { given, alike } = try_event(subject, called, &mut states, &what);
+        alike?;
+        within_bound(given.visits, visited.bound, &what)?;
+        visited.most = visited.most.max(given.visits);
         same_lent(&|| what("table"), &table, &untouched)?;
     }
     plays::compare_plays(subject, table.words(), case)?;
@@ -200,31 +212,51 @@ struct Called<'a> {
     event: u32,
 }
 
-/// One event; the states, the proved side's first, are passed on. Gives its visits.
-fn compare_event(
+/// What an event's call gave.
+struct Taken {
+    answer: Answer,
+    /// The trace words that the count covers.
+    words: Vec<u32>,
+    /// By the second program.
+    visits: u64,
+}
+
+/// One event; the states, the proved side's first, are passed on.
+fn try_event(
     subject: &impl Subject,
     Called { table, room, outcomes, event }: Called,
     [state, judged]: &mut [Lent; 2],
     what: &dyn Fn(&str) -> String,
-) -> Result<u64, Difference> {
+) -> Tried<Taken> {
     let mut trace = Lent::filled(room, TRACE_FILL);
     let mut expected = trace.clone();
     let untouched = Lent::of(outcomes);
     let mut lent = untouched.clone();
     let proved = subject.step(table, state.words(), trace.words(), lent.words(), event);
     let second = second::step(table, judged.words(), expected.words(), event, outcomes);
-    same(
-        || what("answer, count"),
-        &[proved.number, as_word(proved.count)],
-        &[second.answer, as_word(second.count)],
-    )?;
-    same(
-        || what("visits"),
-        &visits_words(subject, proved.visits.into()),
-        &visits_words(subject, second.visits),
-    )?;
-    same_lent(&|| what("state"), state, judged)?;
-    same_lent(&|| what("trace"), &trace, &expected)?;
-    same_lent(&|| what("outcomes"), &lent, &untouched)?;
-    Ok(second.visits)
+    let compared = || {
+        same(
+            || what("answer, count"),
+            &[proved.number, as_word(proved.count)],
+            &[second.answer, as_word(second.count)],
+        )?;
+        same(
+            || what("visits"),
+            &visits_words(subject, proved.visits.into()),
+            &visits_words(subject, second.visits),
+        )?;
+        same_lent(&|| what("state"), state, judged)?;
+        same_lent(&|| what("trace"), &trace, &expected)?;
+        same_lent(&|| what("outcomes"), &lent, &untouched)
+    };
+    let alike = compared();
+    let words = trace.front(proved.count);
+    Tried { given: Taken { answer: proved, words, visits: second.visits }, alike }
+}
+
+/// Q-10's bound; two sides that are wrong alike would else not show.
+fn within_bound(visits: u64, bound: u64, what: &dyn Fn(&str) -> String) -> Result<(), Difference> {
+    let within = visits.min(bound);
+    let bounded = || what("visits, which are at most 127 (R + B)");
+    same(bounded, &[as_word(visits as usize)], &[as_word(within as usize)])
 }

@@ -8,6 +8,7 @@ use crate::differ::panels::Shown;
 use crate::differ::{Words, bound, compare};
 use crate::nearest::Nearest;
 use crate::number;
+use crate::rows::Of;
 use crate::shrink::{smallest_difference, smallest_panel};
 use crate::subject::{Proved, Subject};
 
@@ -31,12 +32,9 @@ pub fn cases(pairs: &[&str]) -> Result<(), String> {
         }
         cases += count;
     }
-    println!("cases  coverage\n{coverage}");
+    println!("cases  coverage\n{}", Of::Cases.table(&coverage));
     println!("{cases} cases, {events} events: no difference\n{nearest}");
-    match &coverage.missing()[..] {
-        [] => Ok(()),
-        missing => Err(missing.iter().map(|row| format!("no case met: {row}\n")).collect()),
-    }
+    Of::Cases.all_met(&coverage)
 }
 
 /// A case that differs, made as small as it goes, with what each side says. Where a panel differs, that is told without its case.

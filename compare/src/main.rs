@@ -8,8 +8,10 @@ mod hunt;
 mod kind;
 mod long;
 mod nearest;
+mod pairs;
 mod panel;
 mod programs;
+mod rows;
 mod shrink;
 mod subject;
 mod yardstick;
@@ -17,6 +19,7 @@ mod yardstick;
 use std::process::ExitCode;
 
 const USAGE: &str = "usage: compare cases SEED COUNT [SEED COUNT ...]
+       compare pairs SEED COUNT [SEED COUNT ...]
        compare fixed
        compare hunt SECONDS
        compare run TABLE EVENTS [OUTCOMES]
@@ -52,6 +55,7 @@ fn main() -> ExitCode {
     end_quietly_in_a_closed_pipe();
     let done = match args[..] {
         ["cases", ref pairs @ ..] if !pairs.is_empty() => generated::cases(pairs),
+        ["pairs", ref pairs @ ..] if !pairs.is_empty() => pairs::pairs(pairs),
         ["fixed"] => found::fixed(),
         ["hunt", seconds] => hunt::hunt(seconds),
         ["run", table, events] => programs::run(table, events, None),

@@ -127,10 +127,18 @@ pub fn fresh(table: &[u32], state: &mut [u32]) -> u32 {
     let Ok((table, _)) = accept(table) else {
         return 1;
     };
-    let zeroes = vec![0; state.len()];
-    let Some(mut made) = State::of(&table, &zeroes) else {
+    let made = fresh_words(&table);
+    if made.len() != state.len() {
         return 2;
-    };
+    }
+    state.copy_from_slice(&made);
+    0
+}
+
+/// A fresh state's words.
+pub fn fresh_words(table: &Table) -> Vec<u32> {
+    let zeroes = vec![0; state_length(table)];
+    let mut made = State { table, words: zeroes };
     for number in 0..table.count(Section::Ports) {
         let port = table.port(number);
         let defined = (port.kind != port::MODE || port.has_initial == 1) as u32;
@@ -139,6 +147,5 @@ pub fn fresh(table: &[u32], state: &mut [u32]) -> u32 {
     for number in 0..table.count(Section::Rules) {
         made.set_rule(number, RuleState { last: table.rule(number).first, zero: 0 });
     }
-    state.copy_from_slice(&made.words);
-    0
+    made.words
 }

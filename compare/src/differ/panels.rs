@@ -7,7 +7,7 @@ use second::cases::Case;
 use second::stream::{Asked, PANEL_FILL, TRACE_FILL, panels_asked};
 use second::testing::AskedPanel;
 
-use super::{Difference, Lent, as_word, same, same_lent};
+use super::{Difference, Lent, Tried, as_word, same, same_lent};
 use crate::subject::Subject;
 
 /// What a panel is asked with.
@@ -59,11 +59,11 @@ pub fn compare_panels(subject: &impl Subject, case: &Case) -> Result<(), Differe
 
 /// One panel by both sides; a difference says which.
 pub fn compare_panel(subject: &impl Subject, shown: &Shown) -> Result<(), Difference> {
-    let differs = |difference| Difference { panel: Some(Box::new(shown.clone())), ..difference };
-    laid_alike(subject, shown).map_err(differs)
+    try_panel(subject, shown).alike
 }
 
-fn laid_alike(subject: &impl Subject, shown: &Shown) -> Result<(), Difference> {
+/// As `compare_panel`, with the bytes that the proved side laid.
+pub(super) fn try_panel(subject: &impl Subject, shown: &Shown) -> Tried<Vec<u8>> {
     let Shown { operator, table, state, words, room } = shown;
     let mut lent = [table, state, words].map(|words| Lent::of(words));
     let untouched = lent.clone();
@@ -72,13 +72,19 @@ fn laid_alike(subject: &impl Subject, shown: &Shown) -> Result<(), Difference> {
     let proved = subject.panel(*operator, t.words(), s.words(), w.words(), lines.words());
     let second = second::panel(*operator, table, state, words, expected.words());
     let what = |part: &str| format!("panel of operator {operator}, {part}");
-    same(
-        || what("answer, bytes"),
-        &[proved.number, as_word(proved.bytes)],
-        &[second.answer, as_word(second.bytes)],
-    )?;
-    same_lent(&|| what("lines"), &lines, &expected)?;
-    let names = ["table", "state", "trace words"];
-    let mut unchanged = names.into_iter().zip(lent.iter().zip(&untouched));
-    unchanged.try_for_each(|(name, (lent, untouched))| same_lent(&|| what(name), lent, untouched))
+    let compared = || {
+        same(
+            || what("answer, bytes"),
+            &[proved.number, as_word(proved.bytes)],
+            &[second.answer, as_word(second.bytes)],
+        )?;
+        same_lent(&|| what("lines"), &lines, &expected)?;
+        let names = ["table", "state", "trace words"];
+        let mut unchanged = names.into_iter().zip(lent.iter().zip(&untouched));
+        unchanged
+            .try_for_each(|(name, (lent, untouched))| same_lent(&|| what(name), lent, untouched))
+    };
+    let differs = |difference| Difference { panel: Some(Box::new(shown.clone())), ..difference };
+    let alike = compared().map_err(differs);
+    Tried { given: lines.front(proved.bytes), alike }
 }

@@ -5,7 +5,7 @@ use herringcart::{End, Played};
 use second::cases::Case;
 use second::stream::{PLAYED, TRACE_FILL, play_rooms};
 
-use super::{Difference, Lent, as_word, same, same_lent, visits_words};
+use super::{Difference, Lent, Tried, as_word, same, same_lent, visits_words};
 use crate::subject::Subject;
 
 /// How many of a case's events its plays are cut at, unless it is one of those that are cut at every event; each cut is two plays.
@@ -71,20 +71,35 @@ impl<S: Subject> Plays<'_, S> {
         [Lent::of(&self.case.state), Lent::of(&self.case.state)]
     }
 
-    /// One play by both sides; the states, the proved side's first, are passed on.
     fn play(
         &self,
-        [state, judged]: &mut [Lent; 2],
+        states: &mut [Lent; 2],
         room: usize,
         events: &[u32],
         name: &str,
     ) -> Result<Played, Difference> {
-        let mut trace = Lent::filled(room, TRACE_FILL);
-        let mut expected = trace.clone();
-        let proved = self.subject.play(self.table, state.words(), trace.words(), events);
-        let second = second::play(self.table, judged.words(), expected.words(), events);
         let number = events.len();
         let what = |part: &str| format!("{number} events played in {room} words, {name}, {part}");
+        let Tried { given, alike } =
+            try_play(self.subject, self.table, states, room, events, &what);
+        alike.map(|()| given.0)
+    }
+}
+
+/// One play by both sides, with the words that it wrote; the states, the proved side's first, are passed on.
+pub(super) fn try_play(
+    subject: &impl Subject,
+    table: &[u32],
+    [state, judged]: &mut [Lent; 2],
+    room: usize,
+    events: &[u32],
+    what: &dyn Fn(&str) -> String,
+) -> Tried<(Played, Vec<u32>)> {
+    let mut trace = Lent::filled(room, TRACE_FILL);
+    let mut expected = trace.clone();
+    let proved = subject.play(table, state.words(), trace.words(), events);
+    let second = second::play(table, judged.words(), expected.words(), events);
+    let compared = || {
         same(
             || what("answer, taken, count"),
             &[proved.end.number(), as_word(proved.taken), as_word(proved.count)],
@@ -92,11 +107,12 @@ impl<S: Subject> Plays<'_, S> {
         )?;
         same(
             || what("visits"),
-            &visits_words(self.subject, proved.visits),
-            &visits_words(self.subject, second.visits),
+            &visits_words(subject, proved.visits),
+            &visits_words(subject, second.visits),
         )?;
         same_lent(&|| what("state"), state, judged)?;
-        same_lent(&|| what("trace"), &trace, &expected)?;
-        Ok(proved)
-    }
+        same_lent(&|| what("trace"), &trace, &expected)
+    };
+    let alike = compared();
+    Tried { given: (proved, trace.front(proved.count)), alike }
 }

@@ -34,7 +34,7 @@ fn fit_number(fit: Fit) -> u32
 pub extern "C" fn herringcart_version() -> u32
     ensures { λ r. ⌜ r ≡ version ⌝ }
 {
-    5 * 65536 + 2
+    5 * 65536 + 3
 }
 
 // Checks a table: gives its reason, 0 if it is accepted, and writes the place and B.

@@ -3,16 +3,16 @@ use Prim.Native.Nat.{ℕ, zero, suc, _+_, _<_}
 use mathlib.Core.Path.{_≡_, refl, sym, ap, _∙_}
 use mathlib.Core.Bool.{Bool, true, false, cond, not}
 use mathlib.Core.List.{List, [], _∷_, _++_}
-use native.Mathlib.Nat.{add-zero, zero-add}
+use native.Mathlib.Nat.{add-zero}
 use native.Mathlib.Omega.{arith}
 use lib.ListN.{length, take, drop}
-use lib.Seq.{take-append-seam, drop-append-seam}
 use lib.Dec.{ltb, eqb}
 use borrow.Author.Tests.{eqb-true}
 use Rattle.rulebook.specs.Words.{word}
 use Rattle.rulebook.specs.Lists.{traceOwner, own}
 use Rattle.rulebook.specs.Step.{refusedState}
 use Rattle.text.specs.Puts.{lay}
+use Rattle.text.proofs.Lay.{front-laid, behind-laid}
 use Rattle.panel.specs.Printed.{byPart, count, owner, shownWord, label, numeral, line, lineAt, lines, partLines, panel, answer}
 use Rattle.panel.specs.Printed.{thePorts, theNetworks, theSources, theTrace, operator}
 use Rattle.panel.specs.Promises.{ShowsIn}
@@ -113,14 +113,10 @@ module _ {o : ℕ} {t s ws out : List ℕ} {k n : ℕ} {out′ : List ℕ} (h : 
   laid-all = rw (sym (h .answer) ∙ z) at (h .bytes)
 
   pub laid-bytes : take n out′ ≡ panel o t s ws
-  unfolding lay
-  laid-bytes = rw (laid-count, laid-all) (take-append-seam _ _)
+  laid-bytes = rw (laid-count, laid-all) (front-laid out (panel o t s ws))
 
   pub laid-behind : drop n out′ ≡ drop n out
-  unfolding lay
-  laid-behind =
-      let xs = panel o t s ws in
-      rw (laid-count, laid-all) (drop-append-seam xs (drop (0 + length xs) out) ∙ ap (λ (i : ℕ). drop i out) (zero-add (length xs)))
+  laid-behind = rw (laid-count, laid-all) (behind-laid out (panel o t s ws))
 
 -- the answer, where table and state stand
 answered : (o : ℕ) (t s ws : List ℕ) (room : ℕ) → refusedState t s ≡ 0

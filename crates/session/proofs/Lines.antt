@@ -5,14 +5,15 @@ use mathlib.Core.List.{List, _++_}
 use native.Mathlib.Nat.{zero-add}
 use native.Mathlib.Omega.{arith}
 use lib.ListN.{length, take, length-append}
-use lib.Seq.{take-take, take-all, length-take-le, take-append-seam}
+use lib.Seq.{take-take, take-all, length-take-le}
 use borrow.Author.Tests.{le-leb, lt-leb}
 use Rattle.rulebook.specs.Reasons.{verdict}
 use Rattle.text.specs.declared.output.Laid.{Laid}
 use Rattle.text.specs.Lines.{decimal, decimalLine, hexLines}
-use Rattle.text.specs.Puts.{Put, PutAt, PutWords, lay}
+use Rattle.text.specs.Puts.{Put, PutAt, PutWords}
 use Rattle.text.proofs.Digits.{length-hexes}
 use Rattle.text.proofs.Decimal.{decimal-one, length-decimal}
+use Rattle.text.proofs.Lay.{front-laid}
 use Rattle.text.proofs.Puts.{put-more, put-length, one-put, put-then}
 use Rattle.session.specs.Printed.{lines, reasonLines}
 use Rattle.session.specs.Promises.{PutLines}
@@ -30,10 +31,9 @@ put-lines room {out = out} h few p =
 
 -- what stands at the front then
 pub laid-front : (room : ℕ) {xs out : List ℕ} {n : ℕ} {o : List ℕ} → room ≤ length out → PutLines room xs out n o → take n o ≡ xs
-unfolding lay
-laid-front room {out = out} h put =
+laid-front room {xs} {out} h put =
     let fits = le-leb room (length out) h in
-    rw (rw fits at (put .bytes), rw fits at (put .count)) (take-append-seam _ _)
+    rw (rw fits at (put .bytes), rw fits at (put .count)) (front-laid out xs)
 
 -- the first `to` words, where there is room for their lines
 pub words-put : {out : List ℕ} {at : ℕ} {ws : List ℕ} {to : ℕ} {r : Laid} {after : List ℕ} → to ≤ length ws → at + 9 * to ≤ length out

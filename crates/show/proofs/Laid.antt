@@ -6,13 +6,14 @@ use mathlib.Core.List.{List, [], _∷_, _++_}
 use native.Mathlib.Nat.{zero-add, mod-eq-of-lt}
 use native.Mathlib.Omega.{arith}
 use lib.ListN.{length, take, length-append}
-use lib.Seq.{take-append-seam, length-take-le}
+use lib.Seq.{length-take-le}
 use Rattle.rulebook.specs.Marked.{same}
 use Rattle.laws.proofs.Facts.{facts}
 use Rattle.laws.proofs.Play.{stood-table}
 use Rattle.text.specs.Lines.{decimal}
-use Rattle.text.specs.Puts.{lay, Put, PutAt}
+use Rattle.text.specs.Puts.{Put, PutAt}
 use Rattle.text.proofs.Decimal.{decimal-within}
+use Rattle.text.proofs.Lay.{front-laid}
 use Rattle.text.proofs.Puts.{put-length, one-put, put-then}
 use Rattle.panel.specs.Printed.{panel}
 use Rattle.panel.proofs.Short.{panel-short}
@@ -43,8 +44,7 @@ panel-few {o} {t} {s} {ws} h =
 
 -- what was laid at the front stands there
 pub at-front : {xs out : List ℕ} {n : ℕ} {o : List ℕ} → PutAt xs out 0 n o → take n o ≡ xs
-unfolding lay
-at-front {xs} {out} p = let n = p .place ∙ zero-add (length xs) in rw (n, p .bytes) (take-append-seam xs _)
+at-front {xs} {out} p = let n = p .place ∙ zero-add (length xs) in rw (n, p .bytes) (front-laid out xs)
 
 -- Of two panels: no line has changed, or the one left takes the place of the one found.
 

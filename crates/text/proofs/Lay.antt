@@ -1,11 +1,11 @@
--- Bytes laid into others: none, one more at the back, more behind. Assumes nothing.
+-- Bytes laid into others: none, one more at the back, more behind; at the front. Assumes nothing.
 use Prim.Native.Nat.{ℕ, suc, _+_, _<_, _≤_}
-use mathlib.Core.Path.{_≡_, _∙_}
+use mathlib.Core.Path.{_≡_, ap, _∙_}
 use mathlib.Core.List.{List, [], _∷_, _++_, append-assoc, append-nil}
-use native.Mathlib.Nat.{add-zero}
+use native.Mathlib.Nat.{add-zero, zero-add}
 use native.Mathlib.Omega.{arith}
 use lib.ListN.{length, set, take, drop, length-append, length-set, length-drop, take-append-drop}
-use lib.Seq.{take-set-le, drop-set-lt, drop-cons, getD-set-same, length-take-le, take-at, drop-append-add, drop-drop}
+use lib.Seq.{take-set-le, drop-set-lt, drop-cons, getD-set-same, length-take-le, take-at, drop-append-add, drop-drop, take-append-seam, drop-append-seam}
 use Rattle.text.specs.Puts.{lay}
 
 pub lay-none : (out : List ℕ) (at : ℕ) → lay out at [] ≡ out
@@ -43,3 +43,13 @@ module _ (out : List ℕ) (at : ℕ) (xs : List ℕ) where
       ∙ drop-drop (length ys) (length (take at out ++ xs)) out)
       in
       rw (q, take-at (take at out ++ xs) (drop (at + length xs) out) (at + length xs) p, r) (simp append-assoc)
+
+-- what was laid at the front stands there, and all behind it as before
+
+pub front-laid : (out xs : List ℕ) → take (length xs) (lay out 0 xs) ≡ xs
+unfolding lay
+front-laid out xs = take-append-seam xs _
+
+pub behind-laid : (out xs : List ℕ) → drop (length xs) (lay out 0 xs) ≡ drop (length xs) out
+unfolding lay
+behind-laid out xs = drop-append-seam xs (drop (0 + length xs) out) ∙ ap (λ (i : ℕ). drop i out) (zero-add (length xs))

@@ -10,7 +10,7 @@ pub const SEVEN: u32 = 7;
 /// Few priorities, so that equal ones are common.
 pub const PRIORITIES: [u32; 5] = [0, 1, 1, 7, 255];
 
-#[derive(Clone, Debug)]
+#[derive(Clone, PartialEq, Eq, Debug)]
 pub struct Draft {
     pub edition: u32,
     pub ports: Vec<Port>,

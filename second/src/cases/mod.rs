@@ -1,18 +1,24 @@
 //! Generated cases: the same for the same seed, and what their making says of
 //! their outcome.
 
+pub mod agreement;
 pub mod cleared;
 pub mod draft;
 pub mod failing;
 pub mod heard;
+pub mod lent;
 pub mod levels;
+pub mod neighbours;
 pub mod numbers;
 pub mod outcomes;
+pub mod pairs;
 pub mod prng;
 pub mod refused;
+pub mod senders;
 pub mod sequences;
 pub mod states;
 pub mod tables;
+pub mod turned;
 pub mod unreached;
 pub mod visited;
 pub mod ways;

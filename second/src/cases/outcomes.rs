@@ -5,7 +5,7 @@ use super::prng::Prng;
 use crate::words::*;
 
 /// Words that are no outcomes.
-const ABOVE_1: [u32; 6] = [2, 3, 256, 0x0100_0001, 0x8000_0000, 0xFFFF_FFFF];
+pub const ABOVE_1: [u32; 6] = [2, 3, 256, 0x0100_0001, 0x8000_0000, 0xFFFF_FFFF];
 
 pub fn some_edition(rng: &mut Prng) -> u32 {
     rng.pick(&[edition::ONE, edition::TWO])

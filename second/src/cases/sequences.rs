@@ -68,7 +68,7 @@ fn ports_of_kind(draft: &Draft, kind: u32) -> Vec<usize> {
     numbers(&draft.ports).into_iter().filter(|&p| draft.ports[p].kind == kind).collect()
 }
 
-fn open_mode_ports(draft: &Draft) -> Vec<usize> {
+pub fn open_mode_ports(draft: &Draft) -> Vec<usize> {
     let things = draft.thing_ports();
     let open = |port: &usize| !things.contains(&(*port as u32));
     ports_of_kind(draft, port::MODE).into_iter().filter(open).collect()
@@ -76,6 +76,22 @@ fn open_mode_ports(draft: &Draft) -> Vec<usize> {
 
 fn event_ports(draft: &Draft) -> Vec<usize> {
     ports_of_kind(draft, port::EVENT)
+}
+
+/// Mostly one that a condition compares the port with.
+pub fn some_value(rng: &mut Prng, draft: &Draft, port: usize) -> u32 {
+    let compared: Vec<u32> = draft
+        .expressions
+        .iter()
+        .filter_map(|expression| match expression {
+            Expression::Condition(c) if c.port as usize == port => Some(c.value),
+            _ => None,
+        })
+        .collect();
+    match rng.pick_any(&compared) {
+        Some(value) if rng.chance(70) => value,
+        _ => rng.pick(&[0, 1, 2, 3, 5, 255]),
+    }
 }
 
 impl Sender<'_> {
@@ -97,25 +113,9 @@ impl Sender<'_> {
             event::BUS_OFF | event::HEARD => self.draft.networks[number].0.owner,
             _ => self.draft.sources[number].owner,
         };
-        let value = if kind == event::MODE_REQUEST { self.value(number) } else { 0 };
+        let value =
+            if kind == event::MODE_REQUEST { some_value(self.rng, self.draft, number) } else { 0 };
         Event { kind, owner, index: number as u32, value, zero: 0 }
-    }
-
-    /// Mostly one that a condition compares the port with.
-    fn value(&mut self, number: usize) -> u32 {
-        let compared: Vec<u32> = self
-            .draft
-            .expressions
-            .iter()
-            .filter_map(|expression| match expression {
-                Expression::Condition(c) if c.port as usize == number => Some(c.value),
-                _ => None,
-            })
-            .collect();
-        match self.rng.pick_any(&compared) {
-            Some(value) if self.rng.chance(70) => value,
-            _ => self.rng.pick(&[0, 1, 2, 3, 5, 255]),
-        }
     }
 
     fn refused(&mut self, taken: Event) -> (Event, u32) {

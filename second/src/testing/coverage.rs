@@ -7,6 +7,7 @@ use std::fmt;
 use super::failing_rows::{self, Failing};
 use super::heard::{self, Heard};
 use super::nesting::{self, Nesting};
+use super::nothing_rows::{self, Nothing};
 use super::panel_rows::{self, Panels};
 use super::visits_rows::{self, Visits};
 use super::{names, play_rows, played};
@@ -42,6 +43,7 @@ pub enum Row {
     Failing(Failing),
     Nesting(Nesting),
     Panels(Panels),
+    Nothing(Nothing),
     SourceTurn(u32, u32),
     Unfit(usize),
     Limit(usize),
@@ -251,6 +253,7 @@ impl fmt::Display for Row {
             Row::Failing(failing) => failing.to_string(),
             Row::Nesting(nesting) => nesting.to_string(),
             Row::Panels(panels) => panels.to_string(),
+            Row::Nothing(nothing) => nothing.to_string(),
             Row::SourceTurn(from, to) => format!("source: {}", turn(&STATUSES, from, to)),
             Row::Unfit(misfit) => format!("state unfit: {:?}", MISFITS[misfit]),
             Row::Limit(section) => {
@@ -302,6 +305,7 @@ impl Coverage {
             .chain(failing_rows::rows().map(Row::Failing))
             .chain(nesting::rows().map(Row::Nesting))
             .chain(panel_rows::rows().map(Row::Panels))
+            .chain(nothing_rows::rows().map(Row::Nothing))
             .chain(SOURCE_TURNS.map(|(from, to)| Row::SourceTurn(from, to)))
             .chain(MISFITS.map(Row::unfit))
             .chain(SECTIONS.map(Row::limit))
@@ -312,7 +316,8 @@ impl Coverage {
             .chain(visits_rows::ROWS.map(Row::Special))
             .chain(play_rows::ROWS.map(Row::Special))
             .chain(played::ROWS.map(Row::Special))
-            .chain(panel_rows::ROWS.map(Row::Special));
+            .chain(panel_rows::ROWS.map(Row::Special))
+            .chain(nothing_rows::ROWS.map(Row::Special));
         Coverage(rows.map(|row| (row, 0)).collect())
     }
 

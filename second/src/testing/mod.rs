@@ -13,6 +13,9 @@ mod levels;
 mod log;
 mod names;
 mod nesting;
+mod nothing;
+mod nothing_met;
+mod nothing_rows;
 mod panel;
 mod panel_others;
 mod panel_rows;
@@ -29,8 +32,9 @@ mod visits;
 mod visits_rows;
 mod walk;
 
-use std::panic::catch_unwind;
+use std::panic::{AssertUnwindSafe, catch_unwind};
 
+use crate::cases::pairs::{Pair, pair};
 use crate::cases::{Case, Cases, Made};
 use coverage::Coverage;
 pub use recorded::{AskedPanel, AskedPanelRun};
@@ -38,6 +42,8 @@ pub use recorded::{AskedPanel, AskedPanelRun};
 /// Each seed's first cases are run.
 const SEEDS: [u64; 4] = [1, 2026, 0xC0FFEE, 0x5EED_5EED_5EED_5EED];
 const CASES_EACH: usize = 5600;
+/// And each seed's first pairs of runs (request Q-14).
+const PAIRS_EACH: usize = 1000;
 
 #[derive(Default)]
 struct Tally {
@@ -79,13 +85,14 @@ pub fn test() -> bool {
             coverage.add(&met);
         }
     }
-    let generated = tally.passed + tally.failed - fixed;
+    let pairs = SEEDS.len() * PAIRS_EACH;
+    let generated = tally.passed + tally.failed - fixed - pairs;
     println!("cases  coverage\n{coverage}");
     for row in coverage.missing() {
         tally.failed += 1;
         println!("FAILED no case met: {row}");
     }
-    println!("{fixed} fixed cases, {generated} generated cases");
+    println!("{fixed} fixed cases, {generated} generated cases, {pairs} pairs of runs");
     println!("{} passed, {} failed", tally.passed, tally.failed);
     tally.failed == 0
 }
@@ -96,7 +103,11 @@ fn run_seed(seed: u64) -> (Vec<(String, Result<(), String>)>, Coverage) {
     let run = |(number, made): (usize, Made)| {
         (format!("case {number} of seed {seed}"), generated(&made, &mut coverage))
     };
-    let outcomes = Cases::new(seed).take(CASES_EACH).enumerate().map(run).collect();
+    let mut outcomes: Vec<_> = Cases::new(seed).take(CASES_EACH).enumerate().map(run).collect();
+    outcomes.extend((0..PAIRS_EACH).map(|number| {
+        let tried = paired(|| pair(seed, number), &mut coverage);
+        (format!("pair {number} of seed {seed}"), tried)
+    }));
     (outcomes, coverage)
 }
 
@@ -129,6 +140,13 @@ fn fixed_nesting(asked: &[Case]) -> Result<(), String> {
 /// Tries everything on a generated case and counts what it met.
 pub fn generated(made: &Made, coverage: &mut Coverage) -> Result<(), String> {
     let tried = catch_unwind(|| properties::try_case(made));
+    let met = tried.map_err(|panic| panic_text(&*panic))??;
+    coverage.count(&met).map_err(|row| format!("met what cannot be: {row}"))
+}
+
+/// Tries a pair of runs and counts what it met. It is made in here, for making it runs the rules.
+pub fn paired(make: impl Fn() -> Pair, coverage: &mut Coverage) -> Result<(), String> {
+    let tried = catch_unwind(AssertUnwindSafe(|| nothing::try_pair(&make())));
     let met = tried.map_err(|panic| panic_text(&*panic))??;
     coverage.count(&met).map_err(|row| format!("met what cannot be: {row}"))
 }

@@ -1,5 +1,5 @@
 //! Fixed cases: each a few words long, its outcome worked out by hand from
-//! documents 01 and 02 and named after the
+//! documents 01 and 02 and named after the
 //! sentence or reading it tells apart.
 //!
 //! Expected words stand in hex, so that no layout is judged by itself:
@@ -19,6 +19,7 @@ macro_rules! fixed_cases {
     };
 }
 
+mod agreement;
 mod arbitration;
 mod bound;
 mod clears;
@@ -37,6 +38,7 @@ mod marked;
 mod names;
 mod nesting;
 mod networks;
+mod nothing;
 mod owners;
 mod panel;
 mod panel_refused;
@@ -97,6 +99,8 @@ pub fn all() -> Vec<(&'static str, fn())> {
         streams::CASES,
         demand3::CASES,
         nesting::CASES,
+        nothing::CASES,
+        agreement::CASES,
     ]
     .concat()
 }
