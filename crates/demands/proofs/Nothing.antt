@@ -4,7 +4,7 @@ use mathlib.Core.Bool.{true, cond}
 use mathlib.Core.List.{List, [], _∷_, _++_, append-assoc, append-nil}
 use Prim.Native.Nat.{ℕ, _≤_, _*_}
 use native.Mathlib.Omega.{arith}
-use lib.ListN.{length, getD, take}
+use lib.ListN.{length, getD, take, drop, replicate, length-replicate}
 use lib.Seq.{take-length, take-append-seam}
 use lib.Dec.{leb}
 use borrow.Author.Tests.{leb-true}
@@ -16,10 +16,11 @@ use Rattle.laws.proofs.FitKept.{Fits}
 use Rattle.laws.proofs.Steps.{fresh-fits}
 use Rattle.laws.proofs.Play.{stands, stood-table, stood-state, enough-room, ended}
 use Rattle.stranger.specs.Logs.{Entry, Log, stateAfter, logFrom, joined}
-use Rattle.stranger.specs.Nothing.{Sending, entries, allTaken, isShared, kept, shared, Lends, Ran, ShareAllBut, SameOwn, NothingOfStrangers}
+use Rattle.stranger.specs.Nothing.{Sending, entries, allTaken, isShared, kept, Lends, sending, Ran, SameOwn}
 use Rattle.stranger.specs.Nothing as runs
 use Rattle.stranger.proofs.Logs.{after-append, log-fits}
-use Rattle.stranger.proofs.Nothing.{Kept, kept-own, itself-known, sent-fits, after-each, nothing-of-strangers}
+use Rattle.stranger.proofs.Nothing.{Kept, kept-own, itself-known, sent-fits, after-each}
+use Rattle.stranger.proofs.Struck.{nothing-of-strangers}
 use Rattle.stranger.proofs.Runs.{by-step, sent-refused, log-ran, entries-taken, entries-both, played-share}
 use Rattle.manager.specs.Promises.{MakesFreshIn, TakesEventIn, PlaysIn}
 use Rattle.panel.specs.Promises.{ShowsIn}
@@ -33,6 +34,7 @@ use Rattle.demands.proofs.Demand1.{fresh-answered}
 use Rattle.demands.proofs.Calls.{log-of}
 use Rattle.demands.proofs.Demand3.{accepted-when}
 use Rattle.demands.proofs.Plays.{play-answered, play-log, play-state}
+use Rattle.demands.proofs.Singles.{call-of}
 use Rattle.demands.proofs.Resumed.{resumed-as, resumed-log}
 
 -- The panels of two states that have the same words of o's.
@@ -75,6 +77,18 @@ module _ (t : List ℕ) (h : accepted t ≡ true) (o : ℕ) where
       log-ran t h o s (logFrom t s (take n es)) fit log
       (rw to
       (ended-ran u k (getD es n 0) ys there (λ four. a .refused (stands t s h fit) (λ z. omega arith) (λ z. omega arith) .1) (sent-ran u ys there later)))
+
+  -- and a run is what calls sent, each with as many words lent
+  ran-sent : (s : List ℕ) (xs : List Sending) → Ran t o s xs → Sent t o s xs
+  unfolding sending
+  ran-sent s xs runs.none = sent.none
+  ran-sent s xs (runs.sent room os e {xs = later} lends r) =
+      let lent = replicate {A = ℕ} room 0 in
+      let long : length lent ≡ room = length-replicate {A = ℕ} room 0 in
+      let x = step t s room os e in
+      let call = call-of t s lent os e x (ap (λ (n : ℕ). step t s n os e) long) in
+      let words : take (length (x .words)) (x .words ++ drop (length (x .words)) lent) ≡ x .words = take-append-seam (x .words) _ in
+      rw words at (sent.called os e {xs = later} call (λ k. rw long (lends k)) (ran-sent (x .state) later r))
 
 -- What was sent, and then more, from the state that it left.
 
@@ -153,14 +167,14 @@ module _ (t : List ℕ) (h : accepted t ≡ true) where
   files-same : (o : ℕ) (es fs : List ℕ) → kept o es ≡ kept o fs → {n v m u : ℕ} {s₁ ws₁ s₂ ws₂ : List ℕ} → Resumed t (fresh t) es 0 n v s₁ ws₁
       → Resumed t (fresh t) fs 0 m u s₂ ws₂ → SameOwn t o s₁ ws₁ s₂ ws₂
   files-same o es fs e r q =
-      let runs-same = nothing-of-strangers t h (λ w xs. Ran t w (fresh t) xs) (λ w xs x. x) in
+      let runs-same = nothing-of-strangers t h (λ w xs. Ran t w (fresh t) xs) (λ w xs x. x) (λ w xs x. x) in
       let ends = runs-same .ends o _ _ (file-ran es r o) (file-ran fs q o) (played-share t o (fresh t) es fs e) in
       rw (entries-taken (logFrom t (fresh t) es), entries-taken (logFrom t (fresh t) fs), whole es r .1, whole es r .2, whole fs q .1, whole fs q .2) at ends
 
   nothing-after : NothingAfter t (fresh t)
   nothing-after =
       record {
-        nothing = nothing-of-strangers t h Went ran;
+        nothing = nothing-of-strangers t h Went ran (λ o xs r. ran-sent t h o (fresh t) xs r);
         panels = λ o. after-each t h Went ran o (panels-kept o);
         plays = λ o es fs e r q. let same = files-same o es fs e r q in (same, same-panels t o (file-stands es r) (file-stands fs q) same);
       }

@@ -30,3 +30,4 @@ pub mod Demand3
 pub mod Partner
 pub mod Nothing
 pub mod Runs
+pub mod Struck

@@ -1,5 +1,5 @@
--- Q-14 holds of every accepted table, from its fresh state, of the rulebook's runs, and of whatever is shown to be such a run. Two runs go side by
--- side: a stranger's sending is unseen, taken or refused, and a shared one is taken in both or refused in both. Assumes nothing.
+-- Q-14's agreement: two runs go side by side, of the rulebook's or of whatever is shown to be such a run. A stranger's sending is unseen, taken or
+-- refused, and a shared one is taken in both or refused in both. Assumes nothing.
 use mathlib.Core.Path.{_≡_, refl, sym, _∙_, ap}
 use mathlib.Core.Logic.{_⊎_, inl, inr, ⊎-elim}
 use mathlib.Core.Bool.{Bool, true, false, cond, not}
@@ -22,7 +22,7 @@ use Rattle.stranger.specs.Logs.{Entry, Follows, stateAfter, joined, stra
 use Rattle.stranger.specs.View.{SameView, ownWords, Unseen}
 use Rattle.stranger.specs.Outcomes.{metBy, Agree, AgreeEach}
 use Rattle.stranger.specs.Nothing.{Sending, entries, isShared, shared, eventsOf, metByEach, Lends, sending, Ran, ShareAllBut, SameOwn, SameAfter}
-use Rattle.stranger.specs.Nothing.{EachPair, AfterEachShared, NothingOfStrangers}
+use Rattle.stranger.specs.Nothing.{EachPair, AfterEachShared}
 use Rattle.stranger.specs.Nothing as runs
 use Rattle.stranger.proofs.Logs.{entry-fits}
 use Rattle.stranger.proofs.View.{same-view-refl, same-view-sym, same-view-trans, port-word, rule-word, network-word, source-word}
@@ -156,16 +156,16 @@ module _ (t : List ℕ) (h : accepted t ≡ true) where
 
 -- Two runs side by side, each from a state of its own.
 
-record Beside (t : List ℕ) (o : ℕ) (s₁ : List ℕ) (xs : List Sending) (s₂ : List ℕ) (ys : List Sending) : Type 0 where
+pub record Beside (t : List ℕ) (o : ℕ) (s₁ : List ℕ) (xs : List Sending) (s₂ : List ℕ) (ys : List Sending) : Type 0 where
   pub pairs : EachPair (Kept t o) (shared o xs) (shared o ys)
   pub view : SameView t o (stateAfter s₁ (entries xs)) (stateAfter s₂ (entries ys))
   pub words : ownWords o (joined (entries xs)) ≡ ownWords o (joined (entries ys))
 
-shared-not : (o : ℕ) (x : Sending) (xs : List Sending) → isShared o (x .entry .event) ≡ false → shared o (x ∷ xs) ≡ shared o xs
+pub shared-not : (o : ℕ) (x : Sending) (xs : List Sending) → isShared o (x .entry .event) ≡ false → shared o (x ∷ xs) ≡ shared o xs
 unfolding shared
 shared-not o x xs k = rw (k, shared)
 
-shared-too : (o : ℕ) (x : Sending) (xs : List Sending) → isShared o (x .entry .event) ≡ true → shared o (x ∷ xs) ≡ x ∷ shared o xs
+pub shared-too : (o : ℕ) (x : Sending) (xs : List Sending) → isShared o (x .entry .event) ≡ true → shared o (x ∷ xs) ≡ x ∷ shared o xs
 unfolding shared
 shared-too o x xs k = rw (k, shared)
 
@@ -246,20 +246,12 @@ pub each-pair : {P Q : Sending → Sending → Type 0} → ((x y : Sending) → 
 each-pair f [] [] h = tt
 each-pair f (x ∷ xs) (y ∷ ys) h = (f x y (h .0), each-pair f xs ys (h .1))
 
--- The statement, of whatever is shown to be a run.
+-- Two runs from the fresh state, of whatever is shown to be one.
 module _ (t : List ℕ) (h : accepted t ≡ true) (Went : ℕ → List Sending → Type 0) (ran : (o : ℕ) (xs : List Sending) → Went o xs → Ran t o (fresh t) xs) where
-  two-runs : (o : ℕ) (xs ys : List Sending) → Went o xs → Went o ys → ShareAllBut t o xs ys → Beside t o (fresh t) xs (fresh t) ys
+  pub two-runs : (o : ℕ) (xs ys : List Sending) → Went o xs → Went o ys → ShareAllBut t o xs ys → Beside t o (fresh t) xs (fresh t) ys
   two-runs o xs ys w u but =
       beside t h o (fresh t) (fresh t) xs ys (ran o xs w) (ran o ys u) (fresh-fits t h) (fresh-fits t h) (same-view-refl t o (fresh t)) (but .events)
       (but .outcomes)
 
   pub after-each : (o : ℕ) {Same : Sending → Sending → Type 0} → ((x y : Sending) → Kept t o x y → Same x y) → AfterEachShared t Went o Same
   after-each o f xs ys w u but = each-pair f (shared o xs) (shared o ys) (two-runs o xs ys w u but .pairs)
-
-  pub nothing-of-strangers : NothingOfStrangers t (fresh t) Went
-  nothing-of-strangers =
-      record {
-        own = λ o. after-each o (λ x y. kept-own t o o (itself-known o));
-        platforms = λ o. after-each o (λ x y. kept-own t o platform (platform-known o));
-        ends = λ o xs ys w u but. let b = two-runs o xs ys w u but in same-own t o o (itself-known o) (b .view) (b .words);
-      }

@@ -90,7 +90,7 @@ small-known : (os : List ℕ) → Small os → outcomesKnown os ≡ true
 unfolding outcomesKnown goodOrFailed
 small-known os h = all-from (goodOrFailed os) 0 (length os) (λ i a b. le-leb _ _ (each-word _ (omega arith) os i h))
 
-taken-known : (t os : List ℕ) (e : ℕ) → refusedEvent t os e ≡ 0 → outcomesKnown os ≡ true
+pub taken-known : (t os : List ℕ) (e : ℕ) → refusedEvent t os e ≡ 0 → outcomesKnown os ≡ true
 unfolding refusedEvent
 taken-known t os e h =
     split (outcomesKnown os) (λ d. d) (λ d. let z : 8 ≡ 0 = rw (taken-event t os e h .wellFormed, d) at h in absurd (omega arith))
@@ -357,14 +357,14 @@ none-in-play t s (e ∷ es) = (none-heeded t, none-in-play t _ es)
 -- The partner. Its entries are the kept ones of the log, each with its event and outcomes fed by what it met.
 
 -- the entry that event e leaves from state s with the outcomes os lent
-abbrev entryFrom : List ℕ → List ℕ → ℕ → List ℕ → Entry
+abbrev pub entryFrom : List ℕ → List ℕ → ℕ → List ℕ → Entry
 entryFrom t s e os = record { event = e; outcomes = os; state = happen t e (heeded t os) s .state; words = happen t e (heeded t os) s .words }
 
 -- outcomes with which the event of x is taken, and the calls of o and of the platform meet what they met in x
-record Again (t : List ℕ) (o : ℕ) (s : List ℕ) (x : Entry) : Type 0 where
-  outcomes : List ℕ
-  taken : refusedEvent t outcomes (x .event) ≡ 0
-  agrees : Agree (metBy t o x) (metBy t o (entryFrom t s (x .event) outcomes))
+pub record Again (t : List ℕ) (o : ℕ) (s : List ℕ) (x : Entry) : Type 0 where
+  pub outcomes : List ℕ
+  pub taken : refusedEvent t outcomes (x .event) ≡ 0
+  pub agrees : Agree (metBy t o x) (metBy t o (entryFrom t s (x .event) outcomes))
 
 fed-meets : {o : ℕ} {m : List ℕ} {run : List ℕ → Run} (a : Fed o m run) → met o (a .outcomes) (run (a .outcomes) .words) ≡ a .meets
 fed-meets a =
@@ -389,7 +389,7 @@ module _ (t : List ℕ) (o : ℕ) where
       rw same (a .agrees))
       (λ e. agree-zeros (metBy t o x) (metBy t o y) (met-zeros t o x (rw e)) (met-zeros t o y (rw e)))
 
-  again : (s : List ℕ) (x : Entry) → refusedEvent t (x .outcomes) (x .event) ≡ 0 → Again t o s x
+  pub again : (s : List ℕ) (x : Entry) → refusedEvent t (x .outcomes) (x .event) ≡ 0 → Again t o s x
   again s x z =
       let w = taken-event t (x .outcomes) (x .event) z in
       let fed = happen-fed t o (x .event) w s (metBy t o x) in

@@ -7,7 +7,7 @@ use native.Mathlib.Omega.{arith}
 use Rattle.rulebook.specs.Words.{all}
 use Rattle.rulebook.specs.Reasons.{accepted, bound}
 use Rattle.rulebook.specs.Events.{happen}
-use Rattle.rulebook.specs.Step.{Result, wellFormed, outcomesKnown, refusedEvent, step}
+use Rattle.rulebook.specs.Step.{Result, outcomesKnown, refusedEvent, step}
 use Rattle.laws.proofs.Tests.{split}
 use Rattle.laws.proofs.FitKept.{Fits}
 use Rattle.laws.proofs.Play.{step-refused, step-done, none-heeded}
@@ -15,16 +15,7 @@ use Rattle.stranger.specs.Logs.{Entry, Follows, Log, stateAfter, logFrom
 use Rattle.stranger.specs.Nothing.{Sending, entries, allTaken, isShared, kept, shared, eventsOf, metByEach, Lends, sending, Ran, ShareAllBut}
 use Rattle.stranger.specs.Nothing as runs
 use Rattle.stranger.proofs.Logs.{entry-fits}
-use Rattle.stranger.proofs.Partner.{AllZeros, agree-all-zeros, met-zeros}
-
--- no outcome lent with an event that was taken is above 1
-known-when : (t os : List ℕ) (e : ℕ) → refusedEvent t os e ≡ 0 → outcomesKnown os ≡ true
-unfolding refusedEvent
-known-when t os e z =
-    split (outcomesKnown os) (λ a. a)
-    (λ a. split (wellFormed e)
-    (λ b. let y : 8 ≡ 0 = rw (b, a) at z in absurd (omega arith))
-    (λ b. let y : 4 ≡ 0 = rw b at z in absurd (omega arith)))
+use Rattle.stranger.proofs.Partner.{AllZeros, agree-all-zeros, met-zeros, taken-known}
 
 -- what a step gives, in its parts
 made-of : (k : ℕ) (x : Entry) (r : Result) → r .answer ≡ k → r .state ≡ x .state → r .words ≡ x .words
@@ -47,7 +38,7 @@ module _ (t : List ℕ) (h : accepted t ≡ true) (o : ℕ) where
       → Ran t o s (record { answer = 0; entry = x } ∷ xs)
   sent-taken s x fit f later =
       let is = step-done t s (bound t) (x .outcomes) (x .event) h fit (omega arith) (f .taken) in
-      by-step s (bound t) 0 x (λ k. record { enough = omega arith; known = known-when t (x .outcomes) (x .event) (f .taken) })
+      by-step s (bound t) 0 x (λ k. record { enough = omega arith; known = taken-known t (x .outcomes) (x .event) (f .taken) })
       (ap (λ (r : Result). r .answer) is, ap (λ (r : Result). r .state) is ∙ sym (f .state), ap (λ (r : Result). r .words) is ∙ sym (f .words)) later
 
   -- an event that is refused, no outcomes lent

@@ -108,6 +108,13 @@ AfterEach keep Went Together Same = (xs ys : List Sending) → Went xs → Went 
 abbrev pub AfterEachShared : (t : List ℕ) (Went : ℕ → List Sending → Type 0) (o : ℕ) → (Sending → Sending → Type 0) → Type 0
 AfterEachShared t Went o Same = AfterEach (shared o) (Went o) (ShareAllBut t o) Same
 
+-- Of a run of o's: one without a stranger's event, as Went says, that goes together with it.
+pub record StruckOut (t : List ℕ) (o : ℕ) (Went : List Sending → Type 0) (xs : List Sending) : Type 0 where
+  pub run : List Sending
+  pub went : Went run
+  pub own : shared o run ≡ run
+  pub meets : ShareAllBut t o xs run
+
 pub record NothingOfStrangers (t s : List ℕ) (Went : ℕ → List Sending → Type 0) : Type 0 where
   pub own : (o : ℕ) → AfterEachShared t Went o (SameAfter t o)
   -- more than is asked: the platform's words agree as well
@@ -115,3 +122,5 @@ pub record NothingOfStrangers (t s : List ℕ) (Went : ℕ → List Sending → 
   -- and at the end, whoever sent the last events: the states, and the words of each whole run
   pub ends : (o : ℕ) (xs ys : List Sending) → Went o xs → Went o ys → ShareAllBut t o xs ys
       → SameOwn t o (stateAfter s (entries xs)) (joined (entries xs)) (stateAfter s (entries ys)) (joined (entries ys))
+  -- and none of this is empty: whatever was sent and lent, there is the run with the strangers' events struck out
+  pub struck : (o : ℕ) (xs : List Sending) → Went o xs → StruckOut t o (Went o) xs
