@@ -13,7 +13,7 @@ use Rattle.rulebook.specs.Lists.{traceOwner, own}
 use Rattle.rulebook.specs.Events.{eventOwner}
 use Rattle.rulebook.specs.Step.{step}
 use Rattle.rulebook.specs.Marked.{same}
-use Rattle.stranger.specs.Failing.{eaters, bothOwners}
+use Rattle.stranger.specs.Failing.{lending, afterAll, eaters, bothOwners}
 use Rattle.stranger.specs.Nothing.{Sending, sending, shared, eventsOf, Ran, SameAfter, AfterEach, AfterEachShared}
 
 -- A port of the platform's, of operator 1's and of operator 2's, each deferred, and "it equals 5" of each. Operator 1 has a rule on the platform's
@@ -52,7 +52,8 @@ withTaken = run (0x11010500 ∷ 0x12020500 ∷ [])
 unfoldable pub withRefused : List Sending
 withRefused = run (0x92000000 ∷ 0x11010500 ∷ 0x12FF0500 ∷ 0x12010700 ∷ [])
 
--- The tick's total count is 5 words and 2, and operator 1's two stand at the end of the one and at the front of the other.
+-- The tick's total count is 5 words and 2, its visits (Q-10) are 2 and 1, and operator 1's two words stand at the end of the one trace and at the front of
+-- the other.
 unfoldable pub mayDiffer : Bool
 mayDiffer =
     accepted three
@@ -63,6 +64,8 @@ mayDiffer =
     && same (lastWords [] withTaken) (0xF2020000 ∷ 0x0200000C ∷ 0x0200000D ∷ 0xF1010000 ∷ 0x0100000B ∷ [])
     && same (lastWords [] withRefused) (0xF1010000 ∷ 0x0100000B ∷ [])
     && same (own 1 (lastWords [] withTaken)) (0xF1010000 ∷ 0x0100000B ∷ [])
+    && eqb (lending three (afterAll three (fresh three) (0x11010500 ∷ 0x12020500 ∷ [])) [] 0 .visits) 2
+    && eqb (lending three (afterAll three (fresh three) (0x11010500 ∷ [])) [] 0 .visits) 1
 
 -- Both tick, and in the first the platform has asked its port for 5: operator 1's list runs there and not in the second.
 unfoldable pub platformNeeded : Bool
