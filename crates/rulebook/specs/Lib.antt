@@ -9,4 +9,5 @@ pub mod Arbitration
 pub mod Events
 pub mod Step
 pub mod Play
+pub mod Hold
 pub mod Marked

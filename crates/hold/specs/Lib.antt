@@ -1,0 +1,2 @@
+-- What holding a supplier's recording against ours promises.
+pub mod Promises
