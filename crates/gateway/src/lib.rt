@@ -5,6 +5,7 @@ ghost use Rattle.states.specs.Made.{numberOf as madeNumber};
 ghost use Rattle.manager.specs.Answers.{stateNumber};
 ghost use Rattle.manager.specs.Promises.{ChecksTableIn, CountsWords, MakesFreshIn, ChecksStateIn, TakesEventIn, PlaysIn};
 ghost use Rattle.panel.specs.Promises.{ShowsIn};
+ghost use Rattle.hold.specs.Promises.{HoldsForC};
 ghost use Rattle.gateway.specs.Version.{version};
 use manager::Fit;
 use states::Made;
@@ -34,7 +35,7 @@ fn fit_number(fit: Fit) -> u32
 pub extern "C" fn herringcart_version() -> u32
     ensures { λ r. ⌜ r ≡ version ⌝ }
 {
-    5 * 65536 + 3
+    5 * 65536 + 4
 }
 
 // Checks a table: gives its reason, 0 if it is accepted, and writes the place and B.
@@ -133,4 +134,33 @@ pub extern "C" fn herringcart_panel(
     let shown = panel::show(operator, table, state, words, lines);
     *bytes = panel::bytes(shown);
     panel::number(shown)
+}
+
+// Holds a supplier's trace and state after one event against our step, with the outcomes given: gives the verdict, writes the number beside it,
+// how many words the part has, and our step's count and visits; writes state and trace in place, as an event call does.
+#[no_mangle]
+pub extern "C" fn herringcart_hold(
+    table: &[u32],
+    state: &mut [u32],
+    trace: &mut [u32],
+    outcomes: &[u32],
+    event: u32,
+    theirs: &[u32],
+    their_state: &[u32],
+    number: &mut usize,
+    rest: &mut usize,
+    count: &mut usize,
+    visits: &mut u32,
+) -> u32
+    ensures { λ r. ⌜ HoldsForC (now (table .entry)) (now (state .entry)) (now (trace .entry)) (now (outcomes .entry)) event
+        (now (theirs .entry)) (now («their_state» .entry)) r (now (number .exit)) (now (rest .exit)) (now (count .exit))
+        (now (visits .exit)) (now (state .exit)) (now (trace .exit)) ⌝ }
+{
+    let held = hold::hold(table, state, trace, outcomes, event, theirs, their_state);
+    let verdict = held.verdict;
+    *number = hold::given(verdict);
+    *rest = hold::part(held, trace, theirs).len();
+    *count = held.count;
+    *visits = held.visits;
+    hold::number(verdict)
 }

@@ -1,3 +1,5 @@
 -- Laws that belong to no one function.
 pub mod Along
 pub mod Verdicts
+pub mod Exactly
+pub mod Unique

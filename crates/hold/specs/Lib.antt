@@ -1,2 +1,3 @@
 -- What holding a supplier's recording against ours promises.
 pub mod Promises
+pub mod Cases

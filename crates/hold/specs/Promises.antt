@@ -64,3 +64,8 @@ partOf v k n trace theirs =
 
 abbrev pub HandsBack : Held → List ℕ → List ℕ → List ℕ → Type 0
 HandsBack h trace theirs p = p ≡ partOf (numberOf (h .verdict)) (givenBy (h .verdict)) (h .count) trace theirs
+
+-- as `gateway` hands it to C, where no slice comes back: `left` is the part's length; whose words it is and from which on, v and k say
+pub record HoldsForC (t s trace os : List ℕ) (e : ℕ) (theirs theirState : List ℕ) (v k left n m : ℕ) (s′ trace′ : List ℕ) : Type 0 where
+  pub holds : HoldsIn t s trace os e theirs theirState v k n m s′ trace′
+  pub rest : left ≡ length (held t s (length trace) os e theirs theirState .part)
