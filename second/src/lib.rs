@@ -1,6 +1,7 @@
 //! The second program of Herringcart: document 01's rules written again, with
-//! document 02's requests
-//! and Q-14, from the documents and their readings alone, as the judge of the first.
+//! document 02's requests,
+//! from the documents and their readings alone, as the judge of
+//! the first.
 
 // The rules, in the document's order.
 pub mod words;
@@ -21,6 +22,10 @@ pub mod play;
 
 pub mod panel;
 
+pub mod hold;
+
+pub mod supplier;
+
 pub mod program;
 
 // What the rules are tried with.
@@ -29,6 +34,7 @@ pub mod stream;
 pub mod testing;
 
 pub use check::{Check, check};
+pub use hold::{Held, Whose, hold};
 pub use panel::{Panel, panel};
 pub use play::{Played, play};
 pub use state::{check_state, fresh};

@@ -1,5 +1,5 @@
 //! `run TABLE EVENTS [OUTCOMES]`, `play TABLE EVENTS`, `cost TABLE EVENTS`, `panel OPERATOR TABLE
-//! EVENTS [--follow]`, `test`, `emit SEED COUNT` and `answer`.
+//! EVENTS [--follow]`, `hold TABLE EVENTS LOG [--all]`, `test`, `emit SEED COUNT` and `answer`.
 
 use std::io::{self, BufWriter, Write};
 use std::process::ExitCode;
@@ -9,9 +9,10 @@ use second::program::NoPanel;
 use second::{program, stream, testing};
 
 const USAGE: &str = "usage: second run TABLE EVENTS [OUTCOMES] | play TABLE EVENTS | \
-                     cost TABLE EVENTS | panel OPERATOR TABLE EVENTS [--follow] | test | \
-                     emit SEED COUNT | answer < CASES";
+                     cost TABLE EVENTS | panel OPERATOR TABLE EVENTS [--follow] | \
+                     hold TABLE EVENTS LOG [--all] | test | emit SEED COUNT | answer < CASES";
 const FOLLOW: &str = "--follow";
+const ALL: &str = "--all";
 
 fn main() -> ExitCode {
     let args: Vec<String> = std::env::args().skip(1).collect();
@@ -26,6 +27,10 @@ fn main() -> ExitCode {
             program::cost_files(&mut BufWriter::new(io::stdout().lock()), table, events)
         }
         ["panel", ref asked @ ..] => return ExitCode::from(panel(asked)),
+        ["hold", ref asked @ ..] => match hold(asked) {
+            Ok(status) => return ExitCode::from(status),
+            Err(why) => Err(why),
+        },
         ["test"] if testing::test() => Ok(()),
         ["test"] => return ExitCode::FAILURE,
         ["emit", seed, count] => emit(seed, count),
@@ -76,6 +81,23 @@ fn panel(asked: &[&str]) -> u8 {
             2
         }
     }
+}
+
+/// Holds a log against our rules; gives the status to leave with. The option may stand anywhere
+/// among the words.
+fn hold(asked: &[&str]) -> Result<u8, String> {
+    let mut words = asked.to_vec();
+    let all = words.iter().position(|&word| word == ALL);
+    all.map(|place| words.remove(place));
+    let [table, events, log] = words[..] else {
+        return Err(USAGE.into());
+    };
+    let told = program::hold_files(table, events, log, all.is_some())?;
+    put(told.printed.as_bytes())?;
+    if let Some(trouble) = told.trouble {
+        eprintln!("{trouble}");
+    }
+    Ok(told.status)
 }
 
 fn put(bytes: &[u8]) -> Result<(), String> {

@@ -4,11 +4,13 @@ use std::fmt::Write as _;
 use std::io::{self, Write};
 
 use crate::check::accept;
+use crate::hold::{parting, verdict};
 use crate::lists::Run;
 use crate::panel::{OPERATORS, View};
 use crate::play::{TRACE_FULL, play, take};
 use crate::state::{State, fresh, start, state_length};
 use crate::step::step;
+use crate::supplier::{Log, Recording};
 use crate::words::{Event, Section, Table};
 
 /// The whole words of a file, high byte first; bytes past the last are ignored.
@@ -280,6 +282,109 @@ pub fn panel_files(
     let read = |path: &str| read(path).map_err(NoPanel::Unable);
     let (table, events) = (read(table)?, read(events)?);
     write_panel(out, operator, &table, &events, follow)
+}
+
+/// What is told where a supplier's log is held against our rules (request Q-7).
+#[derive(Clone, PartialEq, Eq, Debug)]
+pub struct HoldTold {
+    /// All of standard output.
+    pub printed: String,
+    /// The line on standard error, without its newline.
+    pub trouble: Option<String>,
+    pub status: u8,
+}
+
+/// Holds a supplier's log against what our rules order for the events, taken one after the other
+/// from the fresh state, with B trace words and no outcomes lent. Ends at the first event that is
+/// not as ordered; or, where all are wanted, goes on from the supplier's state.
+pub fn hold(table: &[u8], events: &[u8], log: &[u8], all: bool) -> HoldTold {
+    let mut printed = String::new();
+    let (status, trouble) = match held(&mut printed, table, events, log, all) {
+        Ok(as_ordered) => (if as_ordered { 0 } else { 1 }, None),
+        Err((status, trouble)) => (status, Some(format!("herringcart: {trouble}"))),
+    };
+    HoldTold { printed, trouble, status }
+}
+
+/// Whether all events held are as ordered; or the status to leave with and what is wrong.
+fn held(
+    lines: &mut String,
+    table: &[u8],
+    events: &[u8],
+    log: &[u8],
+    all: bool,
+) -> Result<bool, (u8, String)> {
+    let (table, events, mut log) = (words(table), words(events), Log::of(log));
+    let (shape, _) = accept(&table).map_err(|(reason, place)| {
+        (2, format!("refused: the table has reason {reason} at word {place}"))
+    })?;
+    let mut first = vec![0; state_length(&shape)];
+    fresh(&table, &mut first);
+    let state = State::of(&shape, &first).expect("a fresh state has its length");
+    // Checked once, as in `cost`.
+    let mut run = Run { table: &shape, state, trace: vec![], outcomes: &[], visits: 0 };
+    let mut others = 0;
+    for (number, &event) in events.iter().enumerate() {
+        let supplier = log.recording(number, first.len()).map_err(|trouble| (1, trouble))?;
+        run.trace.clear();
+        let answer = take(&mut run, Event::of(event));
+        let state = run.state.words.clone();
+        let ours = Recording { answer, state, trace: run.trace.clone() };
+        let Some(told) = held_apart(&ours, &supplier) else {
+            continue;
+        };
+        let _ = write!(lines, "event {number} {event:08X}\n{told}");
+        others += 1;
+        if !all {
+            return Ok(false);
+        }
+        match State::of(&shape, &supplier.state).filter(State::fits) {
+            Some(state) => run.state = state,
+            None => *lines += "the supplier's state does not fit: on from ours\n",
+        }
+    }
+    log.end().map_err(|trouble| (1, trouble))?;
+    let _ = match others {
+        0 => writeln!(lines, "{} events: all as our tables order", events.len()),
+        _ => writeln!(lines, "{} events: {others} not as our tables order", events.len()),
+    };
+    Ok(others == 0)
+}
+
+/// How an event's recordings part, and their words from there, ours first; None where they are
+/// the same.
+fn held_apart(ours: &Recording, supplier: &Recording) -> Option<String> {
+    let whose = |name: &str, words: &[u32]| {
+        words.iter().map(|word| format!("{name} {word:08X}\n")).collect::<String>()
+    };
+    let both = |told: String, ours: &[u32], suppliers: &[u32]| {
+        Some(format!("{told}\n{}{}", whose("ours", ours), whose("supplier", suppliers)))
+    };
+    if ours.answer != supplier.answer {
+        let side = |name: &str, side: &Recording| {
+            format!("{name} {}\n{}", side.answer, whose(name, &side.trace))
+        };
+        let (ours, suppliers) = (side("ours", ours), side("supplier", supplier));
+        return Some(format!("answers part\n{ours}{suppliers}"));
+    }
+    let parting = parting(&ours.trace, &ours.state, &supplier.trace, &supplier.state);
+    let word = parting.number;
+    let told = match parting.verdict {
+        verdict::AS_ORDERED => return None,
+        verdict::TRACES_PART => "traces part at word",
+        verdict::SUPPLIER_STOPS => "the supplier's trace stops at word",
+        verdict::OURS_STOPS => "the supplier's trace goes on at word",
+        _ => {
+            let told = format!("states part at word {word}");
+            return both(told, &ours.state[word..], &supplier.state[word..]);
+        }
+    };
+    both(format!("{told} {word}"), &ours.trace[word..], &supplier.trace[word..])
+}
+
+/// Holds a log's file against what our rules order for two files.
+pub fn hold_files(table: &str, events: &str, log: &str, all: bool) -> Result<HoldTold, String> {
+    Ok(hold(&read(table)?, &read(events)?, &read(log)?, all))
 }
 
 /// Prints the day of two files.

@@ -6,7 +6,7 @@ use crate::cases::Case;
 use crate::cases::prng::Prng;
 use crate::panel::{OPERATORS, View};
 use crate::words::*;
-use crate::{Stepped, check, check_state, fresh, panel, play, step};
+use crate::{Stepped, check, check_state, fresh, hold, panel, play, step};
 
 /// What a state slice holds before a fresh one is made in it.
 pub const STATE_FILL: u32 = 0xAAAA_AAAA;
@@ -60,6 +60,7 @@ pub fn result_words(case: &Case) -> Vec<u32> {
     }
     words.extend(play_words(case));
     words.extend(panel_words(case, &calls));
+    words.extend(hold_words(case, &calls));
     words
 }
 
@@ -319,6 +320,119 @@ impl Choice<'_> {
         let higher = [0x10, 0x100, 0x1_0000, 0x1000_0000, 0xFFFF_FFF0];
         if self.rng.chance(20) { 16 } else { self.rng.pick(&higher) | operator }
     }
+}
+
+/// A supplier's words that a case's event is held against (request Q-7): from the state before it,
+/// in the case's room and with the outcomes that the case lends it.
+#[derive(Clone, PartialEq, Eq, Debug)]
+pub struct Supplied {
+    /// The event's number.
+    pub event: usize,
+    pub theirs: Vec<u32>,
+    pub their_state: Vec<u32>,
+}
+
+fn hold_words(case: &Case, calls: &[Called]) -> Vec<u32> {
+    let asked = supplied(case, calls);
+    let mut words = vec![asked.len() as u32];
+    for Supplied { event, theirs, their_state } in asked {
+        let mut state = state_before(case, calls, event).to_vec();
+        let mut trace = vec![TRACE_FILL; case.room];
+        let (table, lent, word) = (&case.table, case.lent(event), case.events[event]);
+        let held = hold(table, &mut state, &mut trace, lent, word, &theirs, &their_state);
+        let Stepped { answer, count, visits } = held.stepped;
+        let counted = |part: &[u32]| [&[part.len() as u32], part].concat();
+        words.push(event as u32);
+        words.extend(counted(&theirs));
+        words.extend(counted(&their_state));
+        words.extend([held.verdict, held.number as u32, answer, count as u32, one_word(visits)]);
+        words.extend([held.whose as u32, held.from as u32]);
+        words.extend(counted(&held.part));
+        words.extend(state);
+        words.extend(trace);
+    }
+    words
+}
+
+fn state_before<'a>(case: &'a Case, calls: &'a [Called], event: usize) -> &'a [u32] {
+    event.checked_sub(1).map_or(&case.state, |before| &calls[before].state)
+}
+
+/// What a case's events are held against, thirteen at most and all different: of the event that
+/// wrote most and of any other one our own words, a trace changed, cut and gone on, a state
+/// changed, cut and gone on, both empty; what would be written without outcomes; and words behind
+/// a refused event. Drawn by the case's words, so that it is the same everywhere.
+pub fn holds_asked(case: &Case) -> Vec<Supplied> {
+    supplied(case, &single_calls(case))
+}
+
+fn supplied(case: &Case, calls: &[Called]) -> Vec<Supplied> {
+    let Some(busiest) = (0..calls.len()).max_by_key(|&number| calls[number].stepped.count) else {
+        return vec![];
+    };
+    let seed = case.events.iter().chain(&case.table).chain(&case.state);
+    let seed = seed.fold(7u64, |seed, &word| seed.rotate_left(11) ^ u64::from(word));
+    let rng = &mut Prng::new(seed);
+    let any = rng.below(calls.len());
+    let refused = (0..calls.len()).filter(|&number| calls[number].stepped.answer != 0);
+    let refused = rng.pick_any(&refused.collect::<Vec<usize>>());
+    let ours = |number: usize| {
+        let Called { stepped, state, trace } = &calls[number];
+        (trace[..stepped.count].to_vec(), state.clone())
+    };
+    let mut asked: Vec<Supplied> = vec![];
+    let mut ask = |event: usize, (theirs, their_state): (Vec<u32>, Vec<u32>)| {
+        let one = Supplied { event, theirs, their_state };
+        if !asked.contains(&one) {
+            asked.push(one);
+        }
+    };
+    // Few of long traces, for there are many words of them.
+    let long = calls[busiest].stepped.count > LONG_TRACE;
+    for event in [busiest, any] {
+        let (trace, state) = ours(event);
+        ask(event, (trace.clone(), state.clone()));
+        ask(event, (damaged(rng, &trace, false), damaged(rng, &state, false)));
+        ask(event, (trace.clone(), damaged(rng, &state, false)));
+        if long {
+            break;
+        }
+        ask(event, (damaged(rng, &trace, true), state.clone()));
+        ask(event, (trace, damaged(rng, &state, true)));
+    }
+    ask(any, (vec![], vec![]));
+    // Outcomes that matter: without them other words would be written.
+    let mut state = state_before(case, calls, busiest).to_vec();
+    let mut trace = vec![TRACE_FILL; case.room];
+    let good = step(&case.table, &mut state, &mut trace, case.events[busiest], &[]);
+    trace.truncate(good.count);
+    ask(busiest, (trace, state));
+    if let Some(event) = refused {
+        let (trace, state) = ours(event);
+        ask(event, (damaged(rng, &trace, true), state));
+    }
+    asked
+}
+
+/// From how many words on a trace is held against fewer.
+pub const LONG_TRACE: usize = 500;
+
+/// Words with one changed, lost, added or two exchanged; or, by length alone, cut or gone on.
+fn damaged(rng: &mut Prng, words: &[u32], by_length: bool) -> Vec<u32> {
+    let mut words = words.to_vec();
+    let any = rng.below(words.len().max(1));
+    let word = if rng.chance(50) { rng.word() } else { rng.pick(&[0, TRACE_FILL, 0xF100_0000]) };
+    match (words.len(), by_length, rng.below(4)) {
+        (0, ..) => words.push(word),
+        (_, true, 0 | 1) => words.truncate(any),
+        (_, true, 2) => words.push(word),
+        (_, true, _) => words.extend([word, rng.word(), 0]),
+        (_, false, 0) => words[any] ^= 1 << rng.below(32),
+        (_, false, 1) => drop(words.remove(any)),
+        (_, false, 2) => words.insert(any, word),
+        (length, false, _) => words.swap(any, length - 1),
+    }
+    words
 }
 
 /// The next case of a stream; None at its end.

@@ -6,6 +6,7 @@ use std::fmt;
 
 use super::failing_rows::{self, Failing};
 use super::heard::{self, Heard};
+use super::held_rows::{self, Held};
 use super::nesting::{self, Nesting};
 use super::nothing_rows::{self, Nothing};
 use super::panel_rows::{self, Panels};
@@ -43,6 +44,7 @@ pub enum Row {
     Failing(Failing),
     Nesting(Nesting),
     Panels(Panels),
+    Held(Held),
     Nothing(Nothing),
     SourceTurn(u32, u32),
     Unfit(usize),
@@ -253,6 +255,7 @@ impl fmt::Display for Row {
             Row::Failing(failing) => failing.to_string(),
             Row::Nesting(nesting) => nesting.to_string(),
             Row::Panels(panels) => panels.to_string(),
+            Row::Held(held) => held.to_string(),
             Row::Nothing(nothing) => nothing.to_string(),
             Row::SourceTurn(from, to) => format!("source: {}", turn(&STATUSES, from, to)),
             Row::Unfit(misfit) => format!("state unfit: {:?}", MISFITS[misfit]),
@@ -305,6 +308,7 @@ impl Coverage {
             .chain(failing_rows::rows().map(Row::Failing))
             .chain(nesting::rows().map(Row::Nesting))
             .chain(panel_rows::rows().map(Row::Panels))
+            .chain(held_rows::rows().map(Row::Held))
             .chain(nothing_rows::rows().map(Row::Nothing))
             .chain(SOURCE_TURNS.map(|(from, to)| Row::SourceTurn(from, to)))
             .chain(MISFITS.map(Row::unfit))
@@ -317,6 +321,7 @@ impl Coverage {
             .chain(play_rows::ROWS.map(Row::Special))
             .chain(played::ROWS.map(Row::Special))
             .chain(panel_rows::ROWS.map(Row::Special))
+            .chain(held_rows::ROWS.map(Row::Special))
             .chain(nothing_rows::ROWS.map(Row::Special));
         Coverage(rows.map(|row| (row, 0)).collect())
     }

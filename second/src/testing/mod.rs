@@ -9,6 +9,9 @@ mod failing;
 mod failing_rows;
 mod fixed;
 mod heard;
+mod held;
+mod held_rows;
+mod held_run;
 mod levels;
 mod log;
 mod names;
@@ -37,7 +40,7 @@ use std::panic::{AssertUnwindSafe, catch_unwind};
 use crate::cases::pairs::{Pair, pair};
 use crate::cases::{Case, Cases, Made};
 use coverage::Coverage;
-pub use recorded::{AskedPanel, AskedPanelRun};
+pub use recorded::{AskedHold, AskedHoldRun, AskedPanel, AskedPanelRun};
 
 /// Each seed's first cases are run.
 const SEEDS: [u64; 4] = [1, 2026, 0xC0FFEE, 0x5EED_5EED_5EED_5EED];
@@ -119,6 +122,9 @@ pub struct Ran {
     /// The panels it asked for, and the panel's program (request Q-13).
     pub panels: Vec<AskedPanel>,
     pub panel_runs: Vec<AskedPanelRun>,
+    /// The suppliers' logs it held against ours, and the log's program (request Q-7).
+    pub holds: Vec<AskedHold>,
+    pub hold_runs: Vec<AskedHoldRun>,
 }
 
 /// Runs the fixed cases for another program to be asked the same.
@@ -126,7 +132,9 @@ pub fn run_fixed() -> Vec<Ran> {
     let run = |(name, case): (&'static str, fn())| {
         let outcome = catch_unwind(case).map_err(|panic| panic_text(&*panic));
         let (panels, panel_runs) = (recorded::panels(), recorded::panel_runs());
-        Ran { name, outcome, asked: recorded::asked(), panels, panel_runs }
+        let (holds, hold_runs) = (recorded::holds(), recorded::hold_runs());
+        let asked = recorded::asked();
+        Ran { name, outcome, asked, panels, panel_runs, holds, hold_runs }
     };
     fixed::all().into_iter().map(run).collect()
 }

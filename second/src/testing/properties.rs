@@ -10,7 +10,8 @@ use super::skipping::Skipping;
 use super::traces::evaluated;
 use super::visits::{Visited, try_refusals};
 use super::walk::{By, Walk};
-use super::{cost, demand3, failing, nesting, panel, panel_others, play, played, ports, reach};
+use super::{cost, demand3, failing, held, held_run, nesting, panel, panel_others};
+use super::{play, played, ports, reach};
 use crate::cases::draft::Draft;
 use crate::cases::states::fresh_state;
 use crate::cases::{Case, Known, Made};
@@ -50,6 +51,7 @@ pub fn try_case(made: &Made) -> Result<Met, String> {
     let (good, calls_good) = with_good_calls(case, &log);
     play::try_plays(&good, checked.b, &calls_good, &mut met)?;
     try_panels(case, &log, &mut met)?;
+    held::try_holds(case, &log, &mut met)?;
     if checked.reason == 0 {
         try_accepted(made, checked.b, &log, &mut met)?;
         failing::try_good(&read(&case.table), &good, &log, &calls_good, &mut met)?;
@@ -58,6 +60,7 @@ pub fn try_case(made: &Made) -> Result<Met, String> {
         played::try_reason(case, checked, &mut met)?;
         cost::try_reason(case, checked)?;
         panel::try_reason(case, given, &mut met)?;
+        held_run::try_reason(case, given, &mut met)?;
     }
     Ok(met)
 }
@@ -97,6 +100,7 @@ fn try_days(
     play::try_struck_out(good, &draft, b, log, met)?;
     cost::try_cost(good, draft.rules.len(), b, log)?;
     panel::try_runs(good, &draft, log, met)?;
+    held_run::try_logs(good, log, met)?;
     played::try_day(good, &draft, log, met)
 }
 

@@ -5,9 +5,10 @@ use std::cell::RefCell;
 
 use crate::cases::Case;
 use crate::check::{Check, accept};
+use crate::hold::Held;
 use crate::panel::Panel;
 use crate::play::Played;
-use crate::program::NoPanel;
+use crate::program::{HoldTold, NoPanel};
 use crate::state::state_length;
 use crate::step::Stepped;
 use crate::{program, stream};
@@ -16,6 +17,8 @@ thread_local! {
     static ASKED: RefCell<Vec<Case>> = const { RefCell::new(vec![]) };
     static PANELS: RefCell<Vec<AskedPanel>> = const { RefCell::new(vec![]) };
     static PANEL_RUNS: RefCell<Vec<AskedPanelRun>> = const { RefCell::new(vec![]) };
+    static HOLDS: RefCell<Vec<AskedHold>> = const { RefCell::new(vec![]) };
+    static HOLD_RUNS: RefCell<Vec<AskedHoldRun>> = const { RefCell::new(vec![]) };
 }
 
 /// A panel that was asked for, and what the rules answered.
@@ -43,6 +46,35 @@ pub struct AskedPanelRun {
     pub printed: Result<String, u32>,
 }
 
+/// A supplier's log that was held against ours, and what the rules said.
+#[derive(Clone, PartialEq, Eq, Debug)]
+pub struct AskedHold {
+    pub table: Vec<u32>,
+    /// The state before.
+    pub state: Vec<u32>,
+    /// The room's words before; so many are lent.
+    pub trace: Vec<u32>,
+    pub outcomes: Vec<u32>,
+    pub event: u32,
+    pub theirs: Vec<u32>,
+    pub their_state: Vec<u32>,
+    pub held: Held,
+    /// The state after.
+    pub after: Vec<u32>,
+    /// The room's words after.
+    pub room: Vec<u32>,
+}
+
+/// What `hold TABLE EVENTS LOG [--all]` was asked, by the files' bytes, and what it tells.
+#[derive(Clone, PartialEq, Eq, Debug)]
+pub struct AskedHoldRun {
+    pub table: Vec<u8>,
+    pub events: Vec<u8>,
+    pub log: Vec<u8>,
+    pub all: bool,
+    pub told: HoldTold,
+}
+
 /// What was asked since this was called last.
 pub fn asked() -> Vec<Case> {
     ASKED.take()
@@ -56,6 +88,16 @@ pub fn panels() -> Vec<AskedPanel> {
 /// The panels' programs that were.
 pub fn panel_runs() -> Vec<AskedPanelRun> {
     PANEL_RUNS.take()
+}
+
+/// The suppliers' logs that were held.
+pub fn holds() -> Vec<AskedHold> {
+    HOLDS.take()
+}
+
+/// The logs' programs that were.
+pub fn hold_runs() -> Vec<AskedHoldRun> {
+    HOLD_RUNS.take()
 }
 
 fn note(table: &[u32], state: &[u32], room: usize, events: &[u32]) {
@@ -164,6 +206,51 @@ pub fn panel_run(operator: u32, table: &[u8], events: &[u8], follow: bool) -> Re
     let asked = AskedPanelRun { operator, table, events, follow, printed: asked };
     PANEL_RUNS.with_borrow_mut(|runs| runs.push(asked));
     printed
+}
+
+/// Noted as a hold, and as a case that has its step.
+pub fn hold(
+    table: &[u32],
+    state: &mut [u32],
+    trace: &mut [u32],
+    outcomes: &[u32],
+    event: u32,
+    theirs: &[u32],
+    their_state: &[u32],
+) -> Held {
+    let (before, lent) = (state.to_vec(), trace.to_vec());
+    let held = crate::hold(table, state, trace, outcomes, event, theirs, their_state);
+    note_case(Case {
+        table: table.to_vec(),
+        state: before.clone(),
+        room: lent.len(),
+        events: vec![event],
+        outcomes: vec![outcomes.to_vec()],
+    });
+    let asked = AskedHold {
+        table: table.to_vec(),
+        state: before,
+        trace: lent,
+        outcomes: outcomes.to_vec(),
+        event,
+        theirs: theirs.to_vec(),
+        their_state: their_state.to_vec(),
+        held: held.clone(),
+        after: state.to_vec(),
+        room: trace.to_vec(),
+    };
+    HOLDS.with_borrow_mut(|holds| holds.push(asked));
+    held
+}
+
+/// What the log's program tells.
+pub fn hold_run(table: &[u8], events: &[u8], log: &[u8], all: bool) -> HoldTold {
+    note_files(table, events, vec![]);
+    let told = program::hold(table, events, log, all);
+    let (table, events, log) = (table.to_vec(), events.to_vec(), log.to_vec());
+    let asked = AskedHoldRun { table, events, log, all, told: told.clone() };
+    HOLD_RUNS.with_borrow_mut(|runs| runs.push(asked));
+    told
 }
 
 pub fn result_words(case: &Case) -> Vec<u32> {

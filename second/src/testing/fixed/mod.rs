@@ -1,6 +1,6 @@
 //! Fixed cases: each a few words long, its outcome worked out by hand from
-//! documents 01 and 02 and named after the
-//! sentence or reading it tells apart.
+//! documents 01 and 02 and named
+//! after the sentence or reading it tells apart.
 //!
 //! Expected words stand in hex, so that no layout is judged by itself:
 //! - port state: 80000000 defined, 40000000 marked, value times 00400000, remaining;
@@ -31,6 +31,8 @@ mod events;
 mod expressions;
 mod failing;
 mod heard;
+mod hold;
+mod hold_run;
 mod levels;
 mod levels_checked;
 mod lists;
@@ -96,6 +98,8 @@ pub fn all() -> Vec<(&'static str, fn())> {
         panel::CASES,
         panel_refused::CASES,
         panel_run::CASES,
+        hold::CASES,
+        hold_run::CASES,
         streams::CASES,
         demand3::CASES,
         nesting::CASES,

@@ -4,7 +4,9 @@ use super::editions::edition_2;
 use super::marked::MARKED;
 use super::*;
 use crate::cases::Case;
-use crate::stream::{Asked, case_words, panels_asked, play_rooms, read_case, write_words};
+use crate::stream::{
+    Asked, Supplied, case_words, holds_asked, panels_asked, play_rooms, read_case, write_words,
+};
 use crate::testing::recorded;
 
 const AFTER: [u32; 4] = [0x8140_0000, 0, 0x4000_0000, 0x8000_0000];
@@ -14,12 +16,36 @@ fn marked_case(room: usize) -> Case {
     Case { table, state, room, events, outcomes: vec![] }
 }
 
+/// The results up to the panels, the panels, and what is held (request Q-7).
+fn parts(case: &Case) -> [Vec<u32>; 3] {
+    let mut words = recorded::result_words(case);
+    let (state, events) = (case.state.len(), case.events.len());
+    let plays: usize = play_rooms(case).iter().map(|room| 5 + state + room).sum();
+    let panels: usize = panels_asked(case).iter().map(|asked| 5 + asked.room).sum();
+    let mut behind = words.split_off(5 + state + events * (3 + state + case.room) + 1 + plays);
+    let held = behind.split_off(1 + panels);
+    [words, behind, held]
+}
+
 /// The results up to the panels.
 fn result_words(case: &Case) -> Vec<u32> {
-    let mut words = recorded::result_words(case);
-    let panels: usize = panels_asked(case).iter().map(|asked| 5 + asked.room).sum();
-    words.truncate(words.len() - panels - 1);
+    let [words, ..] = parts(case);
     words
+}
+
+/// What is held of a case, by the event, the supplier's words, what is told of them (verdict,
+/// number, answer, count, visits, whose, from), the part, and state and room after.
+fn held_words(
+    one: &Supplied,
+    told: [u32; 7],
+    part: &[u32],
+    state: &[u32],
+    room: &[u32],
+) -> Vec<u32> {
+    let (trace, words) = (one.theirs.len() as u32, one.their_state.len() as u32);
+    let supplied =
+        [&[one.event as u32, trace], &one.theirs[..], &[words], &one.their_state].concat();
+    [&supplied, &told[..], &[part.len() as u32], part, state, room].concat()
 }
 
 /// Operator 1's panel of the marked table before its request and behind it.
@@ -49,9 +75,7 @@ fixed_cases! {
                 _ => panel_words(one, 0, ""),
             });
         }
-        let all = recorded::result_words(&marked_case(3));
-        assert_eq!(all[all.len() - words.len()..], words);
-        assert_eq!(all.len() - words.len(), result_words(&marked_case(3)).len());
+        assert_eq!(parts(&marked_case(3))[1], words);
         // Before the request in just enough room; behind it in more, just enough and too little.
         let own: Vec<&Asked> = asked.iter().filter(|one| one.operator == 1).collect();
         assert_eq!(own[0], &Asked { operator: 1, behind: None, room: 51 });
@@ -73,8 +97,7 @@ fixed_cases! {
                 panel_words(one, if operator(one) { answer } else { 9 }, "")
             };
             let words: Vec<u32> = asked.iter().flat_map(refused).collect();
-            let all = recorded::result_words(&case);
-            assert_eq!(all[all.len() - words.len() - 1..], [&[4][..], &words].concat());
+            assert_eq!(parts(&case)[1], [&[4][..], &words].concat());
             let rooms: Vec<usize> = asked.iter().map(|one| one.room).collect();
             assert_eq!(rooms, [40, 40, 0, 0]);
             assert!(operator(&asked[0]) && asked[1].operator == 0);
@@ -92,9 +115,97 @@ fixed_cases! {
         assert!(asked.contains(&Asked { operator: 1, behind: None, room: 16 }));
         let short: Vec<&Asked> = asked.iter().filter(|one| one.operator == 1 && one.behind == Some(2)).collect();
         assert_eq!(short.len(), 1);
-        let all = recorded::result_words(&case);
+        let [_, all, _] = parts(&case);
         let words = panel_words(short[0], 11, "");
         assert!(all.windows(words.len()).any(|part| part == words));
+    }
+
+    /// The marked request: our own words are held, and words that are not ours.
+    fn stream_of_what_is_held() {
+        let case = marked_case(4);
+        let (trace, room) = ([0xF100_0000, 0x4100_0002, 0x0100_1234], [0xF100_0000, 0x4100_0002, 0x0100_1234, 0x5555_5555]);
+        let asked = holds_asked(&case);
+        let mut words = vec![asked.len() as u32];
+        let mut verdicts = vec![];
+        for one in &asked {
+            let apart = one.theirs.iter().zip(&trace).position(|(a, b)| a != b);
+            let length = one.theirs.len();
+            let states = one.their_state.iter().zip(&AFTER).position(|(a, b)| a != b);
+            let shorter = one.their_state.len().min(4);
+            let ([verdict, number, whose], part) = match (apart, length) {
+                (Some(word), _) => ([2, word, 1], &one.theirs[word..]),
+                (None, 0..=2) => ([3, length, 2], &trace[length..]),
+                (None, 4..) => ([4, 3, 1], &one.theirs[3..]),
+                (None, 3) if one.their_state == AFTER => ([0; 3], &[][..]),
+                (None, 3) => ([5, states.unwrap_or(shorter), 0], &[][..]),
+            };
+            let from = if whose == 0 { 0 } else { number };
+            let told = [verdict, number, 0, 3, 1, whose, from].map(|number| number as u32);
+            words.extend(held_words(one, told, part, &AFTER, &room));
+            verdicts.push(verdict);
+        }
+        assert_eq!(parts(&case)[2], words);
+        assert!(verdicts[0] == 0 && asked[0].theirs == trace && asked[0].their_state == AFTER);
+        for verdict in [2, 5] {
+            assert!(verdicts.contains(&verdict));
+        }
+        assert!(verdicts.contains(&3) || verdicts.contains(&4));
+        assert!(asked.contains(&Supplied { event: 0, theirs: vec![], their_state: vec![] }));
+    }
+
+    fn stream_of_what_is_held_where_the_step_refuses() {
+        let bad = Case { table: MARKED[..11].to_vec(), ..marked_case(3) };
+        let unfit = Case { state: vec![1; 4], ..marked_case(3) };
+        let events = vec![0x1200_0500, 0x1200_0500];
+        for (case, answer) in [(bad, 1), (unfit, 2), (marked_case(2), 3), (Case { events, ..marked_case(3) }, 6)] {
+            let asked = holds_asked(&case);
+            let room = vec![0x5555_5555; case.room];
+            let refused = |one: &Supplied| {
+                held_words(one, [1, answer, answer, 0, 0, 0, 0], &[], &case.state, &room)
+            };
+            let words: Vec<u32> = asked.iter().flat_map(refused).collect();
+            assert_eq!(parts(&case)[2], [&[asked.len() as u32], &words[..]].concat());
+            assert!(asked.iter().any(|one| !one.theirs.is_empty()));
+        }
+        // No events, nothing to hold.
+        assert_eq!(parts(&Case { events: vec![], ..marked_case(3) })[2], [0]);
+    }
+
+    /// The call stands before the request, with abort, and fails: without outcomes it would not.
+    fn stream_of_what_is_held_with_outcomes() {
+        let table = with(&with(&edition_2(&MARKED), 10, 0x0800_1234), 11, 0x4000_0002);
+        let case = Case { table, outcomes: vec![vec![1]], ..marked_case(3) };
+        let (failed, good) = ([0xF100_0000, 0x0100_1234], [0xF100_0000, 0x0100_1234, 0x4100_0002]);
+        let after = [0x8140_0000, 0, 0x4000_0000, 0];
+        let one = Supplied { event: 0, theirs: good.to_vec(), their_state: AFTER.to_vec() };
+        assert!(holds_asked(&case).contains(&one));
+        let room = [0xF100_0000, 0x0100_1234, 0x5555_5555];
+        let words = held_words(&one, [4, 2, 0, 2, 1, 1, 2], &good[2..], &after, &room);
+        let [_, _, held] = parts(&case);
+        assert!(held.windows(words.len()).any(|part| part == words));
+        let one = Supplied { event: 0, theirs: failed.to_vec(), their_state: after.to_vec() };
+        let words = held_words(&one, [0, 0, 0, 2, 1, 0, 0], &[], &after, &room);
+        assert!(held.windows(words.len()).any(|part| part == words));
+    }
+
+    /// Each event is held from the state before it.
+    fn stream_of_what_is_held_of_a_later_event() {
+        let case = Case { events: vec![0x1100_0600, 0x1100_0500], ..marked_case(3) };
+        let trace = vec![0xF100_0000, 0x4100_0002, 0x0100_1234];
+        let one = Supplied { event: 1, theirs: trace.clone(), their_state: AFTER.to_vec() };
+        let words = held_words(&one, [0, 0, 0, 3, 1, 0, 0], &[], &AFTER, &trace);
+        let [_, _, held] = parts(&case);
+        assert_eq!(holds_asked(&case)[0], one);
+        assert_eq!(held[1..][..words.len()], words);
+    }
+
+    fn stream_holds_less_of_long_traces() {
+        let lists = [list(1, 0, 250); 3];
+        let rules = [rule(1, 0, 0, 1), rule(1, 0, 1, 2)];
+        let table = plain(&[mode(1)], &[equal(0, 5)], &rules, &lists, &[call(0); 250]);
+        let case = Case { table, state: vec![0; 3], room: 753, events: vec![0x1100_0500; 3], outcomes: vec![] };
+        let asked = holds_asked(&case);
+        assert!(asked.len() <= 5 && asked.iter().any(|one| one.theirs.len() == 502));
     }
 
     fn stream_of_a_case() {

@@ -1,0 +1,4 @@
+-- Laws that belong to no one function.
+pub mod Judging
+pub mod Lines
+pub mod Telling
