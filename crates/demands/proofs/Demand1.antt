@@ -1,19 +1,24 @@
 -- Demand 1 holds of whatever the promises of the public entries allow. Assumes nothing.
-use mathlib.Core.Path.{_≡_, sym, _∙_, ap}
+use mathlib.Core.Path.{_≡_, refl, sym, _∙_, ap}
 use mathlib.Core.List.{List, [], _++_}
 use Prim.Native.Nat.{ℕ}
+use native.Mathlib.Omega.{arith}
 use lib.ListN.{length, drop}
 use borrow.Author.Tests.{eq-eqb, ne-eqb}
 use Rattle.rulebook.specs.Reasons.{bound, check}
 use Rattle.rulebook.specs.State.{stateLength, freshAnswer, freshState}
-use Rattle.rulebook.specs.Step.{refusedState, step}
+use Rattle.rulebook.specs.Step.{Result, refusedState, step}
+use Rattle.rulebook.specs.Hold.{held, heldBy, refused}
 use Rattle.laws.proofs.Acceptance.{reason-given, no-place}
 use Rattle.laws.proofs.Steps.{fault-is, answer-small, refusal-changes-nothing}
 use Rattle.tables.specs.Finding.{promised}
 use Rattle.manager.specs.Promises.{ChecksTableIn, MakesFreshIn, ChecksStateIn, TakesEventIn}
+use Rattle.hold.specs.Promises.{HoldsIn}
+use Rattle.hold.specs.Cases.{Case, refuses, traces, theirs-stop, ours-stop, states, yes}
+use Rattle.hold.proofs.Exactly.{case-found}
 use Rattle.demands.proofs.Panel.{panel-answered}
 use Rattle.demands.proofs.Plays.{play-answered}
-use Rattle.demands.specs.Demand1.{TableAnswered, FreshAnswered, StateAnswered, EventAnswered, Demand1}
+use Rattle.demands.specs.Demand1.{TableAnswered, FreshAnswered, StateAnswered, EventAnswered, HoldAnswered, Demand1}
 
 -- The table check.
 
@@ -64,6 +69,45 @@ event-answered t s trace os e k n v s′ trace′ p =
     same : (k ≡ 0 → ⊥) → (step t s (length trace) os e .state ≡ s) × (step t s (length trace) os e .words ≡ []) × (step t s (length trace) os e .visits ≡ 0)
     same r = refusal-changes-nothing t s (length trace) os e (λ z. r (p .answer ∙ z))
 
+-- An event held against a supplier's recording: the step is an event call.
+
+refused-case : (r : Result) (theirs theirState : List ℕ) (v k : ℕ) (p : List ℕ) → Case r theirs theirState v k p → v ≡ refused → r .answer ≡ 0 → ⊥
+refused-case r theirs theirState v k p (refuses n) e z = n z
+refused-case r theirs theirState v k p (traces y q) e z = omega (arith, e)
+refused-case r theirs theirState v k p (theirs-stop y q) e z = omega (arith, e)
+refused-case r theirs theirState v k p (ours-stop y q) e z = omega (arith, e)
+refused-case r theirs theirState v k p (states y f q) e z = omega (arith, e)
+refused-case r theirs theirState v k p (yes y f g) e z = omega (arith, e)
+
+module _ (t s trace os : List ℕ) (e : ℕ) (theirs theirState : List ℕ) (v k n m : ℕ) (s′ trace′ : List ℕ)
+    (h : HoldsIn t s trace os e theirs theirState v k n m s′ trace′) where
+  abbrev r : Result
+  r = step t s (length trace) os e
+
+  pub stepped : TakesEventIn t s trace os e (r .answer) n m s′ trace′
+  stepped = record { answer = refl; count = h .count; visits = h .visits; state = h .state; words = h .words }
+
+  answered : EventAnswered t s trace os e (r .answer) n m s′ trace′
+  answered = event-answered t s trace os e (r .answer) n m s′ trace′ stepped
+
+  refuses-it : v ≡ refused → r .answer ≡ 0 → ⊥
+  unfolding held
+  refuses-it one = refused-case r theirs theirState _ _ _ (case-found r theirs theirState) (sym (h .tells .verdict) ∙ one)
+
+  pub hold-answered : HoldAnswered t s trace os e v k n m s′ trace′
+  unfolding held heldBy
+  hold-answered =
+      record {
+        refused = λ f.
+            let other = ne-eqb (r .answer) 0 (λ z. f (sym (answered .number) ∙ z)) in
+            (h .tells .verdict ∙ rw other, h .tells .number ∙ rw other (answered .number));
+        done = λ z one. refuses-it one (answered .number ∙ z);
+        stateKept = λ one. answered .stateKept (refuses-it one);
+        traceKept = λ one. answered .traceKept (refuses-it one);
+        noCount = λ one. answered .noCount (refuses-it one);
+        noVisits = λ one. answered .noVisits (refuses-it one);
+      }
+
 pub demand-1 : Demand1
 demand-1 =
     record {
@@ -73,4 +117,5 @@ demand-1 =
       takeEvent = event-answered;
       panel = panel-answered;
       play = play-answered;
+      hold = hold-answered;
     }

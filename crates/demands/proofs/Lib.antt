@@ -14,3 +14,4 @@ pub mod Given
 pub mod Words
 pub mod TwoLists
 pub mod Idle
+pub mod Held

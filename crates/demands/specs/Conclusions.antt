@@ -9,7 +9,7 @@ use lib.ListN.{length, getD, take, drop}
 use Rattle.rulebook.specs.Words.{word}
 use Rattle.rulebook.specs.Table.{edition, rules}
 use Rattle.rulebook.specs.Reasons.{bound}
-use Rattle.rulebook.specs.Step.{outcomesKnown, heeded}
+use Rattle.rulebook.specs.Step.{step, firstFault, outcomesKnown, heeded}
 use Rattle.laws.specs.Acceptance.{Rules}
 use Rattle.laws.specs.Chosen.{Arbitrated}
 use Rattle.laws.specs.Visits.{evaluations, Visited}
@@ -23,10 +23,12 @@ use Rattle.stranger.specs.Nothing.{Sending, entries, allTaken, isShared, Lends}
 use Rattle.manager.specs.Promises.{TakesEventIn}
 use Rattle.panel.specs.Printed.{panel}
 use Rattle.panel.specs.Same.{PrintsAlike}
+use Rattle.hold.specs.Promises.{partOf}
+use Rattle.hold.specs.Cases.{Case}
 use Rattle.demands.specs.Calls.{Played}
 use Rattle.demands.specs.Sent.{Sent, endedBy}
 use Rattle.demands.specs.Plays.{PlayAnswered, PlayGoes}
-use Rattle.demands.specs.Demand1.{TableAnswered, FreshAnswered, StateAnswered, EventAnswered, PanelAnswered}
+use Rattle.demands.specs.Demand1.{TableAnswered, FreshAnswered, StateAnswered, EventAnswered, PanelAnswered, HoldAnswered}
 use Rattle.demands.specs.Demand2.{Steps}
 use Rattle.demands.specs.Demand3.{Demand3After}
 use Rattle.demands.specs.Nothing.{NothingAfter}
@@ -110,3 +112,17 @@ pub record OfPlay (t s trace es : List ℕ) (k n m v : ℕ) (s′ trace′ : Lis
   pub taken : (s₀ : List ℕ) (xs : List Entry) → Played t s₀ xs → stateAfter s₀ xs ≡ s → Played t s₀ (xs ++ logFrom t s (take n es))
   pub sent : (o : ℕ) (s₀ : List ℕ) (xs : List Sending) → Sent t o s₀ xs → stateAfter s₀ (entries xs) ≡ s
       → Sent t o s₀ (xs ++ (allTaken (logFrom t s (take n es)) ++ endedBy k (getD es n 0) s′))
+
+-- Q-7, of an event held against a supplier's trace and state: v the verdict's number, k the number that it gives, n and m our step's count and
+-- visits. The part is the one that `part` hands back for these.
+pub record OfHold (t s trace os : List ℕ) (e : ℕ) (theirs theirState : List ℕ) (v k n m : ℕ) (s′ trace′ : List ℕ) : Type 0 where
+  -- "If our step would refuse, give its answer"
+  pub answered : HoldAnswered t s trace os e v k n m s′ trace′
+  -- "The state and our trace end as after an event call", whatever the verdict: all that is concluded of an event call is of this one
+  pub event : OfEvent t s trace os e (step t s (length trace) os e .answer) n m s′ trace′
+  -- "each verdict exactly when its case holds, the part word for word"
+  pub verdict : Case (step t s (length trace) os e) theirs theirState v k (partOf v k n trace′ theirs)
+  pub only : (v₂ k₂ : ℕ) (p : List ℕ) → Case (step t s (length trace) os e) theirs theirState v₂ k₂ p
+      → (v₂ ≡ v) × (k₂ ≡ k) × (p ≡ partOf v k n trace′ theirs)
+  -- "Say yes exactly if both are what our rules order, whoever wrote them": our step is done, and they are the words and the state it leaves
+  pub yes : (v ≡ 0) ↔ ((firstFault t s (length trace) os e ≡ 0) × (theirs ≡ take n trace′) × (theirState ≡ s′))

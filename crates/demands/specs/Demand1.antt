@@ -13,6 +13,7 @@ use Rattle.laws.specs.Acceptance.{Given}
 use Rattle.manager.specs.Promises.{ChecksTableIn, MakesFreshIn, ChecksStateIn, TakesEventIn, PlaysIn}
 use Rattle.panel.specs.Printed.{panel}
 use Rattle.panel.specs.Promises.{ShowsIn}
+use Rattle.hold.specs.Promises.{HoldsIn}
 use Rattle.demands.specs.Plays.{PlayAnswered}
 
 -- the table check: the first reason that holds, at the lowest word that breaks its rule; B of an accepted table
@@ -57,6 +58,15 @@ pub record PanelAnswered (o : ℕ) (t s ws out : List ℕ) (k n : ℕ) (out′ :
   pub bytesKept : (k ≡ 0 → ⊥) → out′ ≡ out
   pub noBytes : (k ≡ 0 → ⊥) → n ≡ 0
 
+-- an event held against a supplier's recording: our step's own answer, as the event call gives it, and only where it refuses
+pub record HoldAnswered (t s trace os : List ℕ) (e v k n m : ℕ) (s′ trace′ : List ℕ) : Type 0 where
+  pub refused : (firstFault t s (length trace) os e ≡ 0 → ⊥) → (v ≡ 1) × (k ≡ firstFault t s (length trace) os e)
+  pub done : firstFault t s (length trace) os e ≡ 0 → v ≡ 1 → ⊥
+  pub stateKept : v ≡ 1 → s′ ≡ s
+  pub traceKept : v ≡ 1 → trace′ ≡ trace
+  pub noCount : v ≡ 1 → n ≡ 0
+  pub noVisits : v ≡ 1 → m ≡ 0
+
 pub record Demand1 : Type 0 where
   pub checkTable : (t : List ℕ) (reason place b : ℕ) → ChecksTableIn t reason place b → TableAnswered t reason place b
   pub makeFresh : (t s : List ℕ) (k : ℕ) (s′ : List ℕ) → MakesFreshIn t s k s′ → FreshAnswered t s k s′
@@ -67,3 +77,6 @@ pub record Demand1 : Type 0 where
   pub panel : (o : ℕ) (t s ws out : List ℕ) (k n : ℕ) (out′ : List ℕ) → ShowsIn o t s ws out k n out′ → PanelAnswered o t s ws out k n out′
   -- Q-1: of a play the first refusal, and what it changes nothing of
   pub play : (t s trace es : List ℕ) (k n m v : ℕ) (s′ trace′ : List ℕ) → PlaysIn t s trace es k n m v s′ trace′ → PlayAnswered t s trace es k n m v s′ trace′
+  -- Q-7: of a supplier's recording
+  pub hold : (t s trace os : List ℕ) (e : ℕ) (theirs theirState : List ℕ) (v k n m : ℕ) (s′ trace′ : List ℕ)
+      → HoldsIn t s trace os e theirs theirState v k n m s′ trace′ → HoldAnswered t s trace os e v k n m s′ trace′

@@ -1,11 +1,13 @@
-// The entries of `manager`, and the panel above it.
+// The entries of `manager`, and what stands above it: the panel, and a supplier's recording held against ours.
 ghost use Rattle.tables.specs.Finding.{finding};
 ghost use Rattle.states.specs.Made.{numberOf as madeNumber};
 ghost use Rattle.events.specs.Answers.{numberOf, countOf, visitsOf};
 ghost use Rattle.manager.specs.Answers.{stateNumber, endNumber};
-ghost use Rattle.demands.specs.Conclusions.{OfTable, OfFresh, OfState, OfEvent, OfPlay, OfPanel};
+ghost use Rattle.demands.specs.Conclusions.{OfTable, OfFresh, OfState, OfEvent, OfPlay, OfPanel, OfHold};
 ghost use Rattle.panel.specs.Promises.{numberOf as panelNumber, bytesOf};
+ghost use Rattle.hold.specs.Promises.{numberOf as verdictNumber, givenBy, HandsBack};
 use events::Answer;
+use hold::Held;
 use manager::Fit;
 use manager::Played;
 use panel::Shown;
@@ -48,4 +50,25 @@ pub fn show(o: u32, t: &[u32], s: &[u32], ws: &[u32], out: &mut [u8]) -> Shown
     ensures { λ r. ⌜ OfPanel o (now (t .entry)) (now (s .entry)) (now (ws .entry)) (now (out .entry)) (panelNumber r) (bytesOf r) (now (out .exit)) ⌝ }
 {
     panel::show(o, t, s, ws, out)
+}
+
+pub fn hold(
+    t: &[u32],
+    s: &mut [u32],
+    trace: &mut [u32],
+    outcomes: &[u32],
+    e: u32,
+    theirs: &[u32],
+    their_state: &[u32],
+) -> Held
+    ensures { λ r. ⌜ OfHold (now (t .entry)) (now (s .entry)) (now (trace .entry)) (now (outcomes .entry)) e (now (theirs .entry))
+        (now («their_state» .entry)) (verdictNumber (r .verdict)) (givenBy (r .verdict)) (r .count) (r .visits) (now (s .exit)) (now (trace .exit)) ⌝ }
+{
+    hold::hold(t, s, trace, outcomes, e, theirs, their_state)
+}
+
+pub fn part<'a>(held: Held, trace: &'a [u32], theirs: &'a [u32]) -> &'a [u32]
+    ensures { λ r. ⌜ HandsBack held (now (trace .entry)) (now (theirs .entry)) (now r) ⌝ }
+{
+    hold::part(held, trace, theirs)
 }

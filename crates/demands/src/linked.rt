@@ -1,5 +1,8 @@
 // The same entries as a gateway links them, in numbers.
-ghost use Rattle.demands.specs.Conclusions.{OfTable, OfFresh, OfState, OfEvent, OfPlay, OfPanel};
+ghost use mathlib.Core.Path.{_≡_};
+ghost use lib.ListN.{length};
+ghost use Rattle.hold.specs.Promises.{partOf};
+ghost use Rattle.demands.specs.Conclusions.{OfTable, OfFresh, OfState, OfEvent, OfPlay, OfPanel, OfHold};
 
 pub fn check_table(t: &[u32], place: &mut usize, bound: &mut u32) -> u32
     ensures { λ r. ⌜ OfTable (now (t .entry)) r (now (place .exit)) (now (bound .exit)) ⌝ }
@@ -53,4 +56,24 @@ pub fn show(o: u32, t: &[u32], s: &[u32], ws: &[u32], out: &mut [u8], bytes: &mu
     ensures { λ r. ⌜ OfPanel o (now (t .entry)) (now (s .entry)) (now (ws .entry)) (now (out .entry)) r (now (bytes .exit)) (now (out .exit)) ⌝ }
 {
     gateway::herringcart_panel(o, t, s, ws, out, bytes)
+}
+
+pub fn hold(
+    t: &[u32],
+    s: &mut [u32],
+    trace: &mut [u32],
+    outcomes: &[u32],
+    e: u32,
+    theirs: &[u32],
+    their_state: &[u32],
+    number: &mut usize,
+    rest: &mut usize,
+    count: &mut usize,
+    visits: &mut u32,
+) -> u32
+    ensures { λ r. ⌜ OfHold (now (t .entry)) (now (s .entry)) (now (trace .entry)) (now (outcomes .entry)) e (now (theirs .entry))
+        (now («their_state» .entry)) r (now (number .exit)) (now (count .exit)) (now (visits .exit)) (now (s .exit)) (now (trace .exit)) ⌝ }
+    ensures { λ r. ⌜ now (rest .exit) ≡ length (partOf r (now (number .exit)) (now (count .exit)) (now (trace .exit)) (now (theirs .entry))) ⌝ }
+{
+    gateway::herringcart_hold(t, s, trace, outcomes, e, theirs, their_state, number, rest, count, visits)
 }

@@ -1,15 +1,17 @@
 // Files, as every program here meets them: named by an argument, read in blocks or as a table, and standard output. What goes wrong is
 // told on standard error by the function that meets it, so a caller only ends.
+ghost use mathlib.Core.Path.{_≡_};
 ghost use Prim.Native.Nat.{_+_, _≤_};
-ghost use lib.ListN.{length};
+ghost use lib.ListN.{length, take};
 ghost use Rattle.io.specs.Counts.{Counts};
-ghost use Rattle.files.specs.Holds.{Holds};
+ghost use Rattle.files.specs.Holds.{Holds, Fills};
 
 pub mod space;
 
 use libc::STDERR_FILENO;
 use libc::STDOUT_FILENO;
 use text::input::read_words;
+use text::number::least;
 
 // Tells of an argument that is not there, or empty, or longer than a path can be.
 pub fn missing(name: &[u8], usage: &[u8]) {
@@ -33,7 +35,7 @@ pub struct Filled {
 // Reads once, into the block from a place on.
 fn read_some(fd: i32, block: &mut [u8], from: usize) -> Filled
     requires { ⌜ from ≤ length (now block) ⌝ }
-    ensures { λ r. ⌜ from + r .bytes ≤ length (now (block .entry)) ⌝ }
+    ensures { λ r. ⌜ (from + r .bytes ≤ length (now (block .entry))) × (take from (now (block .exit)) ≡ take from (now (block .entry))) ⌝ }
 {
     let part = &mut block[from..];
     let got = libc::read(fd, part);
@@ -44,11 +46,12 @@ fn read_some(fd: i32, block: &mut [u8], from: usize) -> Filled
     }
 }
 
-// Reads until the block is full or the file ends, so that only a file's last block can end inside a word, from a pipe too.
-fn fill(fd: i32, block: &mut [u8]) -> Filled
-    ensures { λ r. ⌜ Counts (r .bytes) (now (block .exit)) ⌝ }
+// Reads into the block from a place on until it is full or the file ends, so that only a file's last block can end inside a word, from a pipe
+// too. It counts the bytes before the place with those read.
+fn fill(fd: i32, block: &mut [u8], from: usize) -> Filled
+    ensures { λ r. ⌜ Fills from (r .bytes) (now (block .entry)) (now (block .exit)) ⌝ }
 {
-    let mut bytes = 0;
+    let mut bytes = least(from, block.len());
     while bytes < block.len() {
         let got = read_some(fd, block, bytes);
         let n = got.bytes;
@@ -97,7 +100,7 @@ pub fn open(i: usize, name: &[u8], usage: &[u8], path: &mut [u8], block: &mut [u
             bytes: 0,
         };
     }
-    let filled = fill(fd, block);
+    let filled = fill(fd, block, 0);
     let bytes = filled.bytes;
     if filled.failed {
         os::fail(&path[..named]);
@@ -115,13 +118,25 @@ pub fn open(i: usize, name: &[u8], usage: &[u8], path: &mut [u8], block: &mut [u
 pub fn read_block(fd: i32, name: &[u8], block: &mut [u8]) -> Filled
     ensures { λ r. ⌜ Counts (r .bytes) (now (block .exit)) ⌝ }
 {
-    let filled = fill(fd, block);
+    let filled = fill(fd, block, 0);
     if filled.failed {
         os::fail(name);
         return Filled {
             failed: true,
             bytes: 0,
         };
+    }
+    filled
+}
+
+// Reads the file with that name on behind the first `from` bytes of the block, which stay, and counts both; the count stays what it is where
+// the file ends or a read fails, which is told.
+pub fn read_on(fd: i32, name: &[u8], block: &mut [u8], from: usize) -> Filled
+    ensures { λ r. ⌜ Fills from (r .bytes) (now (block .entry)) (now (block .exit)) ⌝ }
+{
+    let filled = fill(fd, block, from);
+    if filled.failed {
+        os::fail(name);
     }
     filled
 }

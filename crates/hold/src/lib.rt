@@ -82,15 +82,15 @@ fn compare_states(ours: &[u32], theirs: &[u32]) -> Verdict
 pub fn compare(ours: &[u32], state: &[u32], theirs: &[u32], their_state: &[u32]) -> Verdict
     ensures { λ r. ⌜ TellsVerdict (beside (now (ours .entry)) (now (state .entry)) (now (theirs .entry)) (now («their_state» .entry))) r ⌝ }
 {
-    let k = parting(ours, theirs);
-    if k < ours.len() {
-        if k < theirs.len() {
-            return Verdict::TracesPart(k);
+    let at = parting(ours, theirs);
+    if at < ours.len() {
+        if at < theirs.len() {
+            return Verdict::TracesPart(at);
         }
-        return Verdict::TheirsStops(k);
+        return Verdict::TheirsStops(at);
     }
-    if k < theirs.len() {
-        return Verdict::OursStops(k);
+    if at < theirs.len() {
+        return Verdict::OursStops(at);
     }
     compare_states(state, their_state)
 }

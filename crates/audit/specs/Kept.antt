@@ -1,0 +1,53 @@
+-- What the program's functions keep from event to event.
+use Prim.Native.Nat.{ℕ, _-_, _≤_}
+use mathlib.Core.Path.{_≡_}
+use mathlib.Core.Bool.{true}
+use mathlib.Core.List.{List}
+use lib.ListN.{length, take, drop}
+use Rattle.rulebook.specs.Reasons.{accepted, bound}
+use Rattle.rulebook.specs.State.{stateLength}
+use Rattle.words.specs.declared.sections.Layout.{Layout}
+use Rattle.words.specs.Sections.{Laid}
+use Rattle.session.specs.Promises.{Ready}
+use Rattle.audit.specs.declared.Place.{Place}
+
+-- the log's bytes from `at` up to `end` stand in the window
+pub record Within (at end : ℕ) (window : List ℕ) : Type 0 where
+  pub order : at ≤ end
+  pub inside : end ≤ length window
+
+-- those bytes, which are read next
+abbrev pub ahead : ℕ → ℕ → List ℕ → List ℕ
+ahead at end window = take (end - at) (drop at window)
+
+-- they were moved to the front
+pub record Slid (at end : ℕ) (window : List ℕ) (n : ℕ) (window′ : List ℕ) : Type 0 where
+  pub count : n ≡ end - at
+  pub inside : n ≤ length window′
+  pub front : take n window′ ≡ ahead at end window
+
+-- they still come first, from another place on and with more behind them where the log was read on
+pub record Widened (at end : ℕ) (window : List ℕ) (r : Place) (window′ : List ℕ) : Type 0 where
+  pub within : Within (r .at) (r .end) window′
+  pub first : take (end - at) (ahead (r .at) (r .end) window′) ≡ ahead at end window
+
+-- a table that stands, words lent for its state and its trace, and room for what is told of an event
+pub record Lent (t s trace out : List ℕ) : Type 0 where
+  pub table : accepted t ≡ true
+  pub state : length s ≡ stateLength t
+  pub room : bound t ≤ length trace
+  pub small : length s ≤ 360
+  pub few : length trace ≤ 4096
+  pub bytes : 262144 ≤ length out
+
+-- table, state and trace are in order, no more words are lent than an event has, and there is room for what is told of one
+pub record Going (t : List ℕ) (h : Layout) (s trace out : List ℕ) : Type 0 where
+  pub laid : Laid t h
+  pub ready : Ready t s trace
+  pub small : length s ≤ 360
+  pub few : length trace ≤ 4096
+  pub bytes : 262144 ≤ length out
+
+-- as many words of a recording as are read
+abbrev pub mostWords : ℕ
+mostWords = 8192

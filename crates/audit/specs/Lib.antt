@@ -1,0 +1,3 @@
+-- What the program's functions keep.
+pub mod Kept
+pub mod Held

@@ -1,0 +1,2 @@
+-- Laws of the bytes that stay in a block.
+pub mod Parts
