@@ -1,6 +1,6 @@
 /* Runs document 01's marked table through the library, the same in edition 2 with a call that fails, and a table whose rules visit
- * more than one expression word; shows operators their panels; prints what each call gives and holds it against the documents. Leaves
- * with status 1 at the first difference. */
+ * more than one expression word; shows operators their panels; holds a supplier's recordings against the run; prints what each call
+ * gives and holds it against the documents. Leaves with status 1 at the first difference. */
 #include "herringcart.h"
 
 #include <inttypes.h>
@@ -290,6 +290,74 @@ static void panels(void)
     }
 }
 
+/* What a supplier recorded of an event, and what is said of it: the verdict, its number, and the part, whose it is and its length. */
+struct held {
+    const char *what;
+    uint32_t event;
+    uint32_t theirs[BOUND + 1];
+    size_t words;
+    uint32_t their_state[STATE_WORDS + 1];
+    size_t state_words;
+    uint32_t verdict;
+    size_t number;
+    char whose; /* 't'heirs, 'o'urs, or 0 for an empty part */
+    size_t rest;
+};
+
+/* A supplier's recordings of the marked run's first event, held against our own step from the fresh state. The part is a piece of one of
+ * the two traces: the very words, no copy. State and trace end as behind an event call. */
+static void holds(void)
+{
+    enum { ROOM = BOUND + 2, GO = 0x11000500 };
+#define A UINT32_C(0xF1000000)
+#define B UINT32_C(0x41000002)
+#define C UINT32_C(0x01001234)
+#define DONE {0x81400000, 0, 0x40000000, 0x80000000}
+    static const uint32_t done[STATE_WORDS] = DONE, fresh[STATE_WORDS], ours[BOUND] = {A, B, C};
+    static const struct held all[] = {
+        {"our own words", GO, {A, B, C}, 3, DONE, 4, HERRINGCART_AS_ORDERED, 0, 0, 0},
+        {"another's port", 0x12000500, {A, B, C}, 3, DONE, 4, HERRINGCART_REFUSED, HERRINGCART_OTHER_OWNER, 0, 0},
+        {"another word", GO, {A, B + 1, C}, 3, DONE, 4, HERRINGCART_TRACES_PART, 1, 't', 2},
+        {"two words exchanged, and no state", GO, {B, A, C}, 3, {0}, 0, HERRINGCART_TRACES_PART, 0, 't', 3},
+        {"a word lost at the end", GO, {A, B}, 2, DONE, 4, HERRINGCART_THEIRS_STOPS, 2, 'o', 1},
+        {"nothing", GO, {0}, 0, {0}, 0, HERRINGCART_THEIRS_STOPS, 0, 'o', 3},
+        {"a word more", GO, {A, B, C, UNTOUCHED}, 4, DONE, 4, HERRINGCART_OURS_STOPS, 3, 't', 1},
+        {"another state", GO, {A, B, C}, 3, {0x81400000, 0, 0x40000000, 0x80000001}, 4, HERRINGCART_STATES_PART, 3, 0, 0},
+        {"a state that is a word short", GO, {A, B, C}, 3, DONE, 3, HERRINGCART_STATES_PART, 3, 0, 0},
+        {"a state that is a word long", GO, {A, B, C}, 3, DONE, 5, HERRINGCART_STATES_PART, 4, 0, 0},
+    };
+#undef A
+#undef B
+#undef C
+#undef DONE
+    for (size_t i = 0; i < sizeof all / sizeof *all; i++) {
+        const struct held *e = &all[i];
+        struct held lent = *e;
+        uint32_t trace[ROOM], visits = 99;
+        size_t number = 99, rest = 99, count = 99, taken = e->verdict == HERRINGCART_REFUSED ? 0 : BOUND;
+        memset(trace, 0x55, sizeof trace);
+        expect("fresh", herringcart_make_fresh(table, TABLE_WORDS, state, STATE_WORDS), 0);
+        uint32_t verdict = herringcart_hold(table, TABLE_WORDS, state, STATE_WORDS, trace, ROOM, table, 0, e->event, lent.theirs,
+                                            lent.words, lent.their_state, lent.state_words, &number, &rest, &count, &visits);
+        printf("held, %s: verdict %" PRIu32 ", number %zu, words of the part %zu\n", e->what, verdict, number, rest);
+        expect("verdict", verdict, e->verdict);
+        expect("number", number, e->number);
+        expect("words of the part", rest, e->rest);
+        expect("count", count, taken);
+        expect("visits", visits, taken ? 1 : 0);
+        const uint32_t *part = herringcart_part(verdict, number, trace, lent.theirs);
+        const uint32_t *whose = e->whose == 'o' ? trace : lent.theirs;
+        expect("the part's place", (uint64_t)(part - whose), e->whose ? e->number : 0);
+        expect("the part's end", e->whose ? number + rest : 0, e->whose == 'o' ? count : e->whose ? e->words : 0);
+        expect_words("part", part, e->whose == 'o' ? ours + e->number : e->theirs + (e->whose ? e->number : 0), rest);
+        expect_words("state", state, taken ? done : fresh, STATE_WORDS);
+        for (size_t w = 0; w < ROOM; w++)
+            expect("a trace word", trace[w], w < taken ? ours[w] : UNTOUCHED);
+        expect("the supplier's words", (uint64_t)memcmp(lent.theirs, e->theirs, sizeof e->theirs), 0);
+        expect("the supplier's state", (uint64_t)memcmp(lent.their_state, e->their_state, sizeof e->their_state), 0);
+    }
+}
+
 /* Another archive than this header's may take other arguments: nothing is called with it. */
 static void version(void)
 {
@@ -334,6 +402,7 @@ int main(void)
     outcomes();
     visits();
     panels();
+    holds();
     printf("as the documents have it\n");
     return 0;
 }

@@ -1,7 +1,8 @@
 /* Herringcart: the proved mode manager's calls for C and C++.
  *
- * Tables, states, traces and outcomes are lent as arrays of 32-bit words, each by a pointer and its length in words; a panel's
- * lines are laid into an array of bytes. docs/TABLES.md has the layout of every word, and what to do about each reason and answer.
+ * Tables, states, traces, outcomes and what a supplier recorded are lent as arrays of 32-bit words, each by a pointer and its length
+ * in words; a panel's lines are laid into an array of bytes. docs/TABLES.md has the layout of every word, and what to do about each
+ * reason and answer.
  * Every call takes any words: it checks them for itself, and a refusal leaves every word of state and trace, and every byte of
  * lines, as it was.
  *
@@ -24,6 +25,7 @@
  * that was there before differs.
  * 5.3 changes no call, number, state or trace. What is promised of them is more: for one operator they go by its own events, the platform's and
  * the ticks alone, whatever other operators send (docs/CHANGES.md).
+ * 5.4 has one call more, herringcart_hold, with enum herringcart_verdict and herringcart_part. No call that was there before differs.
  * docs/CHANGES.md says what the versions before changed; since 4.0 an event call lends outcomes.
  *
  * The linker does not look at arguments. A program that was compiled with the header of another version may link with this
@@ -39,12 +41,14 @@
  *
  *   - No pointer is null, for a length of 0 neither: any aligned address other than null will do there.
  *   - uint32_t pointers are aligned for uint32_t, size_t pointers for size_t, uint64_t pointers for uint64_t. Lines may stand anywhere.
- *   - Each array is valid for its whole length for as long as the call runs: table, events, outcomes, a panel's words and a `const`
- *     state to read, state, trace and lines to read and write. All words of state and trace and all bytes of lines must have been
- *     written once before they are lent, with whatever values: the trace's and the lines' too, for the call may read them.
+ *   - Each array is valid for its whole length for as long as the call runs: table, events, outcomes, a panel's words, theirs,
+ *     their_state and a `const` state to read, state, trace and lines to read and write. All words of state and trace and all bytes
+ *     of lines must have been written once before they are lent, with whatever values: the trace's and the lines' too, for the call
+ *     may read them.
  *   - An array is at most PTRDIFF_MAX bytes long.
- *   - What a call writes (state, trace, lines, *place, *bound, *count, *taken, *visits, *bytes) overlaps nothing else lent in the same
- *     call: visits neither count nor taken. Table, events, outcomes, a panel's words and a `const` state may overlap.
+ *   - What a call writes (state, trace, lines, *place, *bound, *count, *taken, *visits, *bytes, *number, *rest) overlaps nothing else
+ *     lent in the same call: visits neither count nor taken, and number, rest and count not each other. What it only reads may overlap:
+ *     table, events, outcomes, a panel's words, theirs, their_state and a `const` state.
  *   - While the call runs, no other thread, interrupt or device writes what is lent, and none reads what the call
  *     writes. The table may stand in read-only memory, and any number of calls may read it at the same time.
  *
@@ -77,7 +81,8 @@
  * 86 us with 2,892. Tables made to be slow to check take up to 1.4 ms a call. The slowest that are known run 4,080 rule items
  * in one event: 3.5 ms, and 5.2 ms while a port is undefined. herringcart_play checks table and state once for all its events, and then
  * an event costs what it does alone. herringcart_panel checks table and state as an event does, and then goes twice through the
- * operator's lines. Whoever has a deadline measures with the table that is to be deployed.
+ * operator's lines. herringcart_hold takes its event, and then goes once through the words that are the same on both sides. Whoever
+ * has a deadline measures with the table that is to be deployed.
  */
 #ifndef HERRINGCART_H
 #define HERRINGCART_H
@@ -91,9 +96,9 @@
 
 /* The version of this header and of the archive beside it. docs/CHANGES.md says what each version changes. The number is
  * what herringcart_version of that archive gives. */
-#define HERRINGCART_VERSION "5.3"
+#define HERRINGCART_VERSION "5.4"
 #define HERRINGCART_VERSION_MAJOR 5
-#define HERRINGCART_VERSION_MINOR 3
+#define HERRINGCART_VERSION_MINOR 4
 #define HERRINGCART_VERSION_NUMBER (UINT32_C(65536) * HERRINGCART_VERSION_MAJOR + HERRINGCART_VERSION_MINOR)
 
 #ifdef __cplusplus
@@ -152,6 +157,17 @@ enum herringcart_answer {
 enum herringcart_panel_answer {
     HERRINGCART_NO_OPERATOR = 9, /* the number is 0, the platform's, or above 15 */
     HERRINGCART_NO_ROOM = 11     /* the lines need more bytes than are lent */
+};
+
+/* What herringcart_hold says of a supplier's recording, tried in the order 1, 2, 3, 4, 5; 0 where none of them holds. Beside it stands a
+ * number, and a part of one of the two traces, which is empty but for 2, 3 and 4. */
+enum herringcart_verdict {
+    HERRINGCART_AS_ORDERED = 0,   /* trace and state are what our tables order; the number is 0 */
+    HERRINGCART_REFUSED = 1,      /* our step refuses the event: the number is its answer */
+    HERRINGCART_TRACES_PART = 2,  /* the number of the first word that differs, from 0; the supplier's words from there */
+    HERRINGCART_THEIRS_STOPS = 3, /* the supplier's trace is a beginning of ours: its length; the rest of ours */
+    HERRINGCART_OURS_STOPS = 4,   /* ours is a beginning of the supplier's: our length; the rest of the supplier's */
+    HERRINGCART_STATES_PART = 5   /* the traces are the same: the first state word that differs, or the shorter state's length */
 };
 
 /* The kinds of events. */
@@ -266,6 +282,39 @@ uint32_t herringcart_play(const uint32_t *table, size_t table_words, uint32_t *s
 uint32_t herringcart_panel(uint32_t operator_number, const uint32_t *table, size_t table_words, const uint32_t *state,
                            size_t state_words, const uint32_t *words, size_t words_count, uint8_t *lines, size_t lines_bytes,
                            size_t *bytes);
+
+/* Holds a supplier's recording of one event against ours. table, state, trace, outcomes and event are those of herringcart_take_event: our
+ * own step is taken, and state, trace, *count and *visits end as behind that call. theirs are the trace words that the supplier's manager
+ * wrote for the event, from the same state and with the same outcomes, and their_state the words of its state afterwards. Both are only
+ * read; any words of any number will do, also none.
+ *
+ * Gives a verdict, enum herringcart_verdict: HERRINGCART_AS_ORDERED exactly if both are what our tables order, the trace word for word and
+ * the state word for word, whoever wrote them. So what our own step writes is always as ordered. The traces are looked at first, and the
+ * states only where the traces are the same. Always writes *number, the number beside the verdict; *rest, how many words the part has;
+ * and *count and *visits, our step's, both 0 where it refuses: then theirs and their_state are not looked at.
+ *
+ * The part is never copied. It is the rest of one of the two traces from word *number on, and herringcart_part points to its first word:
+ *
+ *         HERRINGCART_TRACES_PART, HERRINGCART_OURS_STOPS   the *rest words theirs[*number] and on, up to the end of theirs
+ *         HERRINGCART_THEIRS_STOPS                          the *rest words trace[*number] and on, up to word *count
+ *         the others                                        empty: *rest is 0
+ *
+ * The part is there for as long as the array that it is a piece of: of the trace up to the next call that writes it. */
+uint32_t herringcart_hold(const uint32_t *table, size_t table_words, uint32_t *state, size_t state_words, uint32_t *trace,
+                          size_t trace_words, const uint32_t *outcomes, size_t outcome_words, uint32_t event,
+                          const uint32_t *theirs, size_t their_words, const uint32_t *their_state, size_t their_state_words,
+                          size_t *number, size_t *rest, size_t *count, uint32_t *visits);
+
+/* The first word of the part that goes with a verdict, by its number, the trace and the supplier's words as they were lent. Where the
+ * part is empty it is theirs: never null, so that it can be handed on with the length *rest, as a panel's words for one. */
+static inline const uint32_t *herringcart_part(uint32_t verdict, size_t number, const uint32_t *trace, const uint32_t *theirs)
+{
+    if (verdict == HERRINGCART_THEIRS_STOPS)
+        return trace + number;
+    if (verdict == HERRINGCART_TRACES_PART || verdict == HERRINGCART_OURS_STOPS)
+        return theirs + number;
+    return theirs;
+}
 
 #ifdef __cplusplus
 }

@@ -25,7 +25,7 @@ static uint32_t table[TABLE_WORDS];
 static uint32_t state[STATE_WORDS];
 static uint32_t trace[HERRINGCART_TRACE_WORDS];
 static uint8_t lines[HERRINGCART_PANEL_BYTES(HERRINGCART_TRACE_WORDS)];
-static size_t place, count, laid;
+static size_t place, count, laid, number, rest;
 static uint32_t bound, visits;
 
 static void make_table(uint32_t edition)
@@ -93,6 +93,18 @@ static uint32_t panel(void)
     return herringcart_panel(1, table, TABLE_WORDS, state, STATE_WORDS, words, HERRINGCART_TRACE_WORDS, lines, sizeof lines, &laid);
 }
 
+/* Against an event's own recording: its trace, of its count, and its state, as the event call before it left them, so that every word is
+ * looked at. Gives 0, as ordered. */
+static uint32_t hold(void)
+{
+    static const uint32_t outcomes[] = {HERRINGCART_FAILED};
+    static uint32_t theirs[HERRINGCART_TRACE_WORDS], their_state[STATE_WORDS];
+    memcpy(theirs, trace, sizeof theirs);
+    memcpy(their_state, state, sizeof their_state);
+    return herringcart_hold(table, TABLE_WORDS, state, STATE_WORDS, trace, bound, outcomes, 1, 0x10000500, theirs, count, their_state,
+                            STATE_WORDS, &number, &rest, &count, &visits);
+}
+
 static _Alignas(65536) unsigned char stack[STACK];
 
 struct measured {
@@ -140,7 +152,7 @@ static int measure(uint32_t edition)
         uint32_t (*call)(void);
     } calls[] = {
         {"check_table", check_table}, {"make_fresh", make_fresh}, {"check_state", check_state}, {"play", play},
-        {"take_event", take_event},   {"panel", panel},
+        {"take_event", take_event},   {"hold", hold},             {"panel", panel},
     };
     int more = 0;
     make_table(edition);

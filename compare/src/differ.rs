@@ -1,5 +1,6 @@
 //! One case through both sides, every answer and every lent word and byte compared.
 
+pub mod holds;
 pub mod pairs;
 pub mod panels;
 mod plays;
@@ -13,9 +14,11 @@ use second::state::state_length;
 use second::stream::{STATE_FILL, TRACE_FILL};
 use second::words::{HEADER, Section, Table};
 
+use self::holds::Recorded;
 use self::panels::Shown;
 use crate::nearest::Visited;
 use crate::subject::Subject;
+use crate::verdicts::Verdicts;
 
 /// The first thing the two sides say differently, and what each says of it.
 #[derive(Clone, PartialEq, Eq, Debug)]
@@ -25,6 +28,8 @@ pub struct Difference {
     pub second: String,
     /// The panel, where it is one that differs: without its case it differs as well.
     pub panel: Option<Box<Shown>>,
+    /// The supplier's recording, where it is one that differs: likewise.
+    pub hold: Option<Box<Recorded>>,
 }
 
 impl fmt::Display for Difference {
@@ -124,7 +129,7 @@ fn same<U: Unit>(
         return Ok(());
     }
     let (what, proved, second) = (what(), U::told(proved), U::told(second));
-    Err(Difference { what, proved, second, panel: None })
+    Err(Difference { what, proved, second, panel: None, hold: None })
 }
 
 /// As `same`; where a guard differs, the guards are shown too.
@@ -148,8 +153,21 @@ pub fn bound(table: &[u32]) -> u64 {
     if check.reason == 0 { WHOLE_TREE * evaluations as u64 } else { 0 }
 }
 
-/// Everything both sides say of a case, in the order of the calls. Gives how near its bound it came.
-pub fn compare(subject: &impl Subject, case: &Case) -> Result<Visited, Difference> {
+/// What a case without a difference has shown: how near its bound it came, and what was said of the recordings held.
+#[derive(Clone, Copy, PartialEq, Eq, Debug)]
+pub struct Compared {
+    pub visited: Visited,
+    pub held: Verdicts,
+}
+
+/// Everything both sides say of a case, in the order of the calls, and of suppliers' recordings of its events.
+pub fn compare(subject: &impl Subject, case: &Case) -> Result<Compared, Difference> {
+    let visited = compare_calls(subject, case)?;
+    Ok(Compared { visited, held: holds::compare_holds(subject, case)? })
+}
+
+/// As `compare`, but that nothing is held, for that is many calls. Gives how near its bound the case came.
+pub fn compare_calls(subject: &impl Subject, case: &Case) -> Result<Visited, Difference> {
     let mut visited = Visited { most: 0, bound: bound(&case.table) };
     let untouched = Lent::of(&case.table);
     let mut table = untouched.clone();

@@ -1,5 +1,6 @@
-//! `compare fixed`: what the second program's fixed cases ask, with their panels
-//! and the panels' program, and the cases that a hunt has found, through both sides.
+//! `compare fixed`: what the second program's fixed cases ask, with their panels,
+//! suppliers' recordings and these two's programs, and the cases that a hunt has
+//! found, through both sides.
 
 use std::collections::BTreeSet;
 use std::fs::{self, File};
@@ -9,14 +10,17 @@ use std::path::{Path, PathBuf};
 use second::cases::Case;
 use second::program::words;
 use second::stream::{case_words, read_case, write_words};
-use second::testing::{AskedPanelRun, run_fixed};
+use second::testing::{AskedHoldRun, AskedPanelRun, run_fixed};
 
-use crate::differ::compare;
+use crate::differ::holds::{Recorded, compare_hold};
 use crate::differ::panels::{Shown, compare_panel};
-use crate::generated::{told, told_panel};
+use crate::differ::{Compared, compare};
+use crate::generated::{told, told_hold, told_panel};
+use crate::hold;
 use crate::nearest::Nearest;
 use crate::panel::by_library;
 use crate::subject::Proved;
+use crate::verdicts::Verdicts;
 
 /// Where found cases are kept: in the source, for they are fixed cases.
 pub fn folder() -> PathBuf {
@@ -29,12 +33,15 @@ pub fn fixed() -> Result<(), String> {
     let ran = run_fixed();
     let fixed = ran.len();
     let (mut seen, mut nearest) = (BTreeSet::new(), Nearest::default());
-    let (mut panels, mut runs) = (0, 0);
+    let (mut panels, mut runs, mut logs) = (0, 0, 0);
+    let (mut asked_for, mut verdicts) = (Verdicts::default(), Verdicts::default());
     for case in ran {
         case.outcome.map_err(|what| format!("fixed case {}: {what}", case.name))?;
         for asked in case.asked.iter().filter(|&asked| seen.insert(case_words(asked))) {
-            let visited = compare(&Proved, asked).map_err(|_| told(case.name, asked))?;
+            let Compared { visited, held } =
+                compare(&Proved, asked).map_err(|_| told(case.name, asked))?;
             nearest.meet(visited, || case.name.into());
+            verdicts += held;
         }
         for shown in case.panels.iter().map(Shown::recorded) {
             compare_panel(&Proved, &shown).map_err(|_| told_panel(&Proved, case.name, &shown))?;
@@ -42,14 +49,34 @@ pub fn fixed() -> Result<(), String> {
         for run in &case.panel_runs {
             compare_panel_run(run).map_err(|what| format!("fixed case {}: {what}", case.name))?;
         }
+        for recorded in case.holds.iter().map(Recorded::of_fixed) {
+            let verdict = compare_hold(&Proved, &recorded)
+                .map_err(|_| told_hold(&Proved, case.name, &recorded))?;
+            asked_for.meet(verdict);
+        }
+        for run in &case.hold_runs {
+            compare_hold_run(run).map_err(|what| format!("fixed case {}: {what}", case.name))?;
+        }
         panels += case.panels.len();
         runs += case.panel_runs.len();
+        logs += case.hold_runs.len();
     }
     let found = replay(&folder())?;
     println!("{fixed} fixed cases asked {} things: no difference\n{nearest}", seen.len());
     println!("{panels} panels and {runs} runs of the panel's program: no difference");
+    println!("what they ask to be held, {asked_for}");
+    println!("{logs} logs held by their program: no difference\nthe cases asked, {verdicts}");
     println!("{found} found cases: no difference");
-    Ok(())
+    verdicts.all_met()
+}
+
+/// What the log's program told over the second program's rules, over the library.
+fn compare_hold_run(run: &AskedHoldRun) -> Result<(), String> {
+    let proved = hold::by_library(&run.table, &run.events, &run.log, run.all);
+    if proved == run.told {
+        return Ok(());
+    }
+    Err(format!("differs: {run:?}\n  proved: {proved:?}"))
 }
 
 /// What the panel's program printed over the second program's rules, over the library.

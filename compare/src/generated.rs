@@ -4,13 +4,15 @@ use second::cases::{Case, Cases};
 use second::testing;
 use second::testing::coverage::Coverage;
 
+use crate::differ::holds::Recorded;
 use crate::differ::panels::Shown;
-use crate::differ::{Words, bound, compare};
+use crate::differ::{Compared, Difference, Words, bound, compare};
 use crate::nearest::Nearest;
 use crate::number;
 use crate::rows::Of;
-use crate::shrink::{smallest_difference, smallest_panel};
+use crate::shrink::{smallest_difference, smallest_hold, smallest_panel};
 use crate::subject::{Proved, Subject};
+use crate::verdicts::Verdicts;
 
 /// Seeds, each with how many of its first cases are run.
 pub fn cases(pairs: &[&str]) -> Result<(), String> {
@@ -19,13 +21,15 @@ pub fn cases(pairs: &[&str]) -> Result<(), String> {
         return Err("each seed needs its count".into());
     }
     let (mut coverage, mut nearest) = (Coverage::new(), Nearest::default());
-    let (mut cases, mut events) = (0, 0);
+    let (mut cases, mut events, mut verdicts) = (0, 0, Verdicts::default());
     for [seed, count] in pairs {
         let (seed, count): (u64, usize) = (number(seed)?, number(count)?);
         for (place, made) in Cases::new(seed).take(count).enumerate() {
             let name = || format!("case {place} of seed {seed}");
-            let visited = compare(&Proved, &made.case).map_err(|_| told(&name(), &made.case))?;
+            let Compared { visited, held } =
+                compare(&Proved, &made.case).map_err(|_| told(&name(), &made.case))?;
             nearest.meet(visited, name);
+            verdicts += held;
             testing::generated(&made, &mut coverage)
                 .map_err(|what| format!("{}, second program: {what}", name()))?;
             events += made.case.events.len();
@@ -33,20 +37,24 @@ pub fn cases(pairs: &[&str]) -> Result<(), String> {
         cases += count;
     }
     println!("cases  coverage\n{}", Of::Cases.table(&coverage));
-    println!("{cases} cases, {events} events: no difference\n{nearest}");
-    Of::Cases.all_met(&coverage)
+    println!("{cases} cases, {events} events: no difference\n{nearest}\n{verdicts}");
+    Of::Cases.all_met(&coverage)?;
+    verdicts.all_met()
 }
 
-/// A case that differs, made as small as it goes, with what each side says. Where a panel differs, that is told without its case.
+/// A case that differs, made as small as it goes, with what each side says. Where a panel or a supplier's recording differs, that is
+/// told without its case.
 pub fn told(name: &str, case: &Case) -> String {
     told_of(&Proved, name, case)
 }
 
 pub fn told_of(subject: &impl Subject, name: &str, case: &Case) -> String {
-    if let Err(difference) = compare(subject, case)
-        && let Some(shown) = difference.panel
-    {
-        return told_panel(subject, name, &shown);
+    match compare(subject, case).err() {
+        Some(Difference { panel: Some(shown), .. }) => return told_panel(subject, name, &shown),
+        Some(Difference { hold: Some(recorded), .. }) => {
+            return told_hold(subject, name, &recorded);
+        }
+        _ => {}
     }
     let (case, difference) = smallest_difference(subject, case);
     let Case { table, state, room, events, .. } = &case;
@@ -70,6 +78,22 @@ pub fn told_panel(subject: &impl Subject, name: &str, shown: &Shown) -> String {
         Words(&state),
         Words(&words),
         room.len()
+    )
+}
+
+/// A supplier's recording that differs, made as small as it goes, with what each side says.
+pub fn told_hold(subject: &impl Subject, name: &str, recorded: &Recorded) -> String {
+    let (recorded, difference) = smallest_hold(subject, recorded);
+    let Recorded { table, state, trace, outcomes, event, theirs, their_state } = recorded;
+    format!(
+        "{name}, a recording held, made smaller:\ntable: {}\nstate: {}\nroom: {}\nevent: {event:08X}\noutcomes: {}\n\
+         supplier's trace: {}\nsupplier's state: {}\n{difference}",
+        Words(&table),
+        Words(&state),
+        trace.len(),
+        Words(&outcomes),
+        Words(&theirs),
+        Words(&their_state)
     )
 }
 

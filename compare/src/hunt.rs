@@ -5,8 +5,8 @@ use std::time::{Duration, Instant, SystemTime, UNIX_EPOCH};
 use second::cases::Cases;
 use second::cases::pairs::pair;
 
-use crate::differ::compare;
 use crate::differ::pairs::compare_pair;
+use crate::differ::{Compared, compare};
 use crate::found::keep;
 use crate::generated::told;
 use crate::nearest::Nearest;
@@ -14,6 +14,7 @@ use crate::number;
 use crate::pairs;
 use crate::shrink::smallest_difference;
 use crate::subject::Proved;
+use crate::verdicts::Verdicts;
 
 /// After so many a hunt ends: the rest is most likely the same fault again.
 const ENOUGH: usize = 10;
@@ -28,12 +29,16 @@ pub fn hunt(seconds: &str) -> Result<(), String> {
     let seed = now.as_nanos() as u64;
     println!("seed {seed}");
     let (mut cases, mut found, mut nearest) = (0, 0, Nearest::default());
+    let mut verdicts = Verdicts::default();
     for made in Cases::new(seed) {
         if Instant::now() >= end || found == ENOUGH {
             break;
         }
         match compare(&Proved, &made.case) {
-            Ok(visited) => nearest.meet(visited, || format!("case {cases}")),
+            Ok(Compared { visited, held }) => {
+                nearest.meet(visited, || format!("case {cases}"));
+                verdicts += held;
+            }
             Err(_) => {
                 let name = format!("{seed}-{cases}");
                 let (case, _) = smallest_difference(&Proved, &made.case);
@@ -43,7 +48,7 @@ pub fn hunt(seconds: &str) -> Result<(), String> {
         }
         cases += 1;
     }
-    println!("{cases} cases of seed {seed}: {found} differ\n{nearest}");
+    println!("{cases} cases of seed {seed}: {found} differ\n{nearest}\n{verdicts}");
     let at_fault = hunt_pairs(seed, start + time);
     match (found, at_fault) {
         (0, 0) => Ok(()),

@@ -1,23 +1,54 @@
 //! What the programs are started as, and what the second program prints for it.
 
+mod logs;
+
 use second::panel::{OPERATORS, View};
-use second::program::{self, played, printed};
+use second::program::{self, HoldTold, played, printed};
 use second::words::{Section, Table};
 
-/// A program has its two files for words; a panel's has behind them whose it is, in decimal, and whether it is followed.
+pub use logs::Log;
+
+/// A program has its two files for words; a panel's has behind them whose it is, in decimal, and whether it is followed; a log's has a
+/// third file, and behind it whether all events are wanted.
 #[derive(Clone, PartialEq, Eq, Debug)]
 pub enum Kind {
     Run,
     Play,
     Cost,
     Panel { operator: String, follow: bool },
+    Hold { log: Log, all: bool },
 }
 
-/// What the second program prints; and of a panel whether something is said on standard error.
+/// What the second program prints, and what is said on standard error.
 pub struct Expected {
     pub lines: String,
-    pub told: Option<bool>,
+    pub told: Told,
 }
+
+/// What is said on standard error.
+#[derive(Clone, PartialEq, Eq, Debug)]
+pub enum Told {
+    /// It is not looked at.
+    Any,
+    /// Something or nothing.
+    Whether(bool),
+    /// Just this; and the status is 0, whatever is found.
+    Just(String),
+}
+
+impl Told {
+    /// Whether a program that ended with a status, and said this, has told it.
+    pub fn is(&self, status: Option<i32>, said: &[u8]) -> bool {
+        match self {
+            Told::Any => status.is_some(),
+            Told::Whether(told) => status.is_some() && *told != said.is_empty(),
+            Told::Just(text) => status == Some(0) && text.as_bytes() == said,
+        }
+    }
+}
+
+/// Where an event was not as ordered the program says this last, for its status cannot tell.
+const PARTED: &str = "herringcart: parted\n";
 
 impl Kind {
     pub fn panel(operator: u32, follow: bool) -> Self {
@@ -29,7 +60,16 @@ impl Kind {
         match self {
             Kind::Panel { operator, follow: true } => vec![operator, "follow"],
             Kind::Panel { operator, follow: false } => vec![operator],
+            Kind::Hold { all: true, .. } => vec!["all"],
             _ => vec![],
+        }
+    }
+
+    /// The bytes of the third file, made of what the second program prints for the two others.
+    pub fn log(&self, table: &[u8], events: &[u8]) -> Option<Vec<u8>> {
+        match self {
+            Kind::Hold { log, .. } => Some(log.bytes(table, events)),
+            _ => None,
         }
     }
 
@@ -44,12 +84,25 @@ impl Kind {
                 let shown = |number| program::panel(number, table, events, *follow).ok();
                 let printed = number.and_then(shown);
                 return Expected {
-                    told: Some(printed.is_none()),
+                    told: Told::Whether(printed.is_none()),
                     lines: printed.unwrap_or_default(),
                 };
             }
+            Kind::Hold { log, all } => {
+                let log = log.bytes(table, events);
+                return Expected::of_log(program::hold(table, events, &log, *all));
+            }
         };
-        Expected { lines, told: None }
+        Expected { lines, told: Told::Any }
+    }
+}
+
+impl Expected {
+    /// What is wrong with the log or the table, and whether an event was not as ordered: the lines of the first such are the first.
+    fn of_log(HoldTold { printed, trouble, .. }: HoldTold) -> Self {
+        let parted = if printed.starts_with("event ") { PARTED } else { "" };
+        let trouble = trouble.map_or(String::new(), |trouble| format!("{trouble}\n"));
+        Expected { lines: printed, told: Told::Just(format!("{trouble}{parted}")) }
     }
 }
 
@@ -77,7 +130,8 @@ pub fn kinds(name: &str, place: usize, table: &[u32]) -> Result<Vec<Kind>, Strin
         "play" => Ok(vec![Kind::Play]),
         "cost" => Ok(vec![Kind::Cost]),
         "panel" => Ok(panels(place, table)),
-        _ => Err(format!("neither run nor play nor cost nor panel: {name}")),
+        "hold" => Ok(logs::logs(place)),
+        _ => Err(format!("neither run nor play nor cost nor panel nor hold: {name}")),
     }
 }
 
@@ -125,6 +179,7 @@ pub fn owners(table: &[u32]) -> (Vec<u32>, Vec<u32>) {
 mod tests {
     use super::*;
     use crate::bench::MARKED;
+    use crate::programs::bytes;
 
     fn asked(place: usize, table: &[u32]) -> Vec<(String, bool)> {
         let words = |kind: Kind| match kind {
@@ -175,8 +230,37 @@ mod tests {
             let expected = kind.expected(table, &[]);
             assert_eq!(
                 (expected.told, expected.lines.is_empty()),
-                (Some(told), told || operator == "2")
+                (Told::Whether(told), told || operator == "2")
             );
         }
+    }
+
+    #[test]
+    fn of_a_log_the_trouble_is_told_and_behind_it_that_an_event_parted() {
+        let [table, events] = [&MARKED[..], &[0x1100_0500, 0]].map(|words| bytes(words, 0));
+        let told = |log: Log, all: bool| Kind::Hold { log, all }.expected(&table, &events).told;
+        let ends = "herringcart: line 13 of the log: no answer, and no word\n";
+        let just = |text: &str| Told::Just(text.into());
+        for all in [false, true] {
+            assert_eq!(told(Log::Own, all), just(""));
+            assert_eq!(told(Log::Changed(vec![0]), all), just(PARTED));
+            assert_eq!(told(Log::Cut(1), all), just(ends));
+        }
+        let log = Log::Changed(vec![0]).bytes(&table, &events);
+        let log = Log::Given(log[..log.len() - 1].to_vec());
+        assert_eq!(told(log.clone(), false), just(PARTED));
+        assert_eq!(told(log, true), just(&format!("{ends}{PARTED}")));
+        let bad = Kind::Hold { log: Log::Own, all: false }.expected(&table[..44], &events);
+        assert_eq!(bad.told, just("herringcart: refused: the table has reason 4 at word 0\n"));
+    }
+
+    #[test]
+    fn what_a_program_has_told_goes_by_its_status_and_standard_error() {
+        assert!(Told::Any.is(Some(1), b"x") && !Told::Any.is(None, b""));
+        assert!(Told::Whether(true).is(Some(1), b"x") && !Told::Whether(true).is(Some(1), b""));
+        assert!(Told::Whether(false).is(Some(0), b"") && !Told::Whether(false).is(None, b""));
+        let just = Told::Just(PARTED.into());
+        assert!(just.is(Some(0), PARTED.as_bytes()) && !just.is(Some(1), PARTED.as_bytes()));
+        assert!(!just.is(Some(0), b"") && Told::Just(String::new()).is(Some(0), b""));
     }
 }

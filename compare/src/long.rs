@@ -14,7 +14,7 @@ use second::program::{cost, played, printed};
 use second::words::Table;
 
 use crate::bench::{MARKED, example, marked_run};
-use crate::kind::Kind;
+use crate::kind::{Kind, Log};
 use crate::programs::{Program, bytes};
 
 /// The events of one of the program's blocks, which has 65,536 bytes.
@@ -73,12 +73,24 @@ fn compare(
         }
         "cost" => cost_shows(table, &events).map(|()| vec![Kind::Cost])?,
         "panel" => panels::shown(table, &mut events)?,
-        _ => return Err(format!("neither run nor play nor cost nor panel: {name}")),
+        "hold" => shows(table, &events).map(|()| logs(events.len()))?,
+        _ => return Err(format!("neither run nor play nor cost nor panel nor hold: {name}")),
     };
     moves(table, &events)?;
     let (table, bytes) = (bytes(table, 0), bytes(&events, past));
     kinds.iter().try_for_each(|kind| program.compare(kind, &table, &bytes))?;
     Ok(events.len())
+}
+
+/// The logs that such a file is held against: its own print, of which a program that forgets its state at a block says that an event
+/// parts; with words changed about the blocks' ends, of the events that are held up to the first or to the last; and without the newline
+/// of its last line.
+fn logs(events: usize) -> Vec<Kind> {
+    let changed = Log::Changed(vec![BLOCK - 1, BLOCK, 2 * BLOCK - 1, 2 * BLOCK, events - 1]);
+    let last = Log::Changed(vec![2 * BLOCK]);
+    let logs =
+        [(Log::Own, false), (Log::Own, true), (changed, true), (last, false), (Log::Cut(1), false)];
+    logs.map(|(log, all)| Kind::Hold { log, all }).into()
 }
 
 fn draft(table: &[u32]) -> Result<Draft, String> {

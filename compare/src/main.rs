@@ -4,6 +4,7 @@ mod bench;
 mod differ;
 mod found;
 mod generated;
+mod hold;
 mod hunt;
 mod kind;
 mod long;
@@ -14,6 +15,7 @@ mod programs;
 mod rows;
 mod shrink;
 mod subject;
+mod verdicts;
 mod yardstick;
 
 use std::process::ExitCode;
@@ -26,12 +28,14 @@ const USAGE: &str = "usage: compare cases SEED COUNT [SEED COUNT ...]
        compare play TABLE EVENTS
        compare cost TABLE EVENTS
        compare panel OPERATOR TABLE EVENTS [--follow]
-       compare programs run|play|cost|panel DIR COUNT SEED PROGRAM...
-       compare long run|play|cost|panel DIR PROGRAM...
+       compare hold TABLE EVENTS LOG [--all]
+       compare programs run|play|cost|panel|hold DIR COUNT SEED PROGRAM...
+       compare long run|play|cost|panel|hold DIR PROGRAM...
        compare day DIR PROGRAM...
        compare bench
        compare bench-programs PROGRAM...
-       compare bench-day PROGRAM...";
+       compare bench-day PROGRAM...
+       compare bench-hold PROGRAM...";
 
 unsafe extern "C" {
     fn signal(number: i32, action: usize) -> usize;
@@ -53,6 +57,9 @@ fn main() -> ExitCode {
         return panel::panel(words, USAGE);
     }
     end_quietly_in_a_closed_pipe();
+    if let ["hold", ref words @ ..] = args[..] {
+        return hold::hold(words, USAGE);
+    }
     let done = match args[..] {
         ["cases", ref pairs @ ..] if !pairs.is_empty() => generated::cases(pairs),
         ["pairs", ref pairs @ ..] if !pairs.is_empty() => pairs::pairs(pairs),
@@ -72,6 +79,7 @@ fn main() -> ExitCode {
         ["bench"] => bench::bench(),
         ["bench-programs", ref program @ ..] if !program.is_empty() => bench::programs(program),
         ["bench-day", ref program @ ..] if !program.is_empty() => bench::bench_day(program),
+        ["bench-hold", ref program @ ..] if !program.is_empty() => bench::bench_hold(program),
         _ => {
             eprintln!("{USAGE}");
             return ExitCode::from(2);

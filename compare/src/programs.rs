@@ -10,10 +10,11 @@ use std::time::Duration;
 use herringcart::End;
 use second::cases::{Case, Cases};
 use second::program::words;
+use second::testing::{AskedHoldRun, run_fixed};
 
 use crate::bench::MARKED;
 use crate::differ::Words;
-use crate::kind::{Expected, Kind, kinds};
+use crate::kind::{Expected, Kind, Log, Told, kinds};
 use crate::number;
 use crate::shrink::smallest;
 
@@ -22,7 +23,11 @@ const LIMIT: Duration = Duration::from_secs(60);
 
 /// A file's whole words.
 pub fn read(path: &str) -> Result<Vec<u32>, String> {
-    fs::read(path).map(|bytes| words(&bytes)).map_err(|why| format!("cannot read {path}: {why}"))
+    read_bytes(path).map(|bytes| words(&bytes))
+}
+
+pub fn read_bytes(path: &str) -> Result<Vec<u8>, String> {
+    fs::read(path).map_err(|why| format!("cannot read {path}: {why}"))
 }
 
 /// Document 01's program over the proved library, in this process; and what the second program's fixed cases ask of it besides: a
@@ -130,18 +135,19 @@ fn cost_by_library(table: &[u32], events: &[u32]) -> String {
     lines
 }
 
-/// The program's command line, and the two files it is given.
+/// The program's command line, and the files it is given: two, and a log.
 pub struct Program<'a> {
     command: &'a [&'a str],
     table: PathBuf,
     events: PathBuf,
+    log: PathBuf,
 }
 
 impl<'a> Program<'a> {
     pub fn new(folder: &str, command: &'a [&'a str]) -> Result<Self, String> {
         fs::create_dir_all(folder).map_err(|why| format!("cannot make {folder}: {why}"))?;
         let file = |name: &str| Path::new(folder).join(name);
-        Ok(Program { command, table: file("table"), events: file("events") })
+        Ok(Program { command, table: file("table"), events: file("events"), log: file("log") })
     }
 
     pub fn write(&self, table: &[u8], events: &[u8]) -> Result<(), String> {
@@ -150,20 +156,37 @@ impl<'a> Program<'a> {
             .map_err(|why| format!("cannot write {}: {why}", self.table.display()))
     }
 
+    /// The third file, where there is one.
+    pub fn write_log(&self, log: Option<&[u8]>) -> Result<(), String> {
+        let Some(log) = log else { return Ok(()) };
+        fs::write(&self.log, log)
+            .map_err(|why| format!("cannot write {}: {why}", self.log.display()))
+    }
+
+    /// Takes the third file away: one of a day is large.
+    pub fn remove_log(&self) -> Result<(), String> {
+        fs::remove_file(&self.log)
+            .map_err(|why| format!("cannot remove {}: {why}", self.log.display()))
+    }
+
     fn ready(&self, kind: &Kind) -> Result<Command, String> {
         let (name, arguments) = self.command.split_first().ok_or("no program")?;
         let mut command = Command::new(name);
-        command.args(arguments).arg(&self.table).arg(&self.events).args(kind.behind());
+        command.args(arguments).arg(&self.table).arg(&self.events);
+        if matches!(kind, Kind::Hold { .. }) {
+            command.arg(&self.log);
+        }
+        command.args(kind.behind());
         Ok(command)
     }
 
-    /// Starts the program on its two files.
+    /// Starts the program on its files.
     pub fn start(&self, kind: &Kind) -> Result<Output, String> {
         let mut command = self.ready(kind)?;
         command.output().map_err(|why| format!("cannot start {}: {why}", self.command[0]))
     }
 
-    /// Starts the program on its two files, its output thrown away.
+    /// Starts the program on its files, its output thrown away.
     pub fn quietly(&self, kind: &Kind) -> Result<(), String> {
         let (name, mut command) = (self.command[0], self.ready(kind)?);
         let status = command.stdout(Stdio::null()).status();
@@ -171,19 +194,23 @@ impl<'a> Program<'a> {
         if status.success() { Ok(()) } else { Err(format!("{name}: {status}")) }
     }
 
-    /// Fails where its standard output is not the second program's.
+    /// Fails where its standard output is not the second program's, or standard error not what is expected there.
     pub fn compare(&self, kind: &Kind, table: &[u8], events: &[u8]) -> Result<(), String> {
         self.write(table, events)?;
+        self.write_log(kind.log(table, events).as_deref())?;
         let output = self.start(kind)?;
         let Expected { lines: expected, told } = kind.expected(table, events);
-        let ended = output.status.code().is_some();
-        let said = !output.stderr.is_empty();
-        if output.stdout == expected.as_bytes() && ended && told.is_none_or(|told| told == said) {
+        if output.stdout == expected.as_bytes() && told.is(output.status.code(), &output.stderr) {
             return Ok(());
         }
         let given = String::from_utf8_lossy(&output.stdout);
         let line = given.lines().zip(expected.lines()).take_while(|(g, e)| g == e).count();
-        let told = told.map_or("", |told| if told { " and a message" } else { " and no message" });
+        let told = match told {
+            Told::Any => String::new(),
+            Told::Whether(true) => " and a message".into(),
+            Told::Whether(false) => " and no message".into(),
+            Told::Just(text) => format!(" and the message {text:?}"),
+        };
         Err(format!(
             "{kind:?}: {}, output differs at line {}: {:?} where the second program has {:?}{told}; standard error: {:?}",
             output.status,
@@ -222,6 +249,7 @@ pub fn programs(
 ) -> Result<(), String> {
     let (count, seed): (usize, u64) = (number(count)?, number(seed)?);
     let program = Program::new(folder, command)?;
+    let mut logs = LogsMet::default();
     for (place, made) in Cases::new(seed).take(count).enumerate() {
         let past = place % 4;
         // The program makes its own state, and lends B and no outcomes.
@@ -233,6 +261,7 @@ pub fn programs(
             let compare = |case: &Case| {
                 program.compare(&kind, &bytes(&case.table, past), &bytes(&case.events, 3 - past))
             };
+            logs.meet(&kind, &bytes(&case.table, past), &bytes(&case.events, 3 - past));
             if let Err(what) = compare(&case) {
                 let case = smallest(&case, |case| compare(case).is_err(), LIMIT);
                 let what = compare(&case).err().unwrap_or(what);
@@ -244,6 +273,10 @@ pub fn programs(
         }
     }
     kinds(name, 1, &MARKED)?.iter().try_for_each(|kind| missing_files(&program, kind))?;
+    if name == "hold" {
+        logs.all_met()?;
+        fixed_logs(&program)?;
+    }
     println!("{name}, {count} cases of seed {seed}: the same bytes; an unreadable file is told");
     Ok(())
 }
@@ -251,12 +284,58 @@ pub fn programs(
 /// A file that cannot be read is a message on standard error and no output.
 fn missing_files(program: &Program, kind: &Kind) -> Result<(), String> {
     program.write(&bytes(&MARKED, 0), &[])?;
-    for missing in [&program.events, &program.table] {
+    program.write_log(kind.log(&bytes(&MARKED, 0), &[]).as_deref())?;
+    let log = matches!(kind, Kind::Hold { .. }).then_some(&program.log);
+    for missing in log.into_iter().chain([&program.events, &program.table]) {
         fs::remove_file(missing).map_err(|why| why.to_string())?;
         let output = program.start(kind)?;
         if !output.stdout.is_empty() || output.stderr.is_empty() {
             return Err(format!("without {}: {output:?}", missing.display()));
         }
     }
+    Ok(())
+}
+
+/// How many logs were as ordered, had an event that parted, and were in trouble; and with one that parted before it.
+#[derive(Default)]
+struct LogsMet([usize; 4]);
+
+impl LogsMet {
+    fn meet(&mut self, kind: &Kind, table: &[u8], events: &[u8]) {
+        let Kind::Hold { .. } = kind else { return };
+        let Expected { told: Told::Just(text), .. } = kind.expected(table, events) else { return };
+        let (trouble, parted) = (text.contains("of the log"), text.contains("parted"));
+        self.0[2 * usize::from(trouble) + usize::from(parted)] += 1;
+    }
+
+    fn all_met(&self) -> Result<(), String> {
+        let [yes, parted, trouble, both] = self.0;
+        println!(
+            "hold: {yes} logs as ordered or refused with their table, {parted} with an event that parts, {trouble} in trouble, {both} with both"
+        );
+        if self.0.contains(&0) {
+            Err("one of these kinds of logs was not met".into())
+        } else {
+            Ok(())
+        }
+    }
+}
+
+/// The logs that the second program's fixed cases hold, by the program; each is told with what its case expects.
+fn fixed_logs(program: &Program) -> Result<(), String> {
+    // A case that fails is told with its name, not by its panic.
+    std::panic::set_hook(Box::new(|_| {}));
+    let mut logs = 0;
+    for case in run_fixed() {
+        case.outcome.map_err(|what| format!("fixed case {}: {what}", case.name))?;
+        for AskedHoldRun { table, events, log, all, .. } in &case.hold_runs {
+            let kind = Kind::Hold { log: Log::Given(log.clone()), all: *all };
+            program
+                .compare(&kind, table, events)
+                .map_err(|what| format!("fixed case {}: {what}", case.name))?;
+        }
+        logs += case.hold_runs.len();
+    }
+    println!("hold, {logs} logs of the fixed cases: the same bytes");
     Ok(())
 }

@@ -1,7 +1,7 @@
 //! What is compared with the second program: the proved code. It stands behind
 //! a trait so that the tests can put a wrong one in its place.
 
-use herringcart::{Answer, Check, Panel, Played};
+use herringcart::{Answer, Check, Held, Panel, Played};
 
 pub trait Subject {
     /// Whether its visits are compared: a side that was made before Q-10 reports none.
@@ -49,6 +49,19 @@ pub trait Subject {
         lines: &mut [u8],
     ) -> Panel {
         herringcart::panel(operator, table, state, words, lines)
+    }
+
+    fn hold<'a>(
+        &self,
+        table: &[u32],
+        state: &mut [u32],
+        trace: &'a mut [u32],
+        outcomes: &[u32],
+        event: u32,
+        theirs: &'a [u32],
+        their_state: &[u32],
+    ) -> Held<'a> {
+        herringcart::hold(table, state, trace, outcomes, event, theirs, their_state)
     }
 }
 

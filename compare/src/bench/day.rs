@@ -8,7 +8,7 @@ use super::{example, target};
 use crate::kind::Kind;
 use crate::programs::{Program, bytes};
 
-const TICKS: usize = 8_640_000;
+pub const TICKS: usize = 8_640_000;
 const REPEATS: usize = 3;
 /// As many trace words as the program `play` lends.
 const ROOM: usize = 16_384;

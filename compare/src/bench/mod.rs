@@ -6,7 +6,9 @@ mod before;
 mod clock;
 mod day;
 mod editions;
+mod holds;
 mod hostile;
+mod logs;
 mod panels;
 mod programs;
 mod sized;
@@ -26,6 +28,7 @@ use second::program::words;
 pub use clock::Clock;
 pub use day::{bench_day, day};
 use hostile::Hostile;
+pub use logs::bench_hold;
 pub use programs::programs;
 use times::{Run, Times};
 use timing::{Work, best};
@@ -95,6 +98,7 @@ pub fn bench() -> Result<(), String> {
     }
     visits::prices()?;
     panels::panels()?;
+    holds::holds()?;
     hostile_tables()
 }
 

@@ -8,6 +8,7 @@ use second::words::*;
 
 use super::*;
 use crate::differ::bound;
+use crate::differ::holds::compare_hold;
 use crate::subject::{Proved, Subject};
 
 /// Has another place for a refused table and another answer for a bus-off.
@@ -300,4 +301,17 @@ fn the_large_panel_is_of_every_thing_and_word() {
     let count = lines[..laid.bytes].iter().filter(|&&byte| byte == b'\n').count();
     assert!(shown.words.len() > 68 && count == things.iter().sum::<usize>() + shown.words.len());
     assert_eq!(panels::behind(2, &table, request).needs(), 0);
+}
+
+#[test]
+fn what_is_held_is_our_own_recording_of_a_trace_and_a_state() {
+    let large = sized::sized(68).words();
+    for (table, event, words) in
+        [(&MARKED[..], marked_run()[0], 3), (&large, sized::events()[0], 69)]
+    {
+        let own = holds::own(table, event);
+        assert_eq!(compare_hold(&Proved, &own), Ok(second::hold::verdict::AS_ORDERED));
+        assert!(own.theirs.len() >= words && own.their_state != own.state, "{own:X?}");
+        assert_eq!(own.their_state.len(), herringcart::state_words(table));
+    }
 }

@@ -6,7 +6,7 @@ use std::hint::black_box;
 use second::cases::Case;
 
 use super::timing::{Work, best};
-use crate::differ::{Difference, compare};
+use crate::differ::{Difference, compare_calls};
 use crate::subject::{Proved, Subject};
 
 /// Nanoseconds per event; or what is said below the line where there is no time,
@@ -33,7 +33,7 @@ impl Times {
         runs: &[Run],
     ) -> Result<Vec<Self>, Difference> {
         for run in runs {
-            compare(&Proved, &run.case)?;
+            compare_calls(&Proved, &run.case)?;
         }
         let mut all: Vec<_> = runs.iter().map(|run| Sides::of(run, before, clock)).collect();
         let mut works: Vec<_> = all.iter_mut().flat_map(Sides::works).collect();
@@ -123,7 +123,7 @@ impl Run {
 
     /// The run by a side, if that computes what the second program does.
     fn held<'a>(&'a self, name: &str, side: &'a impl Subject) -> Result<Work<'a>, String> {
-        compare(side, &self.case).map_err(|difference| {
+        compare_calls(side, &self.case).map_err(|difference| {
             format!("\n  {name}: no time, it computes something else: {}", difference.what)
         })?;
         Ok(self.by(|t, s, r, o, e| side.step(t, s, r, o, e).count))

@@ -12,8 +12,9 @@ use second::cases::Case;
 use second::stream::{PANEL_FILL, TRACE_FILL};
 use second::words::{SECTIONS, Section};
 
+use crate::differ::holds::{Recorded, compare_hold};
 use crate::differ::panels::{Shown, compare_panel};
-use crate::differ::{Difference, compare};
+use crate::differ::{Difference, compare, compare_calls};
 use crate::subject::Subject;
 
 /// The longest that one case is made smaller.
@@ -21,15 +22,19 @@ const LIMIT: Duration = Duration::from_secs(20);
 
 /// The smallest case found that the two sides differ on, and how they differ.
 pub fn smallest_difference(subject: &impl Subject, case: &Case) -> (Case, Difference) {
-    let differs = |case: &Case| compare(subject, case).is_err();
-    let case = smallest(case, differs, LIMIT);
-    let difference = compare(subject, &case).err().unwrap_or_else(not_again);
+    // Recordings are held only where nothing else differs, for they are many calls.
+    let calls = |case: &Case| compare_calls(subject, case).err();
+    let all = |case: &Case| compare(subject, case).err();
+    let difference: &dyn Fn(&Case) -> Option<Difference> =
+        if calls(case).is_some() { &calls } else { &all };
+    let case = smallest(case, |case| difference(case).is_some(), LIMIT);
+    let difference = difference(&case).unwrap_or_else(not_again);
     (case, difference)
 }
 
 fn not_again() -> Difference {
     let what = "nothing any more: a side does not answer alike when asked again".into();
-    Difference { what, proved: String::new(), second: String::new(), panel: None }
+    Difference { what, proved: String::new(), second: String::new(), panel: None, hold: None }
 }
 
 /// The smallest panel found that the two sides differ on, and how they differ. The ways are those of a case, whose events the trace
@@ -58,6 +63,67 @@ pub fn smallest_panel(subject: &impl Subject, shown: &Shown) -> (Shown, Differen
     let small = panel(&small, small.room);
     let difference = compare_panel(subject, &small).err().unwrap_or_else(not_again);
     (small, difference)
+}
+
+/// The smallest recording found that the two sides differ on, and how they differ. The ways are those of a case of one event. First the
+/// supplier's words stay what they are made of ours by, with a piece in another's place, for else a smaller table would have them part
+/// elsewhere; then they are made smaller themselves.
+pub fn smallest_hold(subject: &impl Subject, recorded: &Recorded) -> (Recorded, Difference) {
+    let (trace, state, _) = recorded.ours();
+    let of_trace = Edit::of(&trace, &recorded.theirs);
+    let of_state = Edit::of(&state, &recorded.their_state);
+    let tied = |case: &Case| {
+        let Case { table, state, room, events, outcomes } = case.clone();
+        let &[event] = &events[..] else { return None };
+        let trace = recorded.trace.iter().copied().chain(repeat(TRACE_FILL)).take(room).collect();
+        let outcomes = outcomes.concat();
+        let (theirs, their_state) = (vec![], vec![]);
+        let alone = Recorded { table, state, trace, outcomes, event, theirs, their_state };
+        let (trace, state, _) = alone.ours();
+        let (theirs, their_state) = (of_trace.made_of(&trace), of_state.made_of(&state));
+        Some(Recorded { theirs, their_state, ..alone })
+    };
+    let differs = |recorded: &Recorded| compare_hold(subject, recorded).is_err();
+    let Recorded { table, state, trace, outcomes, event, .. } = recorded.clone();
+    let (room, events, outcomes) = (trace.len(), vec![event], vec![outcomes]);
+    let case = Case { table, state, room, events, outcomes };
+    let small = smallest(&case, |case| tied(case).is_some_and(|held| differs(&held)), LIMIT / 2);
+    let small = tied(&small).filter(&differs).unwrap_or_else(|| recorded.clone());
+    // The words alone, in the places of a case's events and state.
+    let words = |case: &Case| Recorded {
+        theirs: case.events.clone(),
+        their_state: case.state.clone(),
+        ..small.clone()
+    };
+    let (events, state) = (small.theirs.clone(), small.their_state.clone());
+    let case = Case { state, events, ..Default::default() };
+    let small = words(&smallest(&case, |case| differs(&words(case)), LIMIT / 2));
+    let difference = compare_hold(subject, &small).err().unwrap_or_else(not_again);
+    (small, difference)
+}
+
+/// How words are made of others: a piece of them, between words that are the same from the first and from the last on, has others in
+/// its place.
+struct Edit {
+    from: usize,
+    lost: usize,
+    added: Vec<u32>,
+}
+
+impl Edit {
+    fn of(words: &[u32], others: &[u32]) -> Self {
+        let from = words.iter().zip(others).take_while(|(a, b)| a == b).count();
+        let (words, others) = (&words[from..], &others[from..]);
+        let same = words.iter().rev().zip(others.iter().rev()).take_while(|(a, b)| a == b).count();
+        Edit { from, lost: words.len() - same, added: others[..others.len() - same].to_vec() }
+    }
+
+    /// Of fewer words at the last place that there is.
+    fn made_of(&self, words: &[u32]) -> Vec<u32> {
+        let from = self.from.min(words.len().saturating_sub(self.lost));
+        let behind = (from + self.lost).min(words.len());
+        [&words[..from], &self.added, &words[behind..]].concat()
+    }
 }
 
 /// Makes a case smaller while `differs` holds of it, until no way is left or

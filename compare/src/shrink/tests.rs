@@ -1,5 +1,6 @@
 //! A side made wrong on purpose is found and its case made small.
 
+mod holds;
 mod panels;
 
 use herringcart::{Answer, End, Played};

@@ -5,14 +5,14 @@ use second::cases::Cases;
 use second::testing::run_fixed;
 
 use crate::bench::Clock;
-use crate::differ::compare;
+use crate::differ::compare_calls;
 
 #[test]
 #[ignore = "by hand: the yardstick is held at the base's rules"]
 fn yardstick_says_what_the_second_program_says_of_generated_cases() {
     for seed in [3, 41] {
         for (place, made) in Cases::new(seed).take(2000).enumerate() {
-            if let Err(difference) = compare(&Clock, &made.case) {
+            if let Err(difference) = compare_calls(&Clock, &made.case) {
                 panic!("case {place} of seed {seed}, the yardstick as proved: {difference}");
             }
         }
@@ -26,7 +26,7 @@ fn yardstick_says_what_the_second_program_says_of_fixed_cases() {
     assert!(fixed.iter().any(|ran| !ran.asked.is_empty()));
     for ran in fixed {
         for asked in &ran.asked {
-            if let Err(difference) = compare(&Clock, asked) {
+            if let Err(difference) = compare_calls(&Clock, asked) {
                 panic!("{}, the yardstick as proved: {difference}", ran.name);
             }
         }

@@ -8,7 +8,7 @@ use borrow.Author.Tests.{eq-eqb, ne-eqb}
 use Rattle.rulebook.specs.Reasons.{bound, check}
 use Rattle.rulebook.specs.State.{stateLength, freshAnswer, freshState}
 use Rattle.rulebook.specs.Step.{Result, refusedState, step}
-use Rattle.rulebook.specs.Hold.{held, heldBy, refused}
+use Rattle.rulebook.specs.Hold.{heldAgainst, heldBy, refused}
 use Rattle.laws.proofs.Acceptance.{reason-given, no-place}
 use Rattle.laws.proofs.Steps.{fault-is, answer-small, refusal-changes-nothing}
 use Rattle.tables.specs.Finding.{promised}
@@ -91,11 +91,11 @@ module _ (t s trace os : List ℕ) (e : ℕ) (theirs theirState : List ℕ) (v k
   answered = event-answered t s trace os e (r .answer) n m s′ trace′ stepped
 
   refuses-it : v ≡ refused → r .answer ≡ 0 → ⊥
-  unfolding held
+  unfolding heldAgainst
   refuses-it one = refused-case r theirs theirState _ _ _ (case-found r theirs theirState) (sym (h .tells .verdict) ∙ one)
 
   pub hold-answered : HoldAnswered t s trace os e v k n m s′ trace′
-  unfolding held heldBy
+  unfolding heldAgainst heldBy
   hold-answered =
       record {
         refused = λ f.

@@ -5,7 +5,7 @@ use mathlib.Core.List.{List, _++_}
 use lib.ListN.{length, take, drop}
 use lib.Seq.{take-append-seam}
 use Rattle.rulebook.specs.Step.{Result, step, firstFault}
-use Rattle.rulebook.specs.Hold.{Held, held, heldBy}
+use Rattle.rulebook.specs.Hold.{Held, heldAgainst, heldBy}
 use Rattle.manager.specs.Promises.{TakesEventIn}
 use Rattle.hold.specs.Promises.{HoldsIn, HoldsForC, partOf}
 use Rattle.hold.specs.Cases.{Case}
@@ -29,15 +29,15 @@ module _ (t s trace os : List ℕ) (e : ℕ) (theirs theirState : List ℕ) (v k
   -- the verdict, its number and its part are the definition's
 
   is-verdict : heldBy r theirs theirState .verdict ≡ v
-  unfolding held
+  unfolding heldAgainst
   is-verdict = sym (h .tells .verdict)
 
   is-number : heldBy r theirs theirState .number ≡ k
-  unfolding held
+  unfolding heldAgainst
   is-number = sym (h .tells .number)
 
   is-part : heldBy r theirs theirState .part ≡ partOf v k n trace′ theirs
-  unfolding held
+  unfolding heldAgainst
   is-part = sym (part-held h)
 
   our-words : r .words ≡ take n trace′
@@ -45,8 +45,7 @@ module _ (t s trace os : List ℕ) (e : ℕ) (theirs theirState : List ℕ) (v k
 
   only-case : (v₂ k₂ : ℕ) (p : List ℕ) → Case r theirs theirState v₂ k₂ p → (v₂ ≡ v) × (k₂ ≡ k) × (p ≡ partOf v k n trace′ theirs)
   only-case v₂ k₂ p c =
-      let same = exactly r theirs theirState v₂ k₂ p .told-where c in
-      (
+      let same = exactly r theirs theirState v₂ k₂ p .told-where c in (
         sym (ap (λ (x : Held). x .verdict) same) ∙ is-verdict,
         sym (ap (λ (x : Held). x .number) same) ∙ is-number,
         sym (ap (λ (x : Held). x .part) same) ∙ is-part,

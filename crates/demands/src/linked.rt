@@ -75,5 +75,17 @@ pub fn hold(
         (now («their_state» .entry)) r (now (number .exit)) (now (count .exit)) (now (visits .exit)) (now (s .exit)) (now (trace .exit)) ⌝ }
     ensures { λ r. ⌜ now (rest .exit) ≡ length (partOf r (now (number .exit)) (now (count .exit)) (now (trace .exit)) (now (theirs .entry))) ⌝ }
 {
-    gateway::herringcart_hold(t, s, trace, outcomes, e, theirs, their_state, number, rest, count, visits)
+    gateway::herringcart_hold(
+        t,
+        s,
+        trace,
+        outcomes,
+        e,
+        theirs,
+        their_state,
+        number,
+        rest,
+        count,
+        visits,
+    )
 }

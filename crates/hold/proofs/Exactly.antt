@@ -128,8 +128,12 @@ module _ (r : Result) (theirs theirState : List ℕ) where
   case-told v k p (traces z q) =
       rw (eq-eqb (r .answer) 0 z, part-here ours theirs k q, lt-ltb k (length ours) (q .here), lt-ltb k (length theirs) (q .there))
   case-told v k p (theirs-stop z q) =
-      rw (eq-eqb (r .answer) 0 z, parting-sym ours theirs ∙ stop-here theirs ours k q, lt-ltb k (length ours) (q .more),
-      le-ltb k (length theirs) (omega (arith, q .all)))
+      rw (
+        eq-eqb (r .answer) 0 z,
+        parting-sym ours theirs ∙ stop-here theirs ours k q,
+        lt-ltb k (length ours) (q .more),
+        le-ltb k (length theirs) (omega (arith, q .all)),
+      )
   case-told v k p (ours-stop z q) =
       rw (eq-eqb (r .answer) 0 z, stop-here ours theirs k q, le-ltb k (length ours) (omega (arith, q .all)), lt-ltb k (length theirs) (q .more))
   case-told v k p (states z e q) =

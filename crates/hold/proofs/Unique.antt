@@ -7,7 +7,7 @@ use native.Mathlib.Omega.{arith}
 use lib.ListN.{length, take, drop}
 use lib.Seq.{take-length, take-append-seam}
 use Rattle.rulebook.specs.Step.{Result, step}
-use Rattle.rulebook.specs.Hold.{Held, held, heldBy, told, asOrdered}
+use Rattle.rulebook.specs.Hold.{Held, heldAgainst, heldBy, told, asOrdered}
 use Rattle.manager.specs.Promises.{TakesEventIn}
 use Rattle.hold.specs.Promises.{HoldsIn, HoldsForC, partOf}
 use Rattle.hold.specs.Cases.{Case, refuses, traces, theirs-stop, ours-stop, states, yes}
@@ -25,8 +25,8 @@ module _ (r : Result) (theirs theirState : List ℕ) (n : ℕ) (trace : List ℕ
 module _ {t s trace os : List ℕ} {e : ℕ} {theirs theirState : List ℕ} where
   -- which slice, from where: what `part` gives for a verdict of `hold` is document 02's part
   pub part-held : {v k n m : ℕ} {s′ trace′ : List ℕ} → HoldsIn t s trace os e theirs theirState v k n m s′ trace′
-      → partOf v k n trace′ theirs ≡ held t s (length trace) os e theirs theirState .part
-  unfolding held
+      → partOf v k n trace′ theirs ≡ heldAgainst t s (length trace) os e theirs theirState .part
+  unfolding heldAgainst
   part-held {n = n} {trace′ = trace′} h =
       let r = step t s (length trace) os e in
       let ours : take n trace′ ≡ r .words = rw (h .words, h .count) (take-append-seam (r .words) (drop (length (r .words)) trace)) in
@@ -61,8 +61,8 @@ module _ {t s trace os : List ℕ} {e : ℕ} {theirs theirState : List ℕ} wher
 
   -- so many of the supplier's words, or of the trace's, from that number on are the part
   pub c-part : {v k left n m : ℕ} {s′ trace′ : List ℕ} → HoldsForC t s trace os e theirs theirState v k left n m s′ trace′
-      → take left (partOf v k n trace′ theirs) ≡ held t s (length trace) os e theirs theirState .part
-  c-part h = rw (h .rest, part-held (h .holds)) (take-length (held t s (length trace) os e theirs theirState .part))
+      → take left (partOf v k n trace′ theirs) ≡ heldAgainst t s (length trace) os e theirs theirState .part
+  c-part h = rw (h .rest, part-held (h .holds)) (take-length (heldAgainst t s (length trace) os e theirs theirState .part))
 
   pub one-c : {v₁ k₁ l₁ n₁ m₁ v₂ k₂ l₂ n₂ m₂ : ℕ} {s₁ trace₁ s₂ trace₂ : List ℕ} → HoldsForC t s trace os e theirs theirState v₁ k₁ l₁ n₁ m₁ s₁ trace₁
       → HoldsForC t s trace os e theirs theirState v₂ k₂ l₂ n₂ m₂ s₂ trace₂
@@ -71,8 +71,8 @@ module _ {t s trace os : List ℕ} {e : ℕ} {theirs theirState : List ℕ} wher
 
 -- "Whatever our own step writes is accepted, with an empty part": held against what an event call left in the trace and the state lent to it
 pub own-accepted : (t s trace os : List ℕ) (e : ℕ) {n m : ℕ} {s′ trace′ : List ℕ} → TakesEventIn t s trace os e 0 n m s′ trace′
-    → held t s (length trace) os e (take n trace′) s′ ≡ told asOrdered 0 []
-unfolding held
+    → heldAgainst t s (length trace) os e (take n trace′) s′ ≡ told asOrdered 0 []
+unfolding heldAgainst
 own-accepted t s trace os e {n = n} {trace′ = trace′} h =
     let r = step t s (length trace) os e in
     let ours : take n trace′ ≡ r .words = rw (h .words, h .count) (take-append-seam (r .words) (drop (length (r .words)) trace)) in

@@ -7,7 +7,8 @@ use lib.ListN.{length, take, drop, length-append, drop-of-length-le}
 use lib.Seq.{take-all, take-length, drop-length, take-append-seam}
 use borrow.Author.Tests.{eq-eqb, ne-eqb, lt-ltb, le-ltb}
 use Rattle.rulebook.specs.Step.{step}
-use Rattle.rulebook.specs.Hold.{parting, heldStates, heldTraces, beside, heldBy, held, asOrdered, refused, tracesPart, theirsStops, oursStops, statesPart}
+use Rattle.rulebook.specs.Hold.{parting, heldStates, heldTraces, beside, heldBy, heldAgainst}
+use Rattle.rulebook.specs.Hold.{asOrdered, refused, tracesPart, theirsStops, oursStops, statesPart}
 use Rattle.text.proofs.Digits.{below}
 use Rattle.manager.specs.Promises.{TakesEventIn}
 use Rattle.hold.specs.Promises.{TellsVerdictIn, HoldsIn}
@@ -72,7 +73,7 @@ module _ (t s trace os : List ℕ) (e : ℕ) {k₀ n₀ m₀ : ℕ} {s′ trace�
 
   module _ (theirs theirState : List ℕ) where
     pub step-refused : {k : ℕ} → k ≡ k₀ → (k₀ ≡ 0 → ⊥) → HoldsIn t s trace os e theirs theirState refused k n m s′ trace′
-    unfolding held heldBy
+    unfolding heldAgainst heldBy
     step-refused numbered not =
         let other = ne-eqb (step t s (length trace) os e .answer) 0 (λ z. not (h .answer ∙ z)) in
         record {
@@ -85,7 +86,7 @@ module _ (t s trace os : List ℕ) (e : ℕ) {k₀ n₀ m₀ : ℕ} {s′ trace�
 
     pub step-done : {v j : ℕ} → k₀ ≡ 0 → TellsVerdictIn (beside (take n trace′) s′ theirs theirState) v j
         → HoldsIn t s trace os e theirs theirState v j n m s′ trace′
-    unfolding held heldBy
+    unfolding heldAgainst heldBy
     step-done z told =
         record {
           tells = rw (eq-eqb (step t s (length trace) os e .answer) 0 (sym (h .answer) ∙ z)) (rw (our-words, h .state) at told);

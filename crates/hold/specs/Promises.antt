@@ -7,7 +7,7 @@ use mathlib.Core.List.{List, [], _++_}
 use lib.ListN.{length, take, drop}
 use lib.Dec.{eqb}
 use Rattle.rulebook.specs.Step.{Result, step}
-use Rattle.rulebook.specs.Hold.{parting, heldStates, held, asOrdered, refused, tracesPart, theirsStops, oursStops, statesPart}
+use Rattle.rulebook.specs.Hold.{parting, heldStates, heldAgainst, asOrdered, refused, tracesPart, theirsStops, oursStops, statesPart}
 use Rattle.rulebook.specs.Hold as rulebook
 use Rattle.hold.specs.declared.Verdict.{Verdict}
 use Rattle.hold.specs.declared.Verdict.the-variants.{AsOrdered, Refused, TracesPart, TheirsStops, OursStops, StatesPart}
@@ -46,7 +46,7 @@ tellsStates ours theirs r = TellsVerdict (heldStates (parting ours theirs) ours 
 -- the number k that it gives, our step's count n and visits m, state and trace afterwards. "The state and our trace end as after an event call";
 -- "the supplier's words stay", for they are lent to be read alone.
 pub record HoldsIn (t s trace os : List ℕ) (e : ℕ) (theirs theirState : List ℕ) (v k n m : ℕ) (s′ trace′ : List ℕ) : Type 0 where
-  pub tells : TellsVerdictIn (held t s (length trace) os e theirs theirState) v k
+  pub tells : TellsVerdictIn (heldAgainst t s (length trace) os e theirs theirState) v k
   pub count : n ≡ length (step t s (length trace) os e .words)
   pub visits : m ≡ step t s (length trace) os e .visits
   pub state : s′ ≡ step t s (length trace) os e .state
@@ -68,4 +68,4 @@ HandsBack h trace theirs p = p ≡ partOf (numberOf (h .verdict)) (givenBy (h .v
 -- as `gateway` hands it to C, where no slice comes back: `left` is the part's length; whose words it is and from which on, v and k say
 pub record HoldsForC (t s trace os : List ℕ) (e : ℕ) (theirs theirState : List ℕ) (v k left n m : ℕ) (s′ trace′ : List ℕ) : Type 0 where
   pub holds : HoldsIn t s trace os e theirs theirState v k n m s′ trace′
-  pub rest : left ≡ length (held t s (length trace) os e theirs theirState .part)
+  pub rest : left ≡ length (heldAgainst t s (length trace) os e theirs theirState .part)

@@ -129,8 +129,7 @@ no-word bytes at e =
 
 stands : (p rest : List ℕ) (found : ℕ) → Behind rest found → (isWord (p ++ rest) (length p) ≡ false) × (foundBehind (p ++ rest) (length p) ≡ found)
 stands p [] found nothing =
-    let long = length-append p [] in
-    (
+    let long = length-append p [] in (
       split (isWord (p ++ []) (length p)) (λ e. absurd (omega (arith, word-inside (p ++ []) (length p) e))) (λ e. e),
       behind-last (p ++ []) (length p) (omega arith),
     )

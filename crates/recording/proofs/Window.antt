@@ -49,8 +49,12 @@ module _ (bytes more : List ℕ) where
   found-same : (next : ℕ) → next + 9 ≤ length bytes → foundBehind (bytes ++ more) next ≡ foundBehind bytes next
   unfolding foundBehind
   found-same next h =
-      rw (lt-leb (length (bytes ++ more)) next (inside-still next (omega arith)), lt-leb (length bytes) next (omega arith), answer-same next (omega arith),
-      word-same next h)
+      rw (
+        lt-leb (length (bytes ++ more)) next (inside-still next (omega arith)),
+        lt-leb (length bytes) next (omega arith),
+        answer-same next (omega arith),
+        word-same next h,
+      )
 
   of-same : (n at : ℕ) → at + (2 + 9 * n) + 9 ≤ length bytes → recordingOf n (bytes ++ more) at ≡ recordingOf n bytes at
   unfolding recordingOf
@@ -61,8 +65,13 @@ module _ (bytes more : List ℕ) where
   unfolding recordingAt
   recording-same most at h =
       let room = count-room bytes most (at + 2) in
-      rw (lt-leb (length (bytes ++ more)) at (inside-still at (omega arith)), lt-leb (length bytes) at (omega arith), answer-same at (omega arith),
-      count-same most (at + 2) (omega arith), of-same (wordCount most bytes (at + 2)) at (omega arith))
+      rw (
+        lt-leb (length (bytes ++ more)) at (inside-still at (omega arith)),
+        lt-leb (length bytes) at (omega arith),
+        answer-same at (omega arith),
+        count-same most (at + 2) (omega arith),
+        of-same (wordCount most bytes (at + 2)) at (omega arith),
+      )
 
 -- the log goes on behind a place inside
 

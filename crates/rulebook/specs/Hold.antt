@@ -65,5 +65,5 @@ unfoldable pub heldBy : Result → List ℕ → List ℕ → Held
 heldBy r theirs theirState = cond (eqb (r .answer) 0) (beside (r .words) (r .state) theirs theirState) (told refused (r .answer) [])
 
 -- of table t, state s, so many trace words lent, the outcomes os and event e. Q-9: "A supplier's log is compared with the outcomes given."
-unfoldable pub held : List ℕ → List ℕ → ℕ → List ℕ → ℕ → List ℕ → List ℕ → Held
-held t s room os e theirs theirState = heldBy (step t s room os e) theirs theirState
+unfoldable pub heldAgainst : List ℕ → List ℕ → ℕ → List ℕ → ℕ → List ℕ → List ℕ → Held
+heldAgainst t s room os e theirs theirState = heldBy (step t s room os e) theirs theirState

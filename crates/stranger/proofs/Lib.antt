@@ -1,4 +1,4 @@
--- The theorems of demand 3.
+-- The theorems of demand 3, and Q-14's: nothing of a stranger at all.
 pub mod More
 pub mod View
 pub mod Outcomes

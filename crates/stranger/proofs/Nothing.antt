@@ -2,13 +2,12 @@
 -- refused, and a shared one is taken in both or refused in both. Assumes nothing.
 use mathlib.Core.Path.{_≡_, refl, sym, _∙_, ap}
 use mathlib.Core.Logic.{_⊎_, inl, inr, ⊎-elim}
-use mathlib.Core.Bool.{Bool, true, false, cond, not}
+use mathlib.Core.Bool.{true, false, cond, not}
 use mathlib.Core.List.{List, [], _∷_, _++_}
-use Prim.Native.Nat.{ℕ, _≤_}
-use native.Mathlib.Omega.{arith}
+use Prim.Native.Nat.{ℕ}
 use lib.Dec.{ltb, eqb}
 use borrow.Author.Tests.{ltb-false, ltb-true, eqb-true, eqb-false, eq-eqb, ne-eqb}
-use Rattle.rulebook.specs.Table.{edition, platform, stranger}
+use Rattle.rulebook.specs.Table.{edition, stranger}
 use Rattle.rulebook.specs.Reasons.{accepted, bound}
 use Rattle.rulebook.specs.State.{fresh}
 use Rattle.rulebook.specs.Lists.{traceOwner, own}
@@ -17,16 +16,14 @@ use Rattle.rulebook.specs.Step.{Result, outcomesKnown, refusedEvent, refusal, h
 use Rattle.laws.proofs.Tests.{split, clash}
 use Rattle.laws.proofs.FitKept.{Fits}
 use Rattle.laws.proofs.Play.{step-full, step-refused, step-done}
-use Rattle.laws.proofs.Steps.{fresh-fits, done}
+use Rattle.laws.proofs.Steps.{fresh-fits, step-fits, done}
 use Rattle.stranger.specs.Logs.{Entry, Follows, stateAfter, joined, strangersEntry}
 use Rattle.stranger.specs.View.{SameView, ownWords, Unseen}
 use Rattle.stranger.specs.Outcomes.{metBy, Agree, AgreeEach}
 use Rattle.stranger.specs.Nothing.{Sending, entries, isShared, shared, eventsOf, metByEach, Lends, sending, Ran, ShareAllBut, SameOwn, SameAfter}
 use Rattle.stranger.specs.Nothing.{EachPair, AfterEachShared}
 use Rattle.stranger.specs.Nothing as runs
-use Rattle.stranger.proofs.Logs.{entry-fits}
 use Rattle.stranger.proofs.View.{same-view-refl, same-view-sym, same-view-trans, port-word, rule-word, network-word, source-word}
-use Rattle.stranger.proofs.Owners.{platform-known}
 use Rattle.stranger.proofs.Alike.{own-both}
 use Rattle.stranger.proofs.Strangers.{strangers-unseen, kept-same, empty}
 use Rattle.stranger.proofs.Partner.{agree-zeros, met-zeros}
@@ -114,10 +111,6 @@ module _ (t : List ℕ) (h : accepted t ≡ true) where
         nothing : {k : ℕ} → step t s room os e ≡ refusal k s → (step t s room os e .state ≡ s) × (step t s room os e .words ≡ [])
         nothing is = (ap (λ (r : Result). r .state) is, ap (λ (r : Result). r .words) is)
 
-    pub sent-fits : Fits t (step t s room os e .state)
-    unfolding sending
-    sent-fits = ⊎-elim (λ f. entry-fits t h s _ f fit) (λ n. rw (n .0) fit) taken-or-not
-
     -- a stranger's is unseen
     sent-unseen : (o : ℕ) → isShared o e ≡ false → Unseen t o s (sending t s room os e .entry)
     unfolding sending ownWords
@@ -143,8 +136,8 @@ module _ (t : List ℕ) (h : accepted t ≡ true) where
         (may-agree t o x y met) in
         let answers : step t s₁ room₁ os₁ e .answer ≡ step t s₂ room₂ os₂ e .answer = rw (done₁, done₂) in
         record {
-          left = sent-fits s₁ room₁ os₁ e fit₁;
-          right = sent-fits s₂ room₂ os₂ e fit₂;
+          left = step-fits t s₁ room₁ os₁ e h fit₁;
+          right = step-fits t s₂ room₂ os₂ e h fit₂;
           event = refl;
           answer = answers;
           view = seen .state;
@@ -210,14 +203,14 @@ module _ (t : List ℕ) (h : accepted t ≡ true) (o : ℕ) where
       split (isShared o d) (λ k. absurd (empty (rw (k, shared) at e)))
       (λ k. let u = sent-unseen t h s₂ room os d fit₂ o k in
       pass-right t o y k u
-      (beside s₁ (y .entry .state) [] later runs.none r fit₁ (sent-fits t h s₂ room os d fit₂) (same-view-trans t o v (u .state))
+      (beside s₁ (y .entry .state) [] later runs.none r fit₁ (step-fits t s₂ room os d h fit₂) (same-view-trans t o v (u .state))
       (rw (k, shared) at e) (λ two. tt)))
   beside s₁ s₂ xs ys (runs.sent room os d {xs = later} l r) runs.none fit₁ fit₂ v e a =
       let x = sending t s₁ room os d in
       split (isShared o d) (λ k. absurd (empty (sym (rw (k, shared) at e))))
       (λ k. let u = sent-unseen t h s₁ room os d fit₁ o k in
       pass-left t o x k u
-      (beside (x .entry .state) s₂ later [] r runs.none (sent-fits t h s₁ room os d fit₁) fit₂ (same-view-trans t o (same-view-sym t o (u .state)) v)
+      (beside (x .entry .state) s₂ later [] r runs.none (step-fits t s₁ room os d h fit₁) fit₂ (same-view-trans t o (same-view-sym t o (u .state)) v)
       (rw (k, shared) at e) (λ two. rw (k, shared) at (a two))))
   beside s₁ s₂ xs ys (runs.sent room os d {xs = later} l r) (runs.sent room₂ os₂ d₂ {xs = later₂} l₂ r₂) fit₁ fit₂ v e a =
       let x = sending t s₁ room os d in let y = sending t s₂ room₂ os₂ d₂ in
@@ -230,15 +223,15 @@ module _ (t : List ℕ) (h : accepted t ≡ true) (o : ℕ) where
       λ two. rw (k, j, shared) at (a two) in
       let same : Kept t o x y = rw is (shared-same t h o s₁ s₂ fit₁ fit₂ v d₂ room room₂ os os₂ j (l k) (l₂ j) (λ two. rw is at (agree two .0))) in
       pass-both t o x y k j same
-      (beside (x .entry .state) (y .entry .state) later later₂ r r₂ (sent-fits t h s₁ room os d fit₁) (sent-fits t h s₂ room₂ os₂ d₂ fit₂) (same .view)
+      (beside (x .entry .state) (y .entry .state) later later₂ r r₂ (step-fits t s₁ room os d h fit₁) (step-fits t s₂ room₂ os₂ d₂ h fit₂) (same .view)
       (cc) (λ two. agree two .1)))
       (λ j. let u = sent-unseen t h s₂ room₂ os₂ d₂ fit₂ o j in
       pass-right t o y j u
-      (beside s₁ (y .entry .state) (x ∷ later) later₂ (runs.sent room os d l r) r₂ fit₁ (sent-fits t h s₂ room₂ os₂ d₂ fit₂) (same-view-trans t o v (u .state))
+      (beside s₁ (y .entry .state) (x ∷ later) later₂ (runs.sent room os d l r) r₂ fit₁ (step-fits t s₂ room₂ os₂ d₂ h fit₂) (same-view-trans t o v (u .state))
       (rw (j, shared) at e) (λ two. rw (j, shared) at (a two)))))
       (λ k. let u = sent-unseen t h s₁ room os d fit₁ o k in
       pass-left t o x k u
-      (beside (x .entry .state) s₂ later (y ∷ later₂) r (runs.sent room₂ os₂ d₂ l₂ r₂) (sent-fits t h s₁ room os d fit₁) fit₂
+      (beside (x .entry .state) s₂ later (y ∷ later₂) r (runs.sent room₂ os₂ d₂ l₂ r₂) (step-fits t s₁ room os d h fit₁) fit₂
       (same-view-trans t o (same-view-sym t o (u .state)) v)
       (rw (k, shared) at e) (λ two. rw (k, shared) at (a two))))
 

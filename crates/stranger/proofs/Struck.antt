@@ -1,7 +1,7 @@
 -- Every run has one without strangers' events that goes together with it: the shared events are sent again with B trace words, a taken one with outcomes
 -- that have the calls of o and of the platform meet what they met. Assumes nothing.
-use mathlib.Core.Path.{_≡_, refl, sym, ap, _∙_}
-use mathlib.Core.Bool.{true, false}
+use mathlib.Core.Path.{_≡_, refl, ap, _∙_}
+use mathlib.Core.Bool.{true}
 use mathlib.Core.List.{List, [], _∷_}
 use Prim.Native.Nat.{ℕ}
 use native.Mathlib.Omega.{arith}
@@ -11,18 +11,18 @@ use Rattle.rulebook.specs.Words.{all}
 use Rattle.rulebook.specs.Table.{platform}
 use Rattle.rulebook.specs.Reasons.{accepted, bound}
 use Rattle.rulebook.specs.State.{fresh}
-use Rattle.rulebook.specs.Step.{Result, outcomesKnown, refusedEvent, heeded, step}
+use Rattle.rulebook.specs.Step.{Result, outcomesKnown, refusedEvent, step}
 use Rattle.laws.proofs.Tests.{split}
 use Rattle.laws.proofs.FitKept.{Fits}
 use Rattle.laws.proofs.Play.{step-refused, step-done}
-use Rattle.laws.proofs.Steps.{fresh-fits}
+use Rattle.laws.proofs.Steps.{fresh-fits, step-fits}
 use Rattle.stranger.specs.Logs.{Entry}
 use Rattle.stranger.specs.Outcomes.{met, metBy, Agree}
 use Rattle.stranger.specs.Nothing.{Sending, isShared, shared, eventsOf, metByEach, Lends, sending, Ran, StruckOut, NothingOfStrangers}
 use Rattle.stranger.specs.Nothing as runs
-use Rattle.stranger.proofs.Partner.{Again, again, entryFrom, taken-known}
+use Rattle.stranger.proofs.Partner.{again, entryFrom, taken-known}
 use Rattle.stranger.proofs.Owners.{platform-known}
-use Rattle.stranger.proofs.Nothing.{itself-known, same-own, kept-own, sent-fits, shared-not, shared-too, two-runs, after-each}
+use Rattle.stranger.proofs.Nothing.{itself-known, same-own, kept-own, shared-not, shared-too, two-runs, after-each}
 
 module _ (t : List ℕ) (h : accepted t ≡ true) (o : ℕ) where
   -- a shared event sent again from s₂: with which outcomes, and that they are known
@@ -61,11 +61,11 @@ module _ (t : List ℕ) (h : accepted t ≡ true) (o : ℕ) where
   struck-out s₁ s₂ xs fit₁ fit₂ runs.none = record { run = []; went = runs.none; own = refl; meets = record { events = refl; outcomes = λ two. tt } }
   struck-out s₁ s₂ xs fit₁ fit₂ (runs.sent room os e {xs = later} lends r) =
       let x = sending t s₁ room os e in
-      let next = sent-fits t h s₁ room os e fit₁ in
+      let next = step-fits t s₁ room os e h fit₁ in
       split (isShared o e)
       (λ k. let a = resent s₁ s₂ room os e fit₁ fit₂ (lends k) in
       let y = sending t s₂ (bound t) (a .outcomes) e in
-      let p = struck-out (x .entry .state) (y .entry .state) later next (sent-fits t h s₂ (bound t) (a .outcomes) e fit₂) r in
+      let p = struck-out (x .entry .state) (y .entry .state) later next (step-fits t s₂ (bound t) (a .outcomes) e h fit₂) r in
       record {
         run = y ∷ p .run;
         went = runs.sent (bound t) (a .outcomes) e (λ _. record { enough = omega arith; known = a .known }) (p .went);

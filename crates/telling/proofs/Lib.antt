@@ -2,3 +2,5 @@
 pub mod Judging
 pub mod Lines
 pub mod Telling
+pub mod Exactly
+pub mod Log

@@ -19,7 +19,8 @@ use Rattle.text.proofs.Lay.{lay-none, lay-more}
 use Rattle.text.proofs.Puts.{put-length, one-put, put-then, put-more}
 use Rattle.session.specs.Promises.{PutLines}
 use Rattle.session.proofs.Lines.{put-lines}
-use Rattle.telling.specs.Told.{eventLine, tracesLabel, stopsLabel, goesLabel, statesLabel, verdictLabel, answersPart, verdictLine, labelled, side, eventsLabel, allLabel, notLabel, totalLine}
+use Rattle.telling.specs.Told.{eventLine, tracesLabel, stopsLabel, goesLabel, statesLabel, verdictLabel, answersPart, verdictLine}
+use Rattle.telling.specs.Told.{labelled, side, eventsLabel, allLabel, notLabel, totalLine}
 
 pub labelled-next : (label ws : List ℕ) (i : ℕ) → i < length ws
     → labelled label (drop i ws) ≡ (label ++ hexLine (getD ws i 0)) ++ labelled label (drop (i + 1) ws)

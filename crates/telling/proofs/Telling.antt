@@ -78,57 +78,67 @@ module _ (n e answer : ℕ) (ws state : List ℕ) (said : ℕ) (theirs : List �
     states-lines : j .verdict ≡ 5 → all ≡ head n e j ++ both j answer state said (take (j .cut) theirs)
     unfolding toldLines sides
     states-lines v =
-        rw (← is .verdict, ← is .number, ne-eqb (j .verdict) asOrdered not, eq-eqb (j .verdict) statesPart v,
-        cut-state answer ws state said theirs (is .cut))
+        rw (
+          ← is .verdict,
+          ← is .number,
+          ne-eqb (j .verdict) asOrdered not,
+          eq-eqb (j .verdict) statesPart v,
+          cut-state answer ws state said theirs (is .cut),
+        )
 
     traces-lines : (j .verdict ≡ 5 → ⊥) → all ≡ head n e j ++ both j answer ws said (take (length theirs - j .cut) (drop (j .cut) theirs))
     unfolding toldLines sides
     traces-lines v =
-        rw (← is .verdict, ← is .number, ne-eqb (j .verdict) asOrdered not, ne-eqb (j .verdict) statesPart v,
-        cut-trace answer ws state said theirs (is .cut))
+        rw (
+          ← is .verdict,
+          ← is .number,
+          ne-eqb (j .verdict) asOrdered not,
+          ne-eqb (j .verdict) statesPart v,
+          cut-trace answer ws state said theirs (is .cut),
+        )
 
   module _ {out : List ℕ} (room : Room ws state theirs out) (small : n < 2 ^ 64) (known : answer < 2 ^ 32) (heard : said < 2 ^ 32)
-      where
-    few : j .number < 2 ^ 64
-    few = omega (arith, is .number, event-small answer ws state said theirs, room .few, room .small)
+    where
+      few : j .number < 2 ^ 64
+      few = omega (arith, is .number, event-small answer ws state said theirs, room .few, room .small)
 
-    pub head-room : length (head n e j) ≤ length out
-    head-room = omega (arith, head-long n e j small few, room .bytes)
+      pub head-room : length (head n e j) ≤ length out
+      head-room = omega (arith, head-long n e j small few, room .bytes)
 
-    module _ {next : ℕ} {o : List ℕ} (p : PutAt (head n e j) out 0 next o) where
-      same : length o ≡ length out
-      same = put-length {xs = head n e j} (rw zero-add head-room) p
+      module _ {next : ℕ} {o : List ℕ} (p : PutAt (head n e j) out 0 next o) where
+        same : length o ≡ length out
+        same = put-length {xs = head n e j} (rw zero-add head-room) p
 
-      pub states-room : next + length (both j answer state said (take (j .cut) theirs)) ≤ length o
-      states-room =
-          let h = head-long n e j small few in
-          let b = both-long j answer state said (take (j .cut) theirs) known heard in
-          let t = length-take-le (j .cut) theirs cut-within in
-          let c = cut-within in
-          omega (arith, same, p .place, room .small, room .read, room .bytes)
+        pub states-room : next + length (both j answer state said (take (j .cut) theirs)) ≤ length o
+        states-room =
+            let h = head-long n e j small few in
+            let b = both-long j answer state said (take (j .cut) theirs) known heard in
+            let t = length-take-le (j .cut) theirs cut-within in
+            let c = cut-within in
+            omega (arith, same, p .place, room .small, room .read, room .bytes)
 
-      pub traces-room : next + length (both j answer ws said (take (length theirs - j .cut) (drop (j .cut) theirs))) ≤ length o
-      traces-room =
-          let h = head-long n e j small few in
-          let rest = take (length theirs - j .cut) (drop (j .cut) theirs) in
-          let b = both-long j answer ws said rest known heard in
-          let t = length-take (length theirs - j .cut) (drop (j .cut) theirs) in
-          let d = length-drop (j .cut) theirs in
-          omega (arith, same, p .place, room .few, room .read, room .bytes)
+        pub traces-room : next + length (both j answer ws said (take (length theirs - j .cut) (drop (j .cut) theirs))) ≤ length o
+        traces-room =
+            let h = head-long n e j small few in
+            let rest = take (length theirs - j .cut) (drop (j .cut) theirs) in
+            let b = both-long j answer ws said rest known heard in
+            let t = length-take (length theirs - j .cut) (drop (j .cut) theirs) in
+            let d = length-drop (j .cut) theirs in
+            omega (arith, same, p .place, room .few, room .read, room .bytes)
 
-      module _ (not : j .verdict ≡ 0 → ⊥) {bytes : ℕ} {o′ : List ℕ} where
-        pub states-told : j .verdict ≡ 5 → PutAt (both j answer state said (take (j .cut) theirs)) o next bytes o′
-            → Tells n e answer ws state said theirs out bytes o′
-        states-told v q =
-            record {
-              lines = rw (states-lines not v) (put-more {xs = head n e j} (rw zero-add head-room) p q);
-              inside = omega (arith, q .place, states-room, same);
-            }
+        module _ (not : j .verdict ≡ 0 → ⊥) {bytes : ℕ} {o′ : List ℕ} where
+          pub states-told : j .verdict ≡ 5 → PutAt (both j answer state said (take (j .cut) theirs)) o next bytes o′
+              → Tells n e answer ws state said theirs out bytes o′
+          states-told v q =
+              record {
+                lines = rw (states-lines not v) (put-more {xs = head n e j} (rw zero-add head-room) p q);
+                inside = omega (arith, q .place, states-room, same);
+              }
 
-        pub traces-told : (j .verdict ≡ 5 → ⊥) → PutAt (both j answer ws said (take (length theirs - j .cut) (drop (j .cut) theirs))) o next bytes o′
-            → Tells n e answer ws state said theirs out bytes o′
-        traces-told v q =
-            record {
-              lines = rw (traces-lines not v) (put-more {xs = head n e j} (rw zero-add head-room) p q);
-              inside = omega (arith, q .place, traces-room, same);
-            }
+          pub traces-told : (j .verdict ≡ 5 → ⊥) → PutAt (both j answer ws said (take (length theirs - j .cut) (drop (j .cut) theirs))) o next bytes o′
+              → Tells n e answer ws state said theirs out bytes o′
+          traces-told v q =
+              record {
+                lines = rw (traces-lines not v) (put-more {xs = head n e j} (rw zero-add head-room) p q);
+                inside = omega (arith, q .place, traces-room, same);
+              }

@@ -1,7 +1,7 @@
-//! The proved mode manager for Rust. Tables, states, traces and outcomes are
-//! slices of 32-bit words; `docs/TABLES.md` has the layout of each and what to do
-//! about each reason and answer. A panel's lines are laid into a slice of bytes.
-//! Answers are the documents' numbers.
+//! The proved mode manager for Rust. Tables, states, traces, outcomes and what a
+//! supplier recorded are slices of 32-bit words; `docs/TABLES.md` has the layout of
+//! each and what to do about each reason and answer. A panel's lines are laid into a
+//! slice of bytes. Answers are the documents' numbers.
 //!
 //! Every call takes any words: it checks them for itself, and a refusal leaves
 //! every lent word and byte as it was. Nothing is kept between calls, no heap is
@@ -31,6 +31,13 @@
 //! let panel = herringcart::panel(1, &table, &state, newest, &mut lines);
 //! assert_eq!(panel.number, 0);
 //! assert!(lines[..panel.bytes].starts_with(b"port 0 81400000\nport 1 00000000\n"));
+//! // What a supplier recorded of it: its trace stops a word early.
+//! let theirs = [0xF100_0000, 0x4100_0002];
+//! let (their_state, mut state) = (state, [0; 4]);
+//! let held =
+//!     herringcart::hold(&table, &mut state, &mut trace, &[], 0x1100_0500, &theirs, &their_state);
+//! assert_eq!(held.verdict, herringcart::Verdict::TheirsStops(2));
+//! assert_eq!(held.part, [0x0100_1234]);
 //! ```
 #![no_std]
 
@@ -146,6 +153,74 @@ impl Panel {
     }
 }
 
+/// What is said of a supplier's recording of one event: the first of these that
+/// holds, tried in the order `Refused` to `StatesPart`, or else `AsOrdered`.
+#[derive(Clone, Copy, PartialEq, Eq, Debug)]
+pub enum Verdict {
+    /// Trace and state are what our tables order.
+    AsOrdered,
+    /// Our step refuses the event, with this answer.
+    Refused(u32),
+    /// The first word in which the traces differ, from 0. The part is the
+    /// supplier's words from there.
+    TracesPart(usize),
+    /// The supplier's trace is a beginning of ours, of this length. The part is
+    /// the rest of ours.
+    TheirsStops(usize),
+    /// Ours is a beginning of the supplier's, of this length. The part is the rest
+    /// of the supplier's.
+    OursStops(usize),
+    /// The traces are the same. The first state word that differs, from 0, or the
+    /// shorter state's length where it is a beginning of the other.
+    StatesPart(usize),
+}
+
+impl Verdict {
+    /// The verdict's number, as C's `enum herringcart_verdict` has it.
+    pub fn number(self) -> u32 {
+        match self {
+            Verdict::AsOrdered => 0,
+            Verdict::Refused(_) => 1,
+            Verdict::TracesPart(_) => 2,
+            Verdict::TheirsStops(_) => 3,
+            Verdict::OursStops(_) => 4,
+            Verdict::StatesPart(_) => 5,
+        }
+    }
+
+    /// The number beside it: of our answer or of a word; 0 of `AsOrdered`.
+    pub fn given(self) -> usize {
+        match self {
+            Verdict::AsOrdered => 0,
+            Verdict::Refused(answer) => answer as usize,
+            Verdict::TracesPart(word) | Verdict::StatesPart(word) => word,
+            Verdict::TheirsStops(length) | Verdict::OursStops(length) => length,
+        }
+    }
+}
+
+/// What a supplier's recording is answered with.
+#[derive(Clone, Copy, PartialEq, Eq, Debug)]
+pub struct Held<'a> {
+    pub verdict: Verdict,
+    /// How many words our step wrote at the front of our trace; 0 if refused.
+    pub count: usize,
+    /// How many expression words our step visited; 0 if refused.
+    pub visits: u32,
+    /// The rest of one of the two lent traces, no copy of it: the supplier's of
+    /// `TracesPart` and `OursStops`, ours of `TheirsStops`, else empty. While it is
+    /// in use our trace stays lent; what `count` covers of it is read before or
+    /// afterwards.
+    pub part: &'a [u32],
+}
+
+impl Held<'_> {
+    /// Whether the supplier's trace and state are what our tables order.
+    pub fn as_ordered(self) -> bool {
+        self.verdict == Verdict::AsOrdered
+    }
+}
+
 mod c {
     // As library/herringcart.h declares them. A slice is lent as its pointer
     // and its length, in words or, of lines, in bytes.
@@ -207,6 +282,25 @@ mod c {
             lines: *mut u8,
             lines_bytes: usize,
             bytes: *mut usize,
+        ) -> u32;
+        pub fn herringcart_hold(
+            table: *const u32,
+            table_words: usize,
+            state: *mut u32,
+            state_words: usize,
+            trace: *mut u32,
+            trace_words: usize,
+            outcomes: *const u32,
+            outcome_words: usize,
+            event: u32,
+            theirs: *const u32,
+            their_words: usize,
+            their_state: *const u32,
+            their_state_words: usize,
+            number: *mut usize,
+            rest: *mut usize,
+            count: *mut usize,
+            visits: *mut u32,
         ) -> u32;
     }
 }
@@ -372,4 +466,58 @@ pub fn panel(
         )
     };
     Panel { number, bytes }
+}
+
+/// Holds a supplier's recording of one event against ours: `theirs` are the trace
+/// words that its manager wrote, from the same state and with the same outcomes,
+/// `their_state` the words of its state afterwards. Any words will do; they are only
+/// read. `AsOrdered` is given exactly if both are what our tables order, whoever
+/// wrote them; traces are looked at first.
+///
+/// Our own step is taken as `take_event` takes it: `state` and `trace` end as
+/// behind that call, and `count` and `visits` are its. The part is a slice of
+/// `trace` or of `theirs` and lives no longer than either.
+pub fn hold<'a>(
+    table: &[u32],
+    state: &mut [u32],
+    trace: &'a mut [u32],
+    outcomes: &[u32],
+    event: u32,
+    theirs: &'a [u32],
+    their_state: &[u32],
+) -> Held<'a> {
+    let (mut number, mut rest) = (usize::MAX, usize::MAX);
+    let (mut count, mut visits) = (usize::MAX, u32::MAX);
+    // SAFETY: see above; number, rest, count and visits are locals of their own.
+    let verdict = unsafe {
+        c::herringcart_hold(
+            table.as_ptr(),
+            table.len(),
+            state.as_mut_ptr(),
+            state.len(),
+            trace.as_mut_ptr(),
+            trace.len(),
+            outcomes.as_ptr(),
+            outcomes.len(),
+            event,
+            theirs.as_ptr(),
+            theirs.len(),
+            their_state.as_ptr(),
+            their_state.len(),
+            &mut number,
+            &mut rest,
+            &mut count,
+            &mut visits,
+        )
+    };
+    let (verdict, whose, from): (_, &'a [u32], _) = match (verdict, number) {
+        (0, 0) => (Verdict::AsOrdered, &[], 0),
+        (1, 1..=8) => (Verdict::Refused(number as u32), &[], 0),
+        (2, _) => (Verdict::TracesPart(number), theirs, number),
+        (3, _) => (Verdict::TheirsStops(number), trace, number),
+        (4, _) => (Verdict::OursStops(number), theirs, number),
+        (5, _) => (Verdict::StatesPart(number), &[], 0),
+        _ => unreachable!("the call gives no other number, which is proved"),
+    };
+    Held { verdict, count, visits, part: &whose[from..][..rest] }
 }

@@ -21,7 +21,9 @@ returns-2 : tie.Need-returns-2 Inv-loop μ-loop
 returns-2 c = let at = c .before .before .before .before .before in other-here _ _ _ (at .loop .inv .1) (omega arith) (omega arith) (c .if2 .taken)
 
 loop-again : tie.Need-loop-again Inv-loop μ-loop
-loop-again c = let at = c .before .before .before .before .before in (omega arith, along-next _ _ _ (at .loop .inv .1) (omega arith) (omega arith) (c .if2 .left))
+loop-again c =
+    let at = c .before .before .before .before .before in
+    (omega arith, along-next _ _ _ (at .loop .inv .1) (omega arith) (omega arith) (c .if2 .left))
 
 returns-3 : tie.Need-returns-3 Inv-loop μ-loop
 returns-3 c = let at = c .before in ours-end _ _ _ (at .loop .inv .1) (omega arith)

@@ -32,9 +32,11 @@ at-loop c = c .before .before
 
 loop-holds : tie.Need-loop-holds Inv-loop μ-loop
 loop-holds c =
-    let s = c .before .before .args in
-    (
-      omega arith, refl, omega arith, count-begin (s .bytes .now) (s .at) (length (s .words .now)),
+    let s = c .before .before .args in (
+      omega arith,
+      refl,
+      omega arith,
+      count-begin (s .bytes .now) (s .at) (length (s .words .now)),
       words-begin (s .bytes .now) (s .at) (s .words .now),
     )
 

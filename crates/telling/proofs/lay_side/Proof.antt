@@ -19,7 +19,8 @@ lay-words-requires : tie.Need-lay-words-requires
 lay-words-requires c κs =
     let second = c .before .before .before in
     let first = after-label second in
-    answer-room _ _ _ _ (then1 first .if1 .taken) (then1 first .before .before .before .before .pre) (first .put-label .ensures) (second .put-decimal-line .ensures)
+    answer-room _ _ _ _ (then1 first .if1 .taken) (then1 first .before .before .before .before .pre)
+    (first .put-label .ensures) (second .put-decimal-line .ensures)
 
 returns : tie.Need-returns
 returns c =

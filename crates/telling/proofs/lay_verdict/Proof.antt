@@ -40,7 +40,8 @@ returns-2 c =
     let asked = rw (ne-eqb _ _ (else1 .if1 .left)) at (start .pre) in
     let long = length-append (verdictLabel (start .args .v)) (decimalLine (start .args .k)) in
     rw (ne-eqb _ _ (else1 .if1 .left))
-    (put-then {xs = verdictLabel (start .args .v)} {line = decimalLine (start .args .k)} (omega arith) (first .lay-label .ensures) (second .put-decimal .ensures))
+    (put-then {xs = verdictLabel (start .args .v)} {line = decimalLine (start .args .k)} (omega arith) (first .lay-label .ensures)
+    (second .put-decimal .ensures))
 
 pub lay-verdict-spec : {M : Type 1} → statement M
 lay-verdict-spec =
