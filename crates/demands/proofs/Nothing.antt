@@ -13,13 +13,13 @@ use Rattle.rulebook.specs.State.{fresh}
 use Rattle.rulebook.specs.Step.{refusedState, refusedEvent, step}
 use Rattle.laws.proofs.Tests.{split}
 use Rattle.laws.proofs.FitKept.{Fits}
-use Rattle.laws.proofs.Steps.{fresh-fits}
+use Rattle.laws.proofs.Steps.{fresh-fits, step-fits}
 use Rattle.laws.proofs.Play.{stands, stood-table, stood-state, enough-room, ended}
 use Rattle.stranger.specs.Logs.{Entry, Log, stateAfter, logFrom, joined}
 use Rattle.stranger.specs.Nothing.{Sending, entries, allTaken, isShared, kept, Lends, sending, Ran, SameOwn}
 use Rattle.stranger.specs.Nothing as runs
 use Rattle.stranger.proofs.Logs.{after-append, log-fits}
-use Rattle.stranger.proofs.Nothing.{Kept, kept-own, itself-known, sent-fits, after-each}
+use Rattle.stranger.proofs.Nothing.{Kept, kept-own, itself-known, after-each}
 use Rattle.stranger.proofs.Struck.{nothing-of-strangers}
 use Rattle.stranger.proofs.Runs.{by-step, sent-refused, log-ran, entries-taken, entries-both, played-share}
 use Rattle.manager.specs.Promises.{MakesFreshIn, TakesEventIn, PlaysIn}
@@ -68,7 +68,7 @@ module _ (t : List ℕ) (h : accepted t ≡ true) (o : ℕ) where
       let words : take n w′ ≡ r .words = rw (p .words, p .count) (take-append-seam (r .words) _) in
       by-step t h o s (length w) k (record { event = e; outcomes = os; state = u; words = take n w′ }) lends
       (sym (p .answer), sym (p .state), sym words)
-      (sent-ran u ys (rw (p .state) (sent-fits t h s (length w) os e fit)) later)
+      (sent-ran u ys (rw (p .state) (step-fits t s (length w) os e h fit)) later)
   sent-ran s xs fit (sent.played {trace = w} {s′ = u} {trace′ = w′} es {k = k} {n = n} {m = m} {v = v} {xs = ys} p later) =
       let a = play-answered t s w es k n m v u w′ p in
       let log = play-log t s w es k n m v u w′ p in
