@@ -7,7 +7,7 @@ use native.Mathlib.Omega.{arith}
 use lib.ListN.{length, take}
 use lib.Seq.{length-take-le, take-append-seam}
 use lib.Dec.{eqb, leb}
-use borrow.Author.Tests.{leb-true, eqb-true, eqb-false}
+use borrow.Author.Tests.{leb-true, eqb-true, eqb-false, ne-eqb}
 use Rattle.rulebook.specs.State.{fits}
 use Rattle.rulebook.specs.Step.{Result, refusedState}
 use Rattle.rulebook.specs.Hold.{asOrdered}
@@ -20,8 +20,8 @@ use Rattle.session.proofs.Steps.{next-long, traced-long, next-ready, words-few}
 use Rattle.telling.specs.Told.{heldEvent, eventLine, toldLines}
 use Rattle.telling.specs.Promises.{Took, result, Room, Tells, Adopts}
 use Rattle.audit.specs.declared.Told.{Told}
-use Rattle.audit.specs.Kept.{Going, mostWords}
-use Rattle.audit.specs.Held.{ordered, fitting, onFrom, HeldOne}
+use Rattle.audit.specs.Kept.{Going, mostWords, toldBytes}
+use Rattle.audit.specs.Held.{ordered, fitting, onFrom, Followed, HeldOne}
 
 -- `adopt` in the words of the program
 pub adopted : {t s ws : List ℕ} {r : Bool} {s′ : List ℕ} → Adopts t s ws r s′ → s′ ≡ onFrom t s ws
@@ -44,6 +44,16 @@ module _ (t s ws : List ℕ) where
       (eqb-true _ _ (and-right (leb (length s) (length ws)) (eqb (refusedState t (take (length s) ws)) 0) h))))
       (λ h. rw h ours)
 
+-- the same where it may not go on from there
+module _ (t s ws : List ℕ) where
+  behind-long : (b : Bool) → length (cond b (onFrom t s ws) s) ≡ length s
+  behind-long true = on-long t s ws
+  behind-long false = refl
+
+  behind-fits : (b : Bool) → fits t s ≡ true → fits t (cond b (onFrom t s ws) s) ≡ true
+  behind-fits true ours = on-fits t s ws ours
+  behind-fits false ours = ours
+
 -- Nothing is told exactly of an event that is as ordered.
 
 module _ (n e : ℕ) (r : Result) (said : ℕ) (ws : List ℕ) where
@@ -62,7 +72,7 @@ unfolding heldEvent
 held-same r said ws = refl
 
 -- Behind our step.
-module _ {t : List ℕ} {h : Layout} {s trace out : List ℕ} (g : Going t h s trace out) {e k m : ℕ} {s₁ trace₁ : List ℕ} (took : Took t e s trace k m s₁ trace₁)
+module _ {t : List ℕ} {h : Layout} {s trace : List ℕ} (g : Going t h s trace) {e k m : ℕ} {s₁ trace₁ : List ℕ} (took : Took t e s trace k m s₁ trace₁)
   where
     trace-long : length trace₁ ≡ length trace
     trace-long = rw (took .words) (traced-long t s trace e (g .ready))
@@ -79,84 +89,100 @@ module _ {t : List ℕ} {h : Layout} {s trace out : List ℕ} (g : Going t h s t
     took-ready : Ready t s₁ trace₁
     took-ready = rw (took .state, took .words) (next-ready t s trace e (g .ready))
 
-    pub took-room : {ws : List ℕ} → length ws ≤ mostWords → Room (take m trace₁) s₁ ws out
-    took-room read =
+    pub took-room : {ws out : List ℕ} → length ws ≤ mostWords → toldBytes ≤ length out → Room (take m trace₁) s₁ ws out
+    took-room read bytes =
         let few = g .few in
         let small = g .small in
         record {
           few = omega (arith, length-take-le m trace₁ took-inside, took-inside, trace-long);
           small = omega (arith, state-long);
           read = read;
-          bytes = g .bytes;
+          bytes = bytes;
         }
-
-    -- all is in order, whichever state it goes on from
-    pub went-on : (ws : List ℕ) {out′ s₂ : List ℕ} → length out′ ≡ length out → s₂ ≡ onFrom t s₁ ws → Going t h s₂ trace₁ out′
-    went-on ws long is =
-        let few = g .few in
-        let small = g .small in
-        let bytes = g .bytes in
-        record {
-          laid = g .laid;
-          ready = record { table = g .ready .table; state = rw is (on-fits t s₁ ws (took-ready .state)); enough = took-ready .enough };
-          small = rw is (omega (arith, on-long t s₁ ws, state-long));
-          few = omega (arith, trace-long);
-          bytes = omega arith;
-        }
-
-    pub stayed : {out′ : List ℕ} → length out′ ≡ length out → Going t h s₁ trace₁ out′
-    stayed long =
-        let few = g .few in
-        let small = g .small in
-        let bytes = g .bytes in
-        record { laid = g .laid; ready = took-ready; small = omega (arith, state-long); few = omega (arith, trace-long); bytes = omega arith }
 
     -- the verdict is that on our step
     verdict-is : (said : ℕ) (ws : List ℕ) → heldEvent (result k (take m trace₁) s₁) said ws ≡ heldEvent (taken t s e) said ws
     verdict-is said ws = rw (took .answer, front, took .state) (held-same (taken t s e) said ws)
 
-    module _ {n said : ℕ} {ws : List ℕ} {bytes : ℕ} {out₁ : List ℕ} (tells : Tells n e k (take m trace₁) s₁ said ws out bytes out₁) where
+    module _ {n said : ℕ} {ws out : List ℕ} {bytes : ℕ} {out₁ : List ℕ} (tells : Tells n e k (take m trace₁) s₁ said ws out bytes out₁) where
       none : bytes ≡ 0 → ordered t s e said ws ≡ true
       none z = rw (verdict-is said ws) at (none-told n e (result k (take m trace₁) s₁) said ws (let p = tells .lines .place in omega arith))
 
       some : (bytes ≡ 0 → ⊥) → ordered t s e said ws ≡ false
       some z = rw (verdict-is said ws) at (some-told n e (result k (take m trace₁) s₁) said ws (λ q. z (let p = tells .lines .place in omega arith)))
 
-      -- The four ends of one event.
+      ordered-is : eqb bytes 0 ≡ ordered t s e said ws
+      ordered-is =
+          split (eqb bytes 0) (λ z. z ∙ sym (none (eqb-true bytes 0 z))) (λ z. z ∙ sym (some (eqb-false bytes 0 z)))
 
-      pub held-ordered : (all : Bool) → bytes ≡ 0 → HeldOne t e s said ws all (record { going = true; parted = false }) s₁
-      held-ordered all z =
-          record {
-            state = took .state;
-            parts = λ p. absurd (false≢true p);
-            told = λ _. rw (none z);
-            stops = λ p. absurd (false≢true p);
-          }
+      -- followed, with so many bytes lent
+      module _ {all : Bool} {r : Told} {s₂ : List ℕ} (long : length (take bytes out₁) ≡ bytes) (f : Followed t s₁ ws (take bytes out₁) all r s₂) where
+        -- all is in order, whichever state it goes on from
+        pub held-going : Going t h s₂ trace₁
+        held-going =
+            let few = g .few in
+            let small = g .small in
+            record {
+              laid = g .laid;
+              ready = record {
+                table = g .ready .table;
+                state = rw (f .state) (behind-fits t s₁ ws (r .parted && all) (took-ready .state));
+                enough = took-ready .enough;
+              };
+              small = rw (f .state) (omega (arith, behind-long t s₁ ws (r .parted && all), state-long));
+              few = omega (arith, trace-long);
+            }
 
-      pub held-unwritten : (all : Bool) → HeldOne t e s said ws all (record { going = false; parted = false }) s₁
-      held-unwritten all =
-          record {
-            state = took .state;
-            parts = λ p. absurd (false≢true p);
-            told = λ p. absurd (false≢true p);
-            stops = λ p. absurd (false≢true p);
-          }
+        from-ours : (p a : Bool) → cond (p && a) (onFrom t s₁ ws) s₁ ≡ cond (p && (a && fitting t s ws)) (take (length s) ws) (taken t s e .state)
+        from-ours true true = rw (state-long, took .state)
+        from-ours true false = took .state
+        from-ours false a = took .state
 
-      pub held-stopped : (all : Bool) → all ≡ false → (bytes ≡ 0 → ⊥) → HeldOne t e s said ws all (record { going = false; parted = true }) s₁
-      held-stopped all one z =
-          record {
-            state = rw one (took .state);
-            parts = λ _. some z;
-            told = λ p. absurd (false≢true p);
-            stops = λ _ _. refl;
-          }
+        pub held-one : HeldOne t e s said ws all r s₂
+        held-one =
+            record {
+              state = f .state ∙ from-ours (r .parted) all;
+              parts = λ p. some (λ z. f .parts p (long ∙ z));
+              told = λ p. f .told p ∙ ap (λ (n : ℕ). not (eqb n 0)) long ∙ ap not ordered-is;
+              stops = f .stops;
+            }
 
-      pub held-on : (all going : Bool) {s₂ : List ℕ} → all ≡ true → (bytes ≡ 0 → ⊥) → s₂ ≡ onFrom t s₁ ws
-          → HeldOne t e s said ws all (record { going = going; parted = true }) s₂
-      held-on all going every z is =
-          record {
-            state = rw every (is ∙ rw (state-long, took .state));
-            parts = λ _. some z;
-            told = λ _. rw (some z);
-            stops = λ _ one. clash every one;
-          }
+-- The four ends of following.
+module _ (t s ws lines : List ℕ) (all : Bool) where
+  pub none-followed : length lines ≡ 0 → Followed t s ws lines all (record { going = true; parted = false }) s
+  none-followed z =
+      record {
+        state = refl;
+        parts = λ p. absurd (false≢true p);
+        told = λ _. rw z;
+        stops = λ p. absurd (false≢true p);
+      }
+
+  pub unwritten : Followed t s ws lines all (record { going = false; parted = false }) s
+  unwritten =
+      record {
+        state = refl;
+        parts = λ p. absurd (false≢true p);
+        told = λ p. absurd (false≢true p);
+        stops = λ p. absurd (false≢true p);
+      }
+
+  module _ (z : length lines ≡ 0 → ⊥) where
+    pub first-followed : all ≡ false → Followed t s ws lines all (record { going = false; parted = true }) s
+    first-followed one =
+        record {
+          state = rw one;
+          parts = λ _. z;
+          told = λ p. absurd (false≢true p);
+          stops = λ _ _. refl;
+        }
+
+    pub all-followed : (going : Bool) {s′ : List ℕ} → all ≡ true → s′ ≡ onFrom t s ws
+        → Followed t s ws lines all (record { going = going; parted = true }) s′
+    all-followed going every is =
+        record {
+          state = rw every is;
+          parts = λ _. z;
+          told = λ _. rw (ne-eqb (length lines) 0 z);
+          stops = λ _ one. clash every one;
+        }

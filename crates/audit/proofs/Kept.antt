@@ -13,9 +13,9 @@ use Rattle.session.proofs.Whole.{opened, opened-state, opened-trace, made-fresh
 use Rattle.audit.specs.Kept.{Lent, Going}
 
 -- as many words as an opening asks for
-pub opens-lent : {t s trace out : List ℕ} {o : Opening} → Opens t o → o .reason ≡ 0 → length s ≡ o .state → length trace ≡ o .trace → 262144 ≡ length out
-    → Lent t s trace out
-opens-lent opens none long room line =
+pub opens-lent : {t s trace : List ℕ} {o : Opening} → Opens t o → o .reason ≡ 0 → length s ≡ o .state → length trace ≡ o .trace
+    → Lent t s trace
+opens-lent opens none long room =
     let small = opens .smallState in
     let few = opens .smallTrace in
     record {
@@ -24,13 +24,12 @@ opens-lent opens none long room line =
       room = let b = opened-trace opens none in omega arith;
       small = omega arith;
       few = omega arith;
-      bytes = omega arith;
     }
 
 -- the state that is made of them is ready
-pub fresh-going : {t : List ℕ} {h : Layout} {s₀ trace out : List ℕ} → Lent t s₀ trace out → {k : ℕ} {s : List ℕ} → Makes t s₀ k s → length s ≡ length s₀
+pub fresh-going : {t : List ℕ} {h : Layout} {s₀ trace : List ℕ} → Lent t s₀ trace → {k : ℕ} {s : List ℕ} → Makes t s₀ k s → length s ≡ length s₀
     → Laid t h
-    → Going t h s trace out
+    → Going t h s trace
 fresh-going l made long laid =
     let small = l .small in
     record {
@@ -38,5 +37,4 @@ fresh-going l made long laid =
       ready = fresh-ready (l .table) (made-fresh (l .table) (l .state) made) (l .room);
       small = omega arith;
       few = l .few;
-      bytes = l .bytes;
     }

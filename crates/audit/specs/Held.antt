@@ -23,6 +23,14 @@ fitting t s ws = leb (length s) (length ws) && eqb (refusedState t (take (length
 abbrev pub onFrom : List ℕ → List ℕ → List ℕ → List ℕ
 onFrom t s ws = cond (fitting t s ws) (take (length s) ws) s
 
+-- `follow` of what is told of an event, nothing where it is as ordered: the event parted where something is told and could be written, and only then,
+-- and only with `all`, it goes on from the supplier's state
+pub record Followed (t s ws lines : List ℕ) (all : Bool) (r : Told) (s′ : List ℕ) : Type 0 where
+  pub state : s′ ≡ cond (r .parted && all) (onFrom t s ws) s
+  pub parts : r .parted ≡ true → length lines ≡ 0 → ⊥
+  pub told : r .going ≡ true → r .parted ≡ not (eqb (length lines) 0)
+  pub stops : r .parted ≡ true → all ≡ false → r .going ≡ false
+
 -- Event e taken from state s and held against the supplier's answer and words. An event parted where something is told of it and could be
 -- written. Behind it stands our step's state; the supplier's where `all` are held, the event parted and the supplier's state fits.
 pub record HeldOne (t : List ℕ) (e : ℕ) (s : List ℕ) (said : ℕ) (ws : List ℕ) (all : Bool) (r : Told) (s′ : List ℕ) : Type 0 where

@@ -31,23 +31,25 @@ pub record Widened (at end : ℕ) (window : List ℕ) (r : Place) (window′ : L
   pub within : Within (r .at) (r .end) window′
   pub first : take (end - at) (ahead (r .at) (r .end) window′) ≡ ahead at end window
 
--- a table that stands, words lent for its state and its trace, and room for what is told of an event
-pub record Lent (t s trace out : List ℕ) : Type 0 where
+-- a table that stands, and words lent for its state and its trace
+pub record Lent (t s trace : List ℕ) : Type 0 where
   pub table : accepted t ≡ true
   pub state : length s ≡ stateLength t
   pub room : bound t ≤ length trace
   pub small : length s ≤ 360
   pub few : length trace ≤ 4096
-  pub bytes : 262144 ≤ length out
 
--- table, state and trace are in order, no more words are lent than an event has, and there is room for what is told of one
-pub record Going (t : List ℕ) (h : Layout) (s trace out : List ℕ) : Type 0 where
+-- table, state and trace are in order, and no more words are lent than an event has
+pub record Going (t : List ℕ) (h : Layout) (s trace : List ℕ) : Type 0 where
   pub laid : Laid t h
   pub ready : Ready t s trace
   pub small : length s ≤ 360
   pub few : length trace ≤ 4096
-  pub bytes : 262144 ≤ length out
 
--- as many words of a recording as are read
+-- as many words of a recording as are read, and room for what is told of one
+
 abbrev pub mostWords : ℕ
 mostWords = 8192
+
+abbrev pub toldBytes : ℕ
+toldBytes = 262144

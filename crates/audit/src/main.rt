@@ -5,8 +5,8 @@ ghost use Prim.Native.Nat.{_≤_};
 ghost use lib.ListN.{length};
 ghost use Rattle.io.specs.Counts.{Counts};
 ghost use Rattle.telling.specs.Promises.{Room, Tells};
-ghost use Rattle.audit.specs.Kept.{Within, Slid, Widened, Lent, Going, mostWords};
-ghost use Rattle.audit.specs.Held.{onFrom, HeldOne};
+ghost use Rattle.audit.specs.Kept.{Within, Slid, Widened, Lent, Going, mostWords, toldBytes};
+ghost use Rattle.audit.specs.Held.{onFrom, Followed, HeldOne};
 
 mod space;
 
@@ -163,33 +163,17 @@ struct Told {
     parted: bool,
 }
 
-// Takes the n-th event e, holds the supplier's answer and words against our step, and prints what is told of it.
-fn hold_recording(
-    t: &[u32],
-    h: Layout,
-    s: &mut [u32],
-    trace: &mut [u32],
-    e: u32,
-    n: u64,
-    said: u32,
-    words: &[u32],
-    out: &mut [u8],
-    all: bool,
-) -> Told
-    requires { ⌜ Going (now t) h (now s) (now trace) (now out) × (length (now words) ≤ mostWords) ⌝ }
-    ensures { λ r. ⌜ Going (now (t .entry)) h (now (s .exit)) (now (trace .exit)) (now (out .exit))
-        × HeldOne (now (t .entry)) e (now (s .entry)) said (now (words .entry)) all r (now (s .exit)) ⌝ }
+// Prints what is told of an event, and goes on where nothing is, or where all are held.
+fn follow(t: &[u32], s: &mut [u32], words: &[u32], lines: &[u8], all: bool) -> Told
+    ensures { λ r. ⌜ Followed (now (t .entry)) (now (s .entry)) (now (words .entry)) (now (lines .entry)) all r (now (s .exit)) ⌝ }
 {
-    let step = telling::take_one(t, h, e, s, trace);
-    let count = step.count;
-    let bytes = tell_step(out, n, e, step.answer, &trace[..count], s, said, words);
-    if bytes == 0 {
+    if lines.len() == 0 {
         return Told {
             going: true,
             parted: false,
         };
     }
-    if !print(&out[..bytes]) {
+    if !print(lines) {
         return Told {
             going: false,
             parted: false,
@@ -208,6 +192,29 @@ fn hold_recording(
     }
 }
 
+// Takes the n-th event e, holds the supplier's answer and words against our step, and prints what is told of it.
+fn hold_recording(
+    t: &[u32],
+    h: Layout,
+    s: &mut [u32],
+    trace: &mut [u32],
+    e: u32,
+    n: u64,
+    said: u32,
+    words: &[u32],
+    out: &mut [u8],
+    all: bool,
+) -> Told
+    requires { ⌜ Going (now t) h (now s) (now trace) × (length (now words) ≤ mostWords) × (toldBytes ≤ length (now out)) ⌝ }
+    ensures { λ r. ⌜ Going (now (t .entry)) h (now (s .exit)) (now (trace .exit))
+        × HeldOne (now (t .entry)) e (now (s .entry)) said (now (words .entry)) all r (now (s .exit)) ⌝ }
+{
+    let step = telling::take_one(t, h, e, s, trace);
+    let count = step.count;
+    let bytes = tell_step(out, n, e, step.answer, &trace[..count], s, said, words);
+    follow(t, s, words, &out[..bytes], all)
+}
+
 // Reads the n-th event's recording from the log's bytes and holds it against our step.
 fn hold_event(
     t: &[u32],
@@ -223,8 +230,8 @@ fn hold_event(
     out: &mut [u8],
     all: bool,
 ) -> Turn
-    requires { ⌜ Going (now t) h (now s) (now trace) (now out) × (at ≤ length (now log)) × (length (now words) ≤ mostWords) ⌝ }
-    ensures { λ r. ⌜ Going (now (t .entry)) h (now (s .exit)) (now (trace .exit)) (now (out .exit)) × (r .at ≤ length (now (log .entry))) ⌝ }
+    requires { ⌜ Going (now t) h (now s) (now trace) × (at ≤ length (now log)) × (length (now words) ≤ mostWords) × (toldBytes ≤ length (now out)) ⌝ }
+    ensures { λ r. ⌜ Going (now (t .entry)) h (now (s .exit)) (now (trace .exit)) × (r .at ≤ length (now (log .entry))) ⌝ }
 {
     let read = recording::read_recording(log, at, words);
     let count = read.count;
@@ -281,8 +288,9 @@ fn next_event(
     out: &mut [u8],
     all: bool,
 ) -> Day
-    requires { ⌜ Going (now t) h (now s) (now trace) (now out) × Within (day .at) (day .end) (now window) × (length (now words) ≤ mostWords) ⌝ }
-    ensures { λ r. ⌜ Going (now (t .entry)) h (now (s .exit)) (now (trace .exit)) (now (out .exit)) × Within (r .at) (r .end) (now (window .exit)) ⌝ }
+    requires { ⌜ Going (now t) h (now s) (now trace) × Within (day .at) (day .end) (now window)
+        × (length (now words) ≤ mostWords) × (toldBytes ≤ length (now out)) ⌝ }
+    ensures { λ r. ⌜ Going (now (t .entry)) h (now (s .exit)) (now (trace .exit)) × Within (r .at) (r .end) (now (window .exit)) ⌝ }
 {
     let place = widen(fd, path, window, day.ended, day.at, day.end);
     let at = place.at;
@@ -334,19 +342,32 @@ fn hold_block(
     fd: i32,
     path: &[u8],
     window: &mut [u8],
-    words: &mut [u32],
-    out: &mut [u8],
     all: bool,
 ) -> Day
-    requires { ⌜ Going (now t) h (now s) (now trace) (now out) × Within (first .at) (first .end) (now window) × (length (now words) ≤ mostWords) ⌝ }
-    ensures { λ r. ⌜ Going (now (t .entry)) h (now (s .exit)) (now (trace .exit)) (now (out .exit)) × Within (r .at) (r .end) (now (window .exit)) ⌝ }
+    requires { ⌜ Going (now t) h (now s) (now trace) × Within (first .at) (first .end) (now window) ⌝ }
+    ensures { λ r. ⌜ Going (now (t .entry)) h (now (s .exit)) (now (trace .exit)) × Within (r .at) (r .end) (now (window .exit)) ⌝ }
 {
     let total = word_count(block);
+    let mut words = space::recorded_words();
+    let mut out = files::space::lines();
     let mut day = first;
     let mut i = 0;
     while i < total && day.going {
         let e = read_word(block, i);
-        day = next_event(t, h, s, trace, e, day, fd, path, window, words, out, all);
+        day = next_event(
+            t,
+            h,
+            s,
+            trace,
+            e,
+            day,
+            fd,
+            path,
+            window,
+            &mut words,
+            &mut out,
+            all,
+        );
         i += 1;
     }
     day
@@ -373,28 +394,13 @@ fn next_block(
     fd: i32,
     path: &[u8],
     window: &mut [u8],
-    words: &mut [u32],
-    out: &mut [u8],
     all: bool,
 ) -> Block
-    requires { ⌜ Counts n (now block) × Going (now t) h (now s) (now trace) (now out) × Within (first .at) (first .end) (now window) × (length (now words) ≤ mostWords) ⌝ }
+    requires { ⌜ Counts n (now block) × Going (now t) h (now s) (now trace) × Within (first .at) (first .end) (now window) ⌝ }
     ensures { λ r. ⌜ Counts (r .bytes) (now (block .exit)) ⌝ }
-    ensures { λ r. ⌜ Going (now (t .entry)) h (now (s .exit)) (now (trace .exit)) (now (out .exit)) × Within (r .day .at) (r .day .end) (now (window .exit)) ⌝ }
+    ensures { λ r. ⌜ Going (now (t .entry)) h (now (s .exit)) (now (trace .exit)) × Within (r .day .at) (r .day .end) (now (window .exit)) ⌝ }
 {
-    let day = hold_block(
-        t,
-        h,
-        s,
-        trace,
-        &block[..n],
-        first,
-        fd,
-        path,
-        window,
-        words,
-        out,
-        all,
-    );
+    let day = hold_block(t, h, s, trace, &block[..n], first, fd, path, window, all);
     if !day.going {
         return Block {
             going: false,
@@ -432,11 +438,9 @@ fn hold_file(
     fd: i32,
     path: &[u8],
     window: &mut [u8],
-    words: &mut [u32],
-    out: &mut [u8],
     all: bool,
 ) -> Ended
-    requires { ⌜ Counts bytes (now block) × Going (now t) h (now s) (now trace) (now out) × Within (first .at) (first .end) (now window) × (length (now words) ≤ mostWords) ⌝ }
+    requires { ⌜ Counts bytes (now block) × Going (now t) h (now s) (now trace) × Within (first .at) (first .end) (now window) ⌝ }
     ensures { λ r. ⌜ Within (r .day .at) (r .day .end) (now (window .exit)) ⌝ }
 {
     let mut n = bytes;
@@ -456,8 +460,6 @@ fn hold_file(
             fd,
             path,
             window,
-            words,
-            out,
             all,
         );
         day = turn.day;
@@ -471,7 +473,7 @@ fn hold_file(
 }
 
 // Behind the last event: the log has no line more, and the last line says how many events there were.
-fn close_day(day: Day, fd: i32, path: &[u8], window: &mut [u8], out: &mut [u8])
+fn close_day(day: Day, fd: i32, path: &[u8], window: &mut [u8])
     requires { ⌜ Within (day .at) (day .end) (now window) ⌝ }
 {
     let place = widen(fd, path, window, day.ended, day.at, day.end);
@@ -482,7 +484,8 @@ fn close_day(day: Day, fd: i32, path: &[u8], window: &mut [u8], out: &mut [u8])
         complain(day.line, b"it goes on behind the last event\n");
         return;
     }
-    let n = telling::lay_total(out, day.events, day.parted);
+    let mut out = space::total();
+    let n = telling::lay_total(&mut out, day.events, day.parted);
     print(&out[..n]);
 }
 
@@ -494,7 +497,7 @@ fn mark(parted: u64) {
 }
 
 // The end of a holding, whole or not.
-fn finish(ended: Ended, fd: i32, path: &[u8], window: &mut [u8], out: &mut [u8])
+fn finish(ended: Ended, fd: i32, path: &[u8], window: &mut [u8])
     requires { ⌜ Within (ended .day .at) (ended .day .end) (now window) ⌝ }
 {
     let day = ended.day;
@@ -502,7 +505,7 @@ fn finish(ended: Ended, fd: i32, path: &[u8], window: &mut [u8], out: &mut [u8])
         mark(day.parted);
         return;
     }
-    close_day(day, fd, path, window, out);
+    close_day(day, fd, path, window);
     mark(day.parted);
 }
 
@@ -519,11 +522,9 @@ fn hold_fresh(
     path: &[u8],
     window: &mut [u8],
     end: usize,
-    words: &mut [u32],
-    out: &mut [u8],
     all: bool,
 )
-    requires { ⌜ Counts bytes (now block) × Lent (now t) (now s) (now trace) (now out) × (end ≤ length (now window)) × (length (now words) ≤ mostWords) ⌝ }
+    requires { ⌜ Counts bytes (now block) × Lent (now t) (now s) (now trace) × (end ≤ length (now window)) ⌝ }
 {
     manager::make_fresh(t, s);
     let h = read_accepted(t);
@@ -549,17 +550,25 @@ fn hold_fresh(
         fd,
         path,
         window,
-        words,
-        out,
         all,
     );
-    finish(ended, fd, path, window, out);
+    finish(ended, fd, path, window);
 }
 
 // Whether there is a fourth word: then it goes on behind an event that parted.
 fn goes_on() -> bool {
     let mut word = io::buffer();
     os::arg(4, &mut word) != 0
+}
+
+// Says why nothing is printed; the front tells by the first words that it was a refusal.
+fn refuse_table(reason: u32, place: u32) {
+    say(
+        b"herringcart: refused: the table has reason ",
+        reason as u64,
+        b' ',
+    );
+    say(b"at word ", place as u64, b'\n');
 }
 
 // The table's reason, or its events held against the log from the fresh state on.
@@ -578,12 +587,7 @@ fn hold_table(
 {
     let opening = session::open(t);
     if opening.reason != 0 {
-        say(
-            b"herringcart: refused: the table has reason ",
-            opening.reason as u64,
-            b' ',
-        );
-        say(b"at word ", opening.place as u64, b'\n');
+        refuse_table(opening.reason, opening.place);
         return;
     }
     let all = goes_on();
@@ -591,8 +595,6 @@ fn hold_table(
     let room = opening.trace;
     let mut states = files::space::state_words();
     let mut traces = space::trace_words();
-    let mut words = space::recorded_words();
-    let mut out = files::space::lines();
     let s: &mut [u32] = &mut states[..long];
     let trace: &mut [u32] = &mut traces[..room];
     hold_fresh(
@@ -607,8 +609,6 @@ fn hold_table(
         path,
         window,
         end,
-        &mut words,
-        &mut out,
         all,
     );
 }

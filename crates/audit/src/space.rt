@@ -22,3 +22,10 @@ pub fn number() -> [u8; 32]
 {
     [0; 32]
 }
+
+// Room for the last line.
+pub fn total() -> [u8; 96]
+    ensures { λ r. ⌜ 96 ≡ length r ⌝ }
+{
+    [0; 96]
+}

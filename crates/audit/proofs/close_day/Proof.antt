@@ -8,7 +8,7 @@ use Rattle.audit.proofs.close_day.Tie as tie
 
 slice-aggregate-print : tie.Need-slice-aggregate-print
 slice-aggregate-print c =
-    let total = c .before .before .before .lay-total in sym (length-take-le _ _ (omega (arith, total .ensures .inside, total .kept .0)))
+    let total = c .before .before .lay-total in sym (length-take-le _ _ (omega (arith, total .ensures .inside, total .kept .0)))
 
 pub close-day-spec : {M : Type 1} → statement M
 close-day-spec =
@@ -23,8 +23,9 @@ close-day-spec =
     (λ c. search needs)
     (λ c κs. search needs)
     (λ c. search needs)
-    slice-aggregate-print
     (λ c κs. search needs)
     (λ c. search needs)
+    slice-aggregate-print
+    (λ c κs. search needs)
     (λ c. search needs)
     (λ c. search needs))

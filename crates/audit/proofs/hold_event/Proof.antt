@@ -25,6 +25,7 @@ hold-recording-requires c κs =
     let few = start read .pre .2 in (
       start read .pre .0,
       omega (arith, length-take-le (read .read-recording .result .count) (read .read-recording .last .1 .1 .0) (inside read), read .read-recording .kept .1 .1 .0),
+      start read .pre .3,
     )
 
 returns-2 : tie.Need-returns-2

@@ -20,6 +20,7 @@ hold-event-requires c κs =
       start wide .pre .0,
       omega (arith, w .order, length-take-le (wide .widen .result .end) (wide .widen .last .1 .1 .0) (w .inside)),
       start wide .pre .2,
+      start wide .pre .3,
     )
 
 returns-2 : tie.Need-returns-2
