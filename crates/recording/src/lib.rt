@@ -2,15 +2,9 @@
 ghost use mathlib.Core.Path.{_≡_};
 ghost use Prim.Native.Nat.{_≤_};
 ghost use lib.ListN.{length};
-ghost use Rattle.recording.specs.Log.{hexValue, isAnswer as isAnswerAt, byte as byteAt, foundBehind};
+ghost use Rattle.recording.specs.Log.{hexValue, isAnswer as isAnswerAt, foundBehind};
 ghost use Rattle.recording.specs.Promises.{foundNumber, ReadsHex, ReadsWord, ReadsWords, ReadsRecording};
-
-// The byte at a place; past the end it reads as 0.
-fn byte(bytes: &[u8], at: usize) -> u8
-    ensures { λ r. ⌜ r ≡ byteAt (now (bytes .entry)) at ⌝ }
-{
-    if at < bytes.len() { bytes[at] } else { 0 }
-}
+use text::input::byte;
 
 // The value of a capital hex digit; 16 where a byte is none.
 fn hex_value(b: u8) -> u32

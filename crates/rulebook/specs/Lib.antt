@@ -10,4 +10,5 @@ pub mod Events
 pub mod Step
 pub mod Play
 pub mod Hold
+pub mod Listing
 pub mod Marked

@@ -1,3 +1,4 @@
 -- Laws that belong to no one function.
 pub mod Chain
 pub mod Unique
+pub mod Shapes

@@ -4,6 +4,10 @@ use mathlib.Core.Path.{_≡_}
 use mathlib.Core.Bool.{cond}
 use mathlib.Core.List.{List}
 use Rattle.rulebook.specs.Reasons.{check, accepted, bound as boundOf}
+use Rattle.rulebook.specs.Listing.{shapeReason}
+use Rattle.words.specs.Sections.{Laid}
+use Rattle.tables.specs.declared.Shape.{Shape}
+use Rattle.tables.specs.declared.Shape.the-variants as shape
 use Rattle.tables.specs.declared.Checked.{Checked}
 use Rattle.tables.specs.declared.Checked.the-variants.{Accepted, TooShort, WrongEdition, WrongCounts, WrongLength}
 use Rattle.tables.specs.declared.Checked.the-variants.{Misfit, Misnamed, TooDeep, OwnersClash, Unreached, TooDear}
@@ -35,3 +39,23 @@ Says x reason place bound = (reason ≡ x .reason) × (place ≡ x .place) × (b
 
 unfoldable pub promised : List ℕ → Finding
 promised t = record { reason = check t .reason; place = check t .place; bound = cond (accepted t) (boundOf t) 0 }
+
+-- reasons 1 to 4: the number of the one that holds, and the layout where none does
+
+abbrev pub shapeNumber : Shape → ℕ
+shapeNumber (shape.Shaped h) = 0
+shapeNumber shape.TooShort = 1
+shapeNumber shape.WrongEdition = 2
+shapeNumber shape.WrongCounts = 3
+shapeNumber shape.WrongLength = 4
+
+abbrev pub layoutOf : List ℕ → Shape → Type 0
+layoutOf t (shape.Shaped h) = Laid t h
+layoutOf t shape.TooShort = Unit
+layoutOf t shape.WrongEdition = Unit
+layoutOf t shape.WrongCounts = Unit
+layoutOf t shape.WrongLength = Unit
+
+pub record Shapes (t : List ℕ) (r : Shape) : Type 0 where
+  pub reason : shapeNumber r ≡ shapeReason t
+  pub layout : layoutOf t r

@@ -1,8 +1,9 @@
 // The table check: any words, of any number. Accepted with B, or the first reason that holds and its place.
 ghost use mathlib.Core.Path.{_≡_};
+ghost use mathlib.Core.Bool.{_&&_};
 ghost use Rattle.rulebook.specs.Reasons.{knownEdition, countsInside};
 ghost use Rattle.words.specs.Sections.{Laid};
-ghost use Rattle.tables.specs.Finding.{finding, promised, Says};
+ghost use Rattle.tables.specs.Finding.{finding, refused, promised, Says, shapeNumber, Shapes};
 use cost::bound;
 use fields::first_misfit;
 use names::first_misnamed;
@@ -128,23 +129,64 @@ fn counts_inside(t: &[u32], h: Layout) -> bool
         & (items <= 2047)
 }
 
-pub fn check(t: &[u32]) -> Checked
-    ensures { λ r. ⌜ finding r ≡ promised (now (t .entry)) ⌝ }
+// Reasons 1 to 4, which go by the header and the length alone: the layout, or a case for each of them.
+pub enum Shape {
+    Shaped(Layout),
+    TooShort,
+    WrongEdition,
+    WrongCounts,
+    WrongLength,
+}
+
+// Whether a header names a known edition and counts inside their limits.
+pub fn sound_header(t: &[u32]) -> bool
+    ensures { λ r. ⌜ r ≡ knownEdition (now (t .entry)) && countsInside (now (t .entry)) ⌝ }
+{
+    let h = read_layout(t);
+    known_edition(t) & counts_inside(t, h)
+}
+
+pub fn check_shape(t: &[u32]) -> Shape
+    ensures { λ r. ⌜ Shapes (now (t .entry)) r ⌝ }
 {
     if t.len() < 3 {
-        return Checked::TooShort;
+        return Shape::TooShort;
     }
     let h = read_layout(t);
     if !known_edition(t) {
-        return Checked::WrongEdition;
+        return Shape::WrongEdition;
     }
     if !counts_inside(t, h) {
-        return Checked::WrongCounts;
+        return Shape::WrongCounts;
     }
     let length = h.length;
     if t.len() != length {
-        return Checked::WrongLength;
+        return Shape::WrongLength;
     }
+    Shape::Shaped(h)
+}
+
+// The answer where one of reasons 1 to 4 holds.
+fn misshapen(shape: Shape) -> Checked
+    ensures { λ r. ⌜ finding r ≡ refused (shapeNumber shape) 0 ⌝ }
+{
+    match shape {
+        Shape::Shaped(_) => Checked::Accepted(0),
+        Shape::TooShort => Checked::TooShort,
+        Shape::WrongEdition => Checked::WrongEdition,
+        Shape::WrongCounts => Checked::WrongCounts,
+        Shape::WrongLength => Checked::WrongLength,
+    }
+}
+
+pub fn check(t: &[u32]) -> Checked
+    ensures { λ r. ⌜ finding r ≡ promised (now (t .entry)) ⌝ }
+{
+    let shape = check_shape(t);
+    let Shape::Shaped(h) = shape else {
+        return misshapen(shape);
+    };
+    let length = h.length;
     let misfit = first_misfit(t, h);
     if misfit < length {
         return Checked::Misfit(misfit);

@@ -1,8 +1,15 @@
-// Bytes to words: four bytes each, high byte first; bytes past the last whole word are ignored.
+// Single bytes, and bytes to words: four bytes each, high byte first; bytes past the last whole word are ignored.
 ghost use mathlib.Core.Path.{_≡_};
-ghost use lib.ListN.{length};
+ghost use lib.ListN.{length, getD};
 ghost use Rattle.text.specs.Words.{wordOf, wordsOf, wordAt, Front};
 use crate::number::least;
+
+// The byte at a place; past the end it reads as 0.
+pub fn byte(bytes: &[u8], at: usize) -> u8
+    ensures { λ r. ⌜ r ≡ getD (now (bytes .entry)) at 0 ⌝ }
+{
+    if at < bytes.len() { bytes[at] } else { 0 }
+}
 
 pub fn word_count(bytes: &[u8]) -> usize
     ensures { λ r. ⌜ r ≡ length (wordsOf (now (bytes .entry))) ⌝ }

@@ -1,0 +1,19 @@
+-- Laws that belong to no one function.
+pub mod Beyond
+pub mod Digits
+pub mod Numbers
+pub mod Widths
+pub mod Laying
+pub mod Lists
+pub mod Packing
+pub mod Cases
+pub mod Names
+pub mod ByKind
+pub mod OneLine
+pub mod Places
+pub mod Decoding
+pub mod Headers
+pub mod Texts
+pub mod Heading
+pub mod Scanning
+pub mod Written
