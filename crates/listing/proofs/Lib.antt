@@ -17,3 +17,7 @@ pub mod Texts
 pub mod Heading
 pub mod Scanning
 pub mod Written
+pub mod Marked
+pub mod Back
+pub mod Window
+pub mod Named

@@ -172,7 +172,7 @@ module _ (t out : List ℕ) where
     unfolding listAnswer
     no-room h = refused 11 (rw (shaped, lt-ltb (length out) (length (listing t)) h)) (λ e. omega arith)
 
-    answered : length (listing t) ≤ length out → listAnswer t (length out) ≡ 0
+    pub answered : length (listing t) ≤ length out → listAnswer t (length out) ≡ 0
     unfolding listAnswer
     answered h = rw (shaped, le-ltb (length out) (length (listing t)) h)
 

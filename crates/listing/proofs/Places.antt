@@ -16,7 +16,7 @@ use Rattle.rulebook.specs.Reasons.{knownEdition, countsInside}
 use Rattle.rulebook.specs.Listing.{formAt, placeForm}
 use Rattle.listing.specs.Lines.{firstLines}
 
-abbrev in-header : Part → Bool
+abbrev pub in-header : Part → Bool
 in-header inHeader = true
 in-header (atPort p) = false
 in-header (atNetwork n) = false
@@ -27,7 +27,7 @@ in-header (atRule r) = false
 in-header (atList l) = false
 in-header (atItem i) = false
 
-abbrev Outside : Part → Type 0
+abbrev pub Outside : Part → Type 0
 Outside p = in-header p ≡ false
 
 module _ (t : List ℕ) (i : ℕ) where
@@ -35,7 +35,7 @@ module _ (t : List ℕ) (i : ℕ) where
   unfolding formAt part placeForm
   header-form h = rw (lt-ltb i 3 h)
 
-  outside : 3 ≤ i → Outside (part t i)
+  pub outside : 3 ≤ i → Outside (part t i)
   unfolding part
   outside h =
       rw (le-ltb i 3 h)
