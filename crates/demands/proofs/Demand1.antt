@@ -18,6 +18,7 @@ use Rattle.hold.specs.Cases.{Case, refuses, traces, theirs-stop, ours-stop, sta
 use Rattle.hold.proofs.Exactly.{case-found}
 use Rattle.demands.proofs.Panel.{panel-answered}
 use Rattle.demands.proofs.Plays.{play-answered}
+use Rattle.demands.proofs.Listed.{list-answered, read-answered}
 use Rattle.demands.specs.Demand1.{TableAnswered, FreshAnswered, StateAnswered, EventAnswered, HoldAnswered, Demand1}
 
 -- The table check.
@@ -118,4 +119,6 @@ demand-1 =
       panel = panel-answered;
       play = play-answered;
       hold = hold-answered;
+      list = list-answered;
+      read = read-answered;
     }

@@ -3,6 +3,7 @@ pub mod Plays
 pub mod Singles
 pub mod Resumed
 pub mod Panel
+pub mod Listed
 pub mod Demand1
 pub mod Demand2
 pub mod Calls

@@ -25,10 +25,13 @@ use Rattle.panel.specs.Printed.{panel}
 use Rattle.panel.specs.Same.{PrintsAlike}
 use Rattle.hold.specs.Promises.{partOf}
 use Rattle.hold.specs.Cases.{Case}
+use Rattle.listing.specs.Lines.{listing, ListingOf}
+use Rattle.listing.specs.Promises.{ListsIn, ReadsIn}
+use Rattle.listing.specs.Back.{longest, SameBytes}
 use Rattle.demands.specs.Calls.{Played}
 use Rattle.demands.specs.Sent.{Sent, endedBy}
 use Rattle.demands.specs.Plays.{PlayAnswered, PlayGoes}
-use Rattle.demands.specs.Demand1.{TableAnswered, FreshAnswered, StateAnswered, EventAnswered, PanelAnswered, HoldAnswered}
+use Rattle.demands.specs.Demand1.{TableAnswered, FreshAnswered, StateAnswered, EventAnswered, PanelAnswered, HoldAnswered, ListAnswered, ReadAnswered}
 use Rattle.demands.specs.Demand2.{Steps}
 use Rattle.demands.specs.Demand3.{Demand3After}
 use Rattle.demands.specs.Nothing.{NothingAfter}
@@ -126,3 +129,27 @@ pub record OfHold (t s trace os : List ℕ) (e : ℕ) (theirs theirState : List 
       → (v₂ ≡ v) × (k₂ ≡ k) × (p ≡ partOf v k n trace′ theirs)
   -- "Say yes exactly if both are what our rules order, whoever wrote them": our step is done, and they are the words and the state it leaves
   pub yes : (v ≡ 0) ↔ ((firstFault t s (length trace) os e ≡ 0) × (theirs ≡ take n trace′) × (theirState ≡ s′))
+
+-- Q-4, of a table's listing laid into lent bytes: k the answer, n the bytes
+pub record OfListing (t out : List ℕ) (k n : ℕ) (out′ : List ℕ) : Type 0 where
+  -- "Writing is refused with reason 1 to 4 where one holds, then with 11 where the output is too short; nothing is then written"
+  pub answered : ListAnswered t out k n out′
+  -- the listing stands at the front; what is behind it is as it was
+  pub lines : k ≡ 0 → take n out′ ≡ listing t
+  pub behind : k ≡ 0 → drop n out′ ≡ drop n out
+  -- so much room is always enough
+  pub enough : longest ≤ length out → k ≡ 11 → ⊥
+  -- "Reading a listing gives the same words": whatever words are lent to a call that reads these bytes, if they are enough
+  pub back : k ≡ 0 → (lent : List ℕ) (k₂ n₂ l₂ : ℕ) (lent′ : List ℕ) → length t ≤ length lent → ReadsIn (take n out′) lent k₂ n₂ l₂ lent′
+      → (k₂ ≡ 0) × (n₂ ≡ length t) × (take n₂ lent′ ≡ t)
+
+-- Q-4, of a text read into lent words: k the answer, n the words, l the first bad line
+pub record OfReading (text lent : List ℕ) (k n l : ℕ) (lent′ : List ℕ) : Type 0 where
+  -- "reading likewise with 11 after spelling; nothing is then written. .. The reader refuses, with the first bad line's number, any other spelling"
+  pub answered : ReadAnswered text lent k n l lent′
+  -- the text is the listing of the words at the front; those behind them are as they were
+  pub words : k ≡ 0 → ListingOf text (take n lent′)
+  pub behind : k ≡ 0 → drop n lent′ ≡ drop n lent
+  -- "listing what was read gives the same bytes": whatever bytes are lent to a call that lists these words, if they are enough
+  pub back : k ≡ 0 → (out : List ℕ) (k₂ m : ℕ) (out′ : List ℕ) → length text ≤ length out → ListsIn (take n lent′) out k₂ m out′
+      → SameBytes text k₂ m out′

@@ -6,7 +6,8 @@ use mathlib.Core.Bool.{true, false}
 use mathlib.Core.List.{List}
 use Prim.Native.Nat.{ℕ, _≤_, _<_}
 use lib.ListN.{length}
-use Rattle.rulebook.specs.Reasons.{accepted, bound}
+use Rattle.rulebook.specs.Words.{between}
+use Rattle.rulebook.specs.Reasons.{check, accepted, bound}
 use Rattle.rulebook.specs.State.{stateLength, fits, fresh}
 use Rattle.rulebook.specs.Step.{firstFault}
 use Rattle.laws.specs.Acceptance.{Given}
@@ -14,6 +15,8 @@ use Rattle.manager.specs.Promises.{ChecksTableIn, MakesFreshIn, ChecksStateIn, 
 use Rattle.panel.specs.Printed.{panel}
 use Rattle.panel.specs.Promises.{ShowsIn}
 use Rattle.hold.specs.Promises.{HoldsIn}
+use Rattle.listing.specs.Lines.{listing, ListingOf, BadLine}
+use Rattle.listing.specs.Promises.{ListsIn, ReadsIn}
 use Rattle.demands.specs.Plays.{PlayAnswered}
 
 -- the table check: the first reason that holds, at the lowest word that breaks its rule; B of an accepted table
@@ -67,6 +70,24 @@ pub record HoldAnswered (t s trace os : List ℕ) (e v k n m : ℕ) (s′ trace�
   pub noCount : v ≡ 1 → n ≡ 0
   pub noVisits : v ≡ 1 → m ≡ 0
 
+-- a table's listing: the table check's reason where it is one of the first four, then 11
+pub record ListAnswered (t out : List ℕ) (k n : ℕ) (out′ : List ℕ) : Type 0 where
+  pub reason : between 1 4 (check t .reason) ≡ true → k ≡ check t .reason
+  pub noRoom : between 1 4 (check t .reason) ≡ false → length out < length (listing t) → k ≡ 11
+  pub done : between 1 4 (check t .reason) ≡ false → length (listing t) ≤ length out → k ≡ 0
+  pub bytesKept : (k ≡ 0 → ⊥) → out′ ≡ out
+  pub noBytes : (k ≡ 0 → ⊥) → n ≡ 0
+
+-- a listing read back: the first bad line, 12 with its number l, then 11
+pub record ReadAnswered (text lent : List ℕ) (k n l : ℕ) (lent′ : List ℕ) : Type 0 where
+  pub badLine : k ≡ 12 → BadLine text l
+  pub noLine : (k ≡ 12 → ⊥) → l ≡ 0
+  pub noListing : ((t : List ℕ) → ListingOf text t → ⊥) → k ≡ 12
+  pub noRoom : (t : List ℕ) → ListingOf text t → length lent < length t → k ≡ 11
+  pub done : (t : List ℕ) → ListingOf text t → length t ≤ length lent → k ≡ 0
+  pub wordsKept : (k ≡ 0 → ⊥) → lent′ ≡ lent
+  pub noWords : (k ≡ 0 → ⊥) → n ≡ 0
+
 pub record Demand1 : Type 0 where
   pub checkTable : (t : List ℕ) (reason place b : ℕ) → ChecksTableIn t reason place b → TableAnswered t reason place b
   pub makeFresh : (t s : List ℕ) (k : ℕ) (s′ : List ℕ) → MakesFreshIn t s k s′ → FreshAnswered t s k s′
@@ -80,3 +101,6 @@ pub record Demand1 : Type 0 where
   -- Q-7: of a supplier's recording
   pub hold : (t s trace os : List ℕ) (e : ℕ) (theirs theirState : List ℕ) (v k n m : ℕ) (s′ trace′ : List ℕ)
       → HoldsIn t s trace os e theirs theirState v k n m s′ trace′ → HoldAnswered t s trace os e v k n m s′ trace′
+  -- Q-4: of a listing, and of one read back
+  pub list : (t out : List ℕ) (k n : ℕ) (out′ : List ℕ) → ListsIn t out k n out′ → ListAnswered t out k n out′
+  pub read : (text lent : List ℕ) (k n l : ℕ) (lent′ : List ℕ) → ReadsIn text lent k n l lent′ → ReadAnswered text lent k n l lent′

@@ -1,13 +1,16 @@
-// The entries of `manager`, and what stands above it: the panel, and a supplier's recording held against ours.
+// The entries of `manager`, and what stands beside and above it: the panel, a supplier's recording held against ours, a table listed and read back.
 ghost use Rattle.tables.specs.Finding.{finding};
 ghost use Rattle.states.specs.Made.{numberOf as madeNumber};
 ghost use Rattle.events.specs.Answers.{numberOf, countOf, visitsOf};
 ghost use Rattle.manager.specs.Answers.{stateNumber, endNumber};
-ghost use Rattle.demands.specs.Conclusions.{OfTable, OfFresh, OfState, OfEvent, OfPlay, OfPanel, OfHold};
+ghost use Rattle.demands.specs.Conclusions.{OfTable, OfFresh, OfState, OfEvent, OfPlay, OfPanel, OfHold, OfListing, OfReading};
 ghost use Rattle.panel.specs.Promises.{numberOf as panelNumber, bytesOf};
 ghost use Rattle.hold.specs.Promises.{numberOf as verdictNumber, givenBy, HandsBack};
+ghost use Rattle.listing.specs.Promises.{listedNumber, bytesOf as bytesListed, readNumber, wordsOf, lineIn};
 use events::Answer;
 use hold::Held;
+use listing::reading::Reading;
+use listing::writing::Listed;
 use manager::Fit;
 use manager::Played;
 use panel::Shown;
@@ -71,4 +74,16 @@ pub fn part<'a>(held: Held, trace: &'a [u32], theirs: &'a [u32]) -> &'a [u32]
     ensures { λ r. ⌜ HandsBack held (now (trace .entry)) (now (theirs .entry)) (now r) ⌝ }
 {
     hold::part(held, trace, theirs)
+}
+
+pub fn list(t: &[u32], out: &mut [u8]) -> Listed
+    ensures { λ r. ⌜ OfListing (now (t .entry)) (now (out .entry)) (listedNumber r) (bytesListed r) (now (out .exit)) ⌝ }
+{
+    listing::writing::list(t, out)
+}
+
+pub fn read(text: &[u8], words: &mut [u32]) -> Reading
+    ensures { λ r. ⌜ OfReading (now (text .entry)) (now (words .entry)) (readNumber r) (wordsOf r) (lineIn r) (now (words .exit)) ⌝ }
+{
+    listing::reading::read(text, words)
 }

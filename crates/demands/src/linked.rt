@@ -2,7 +2,7 @@
 ghost use mathlib.Core.Path.{_≡_};
 ghost use lib.ListN.{length};
 ghost use Rattle.hold.specs.Promises.{partOf};
-ghost use Rattle.demands.specs.Conclusions.{OfTable, OfFresh, OfState, OfEvent, OfPlay, OfPanel, OfHold};
+ghost use Rattle.demands.specs.Conclusions.{OfTable, OfFresh, OfState, OfEvent, OfPlay, OfPanel, OfHold, OfListing, OfReading};
 
 pub fn check_table(t: &[u32], place: &mut usize, bound: &mut u32) -> u32
     ensures { λ r. ⌜ OfTable (now (t .entry)) r (now (place .exit)) (now (bound .exit)) ⌝ }
@@ -88,4 +88,16 @@ pub fn hold(
         count,
         visits,
     )
+}
+
+pub fn list(t: &[u32], out: &mut [u8], bytes: &mut usize) -> u32
+    ensures { λ r. ⌜ OfListing (now (t .entry)) (now (out .entry)) r (now (bytes .exit)) (now (out .exit)) ⌝ }
+{
+    gateway::herringcart_list(t, out, bytes)
+}
+
+pub fn read(text: &[u8], words: &mut [u32], count: &mut usize, line: &mut usize) -> u32
+    ensures { λ r. ⌜ OfReading (now (text .entry)) (now (words .entry)) r (now (count .exit)) (now (line .exit)) (now (words .exit)) ⌝ }
+{
+    gateway::herringcart_read(text, words, count, line)
 }

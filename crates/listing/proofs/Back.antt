@@ -127,7 +127,7 @@ late t =
     (split (ltb (lowest owners t) (length t)) (λ d. rw d)
     (λ d. rw d (split (ltb (lowest reached t) (length t)) (λ e. rw e) (λ e. rw e (split (affordable t) (λ f. rw f) (λ f. rw f)))))))))))
 
-first-four : (t : List ℕ) → shapeReason t ≤ 4
+pub first-four : (t : List ℕ) → shapeReason t ≤ 4
 unfolding shapeReason firstOf orNext
 first-four t =
     split (hasHeader t)

@@ -27,7 +27,7 @@ few-words t l =
 pub lines-short : (t : List ℕ) (k : ℕ) → Listable t → k ≤ length t → length (firstLines t k) ≤ longest
 lines-short t k l h = omega (arith, few-words t l, length-lines t k)
 
-listing-short : (text t : List ℕ) → ListingOf text t → length text ≤ longest
+pub listing-short : (text t : List ℕ) → ListingOf text t → length text ≤ longest
 listing-short text t is = omega (arith, ap length (is .same ∙ all-lines t), lines-short t (length t) (is .listable) (omega arith))
 
 module _ (text : List ℕ) (window : ℕ) (wide : longest < window) (on : window ≤ length text) where
