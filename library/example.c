@@ -1,6 +1,6 @@
 /* Runs document 01's marked table through the library, the same in edition 2 with a call that fails, and a table whose rules visit
- * more than one expression word; shows operators their panels; holds a supplier's recordings against the run; prints what each call
- * gives and holds it against the documents. Leaves with status 1 at the first difference. */
+ * more than one expression word; shows operators their panels; holds a supplier's recordings against the run; lists tables as text and
+ * reads them back; prints what each call gives and holds it against the documents. Leaves with status 1 at the first difference. */
 #include "herringcart.h"
 
 #include <inttypes.h>
@@ -358,6 +358,127 @@ static void holds(void)
     }
 }
 
+/* The marked table's listing, as document 02 has it. */
+static const char marked[] = "header 1 2 1 0\nheader 1 1\nheader 1 2\nport 0 0 0 1 0 0\nport 0 1 0 1 0 0\nnetwork 1 1 2 0\n"
+                             "network 3 10 5\nexpression 0 0 5 0\nrule 1 0 0 0 0 255\nlist 1 1 7 0 2\nitem 4 0 2\nitem 0 0 4660\n";
+
+#define LISTING (sizeof marked - 1) /* bytes: no 0 ends a listing */
+
+/* A table to list: the marked one with another word at a place, or its front, in so much room. */
+struct to_list {
+    const char *what;
+    size_t place;
+    uint32_t word;
+    size_t table_words, room;
+    uint32_t answer;
+};
+
+/* Tables that are listed, and that are not. What reason 5 refuses lists too; a refusal changes no byte. */
+static void listings(void)
+{
+    enum { ROOM = 300, UNTOUCHED_BYTE = 0x55 };
+    static const struct to_list all[] = {
+        {"the marked table", 0, 0x01020100, TABLE_WORDS, ROOM, HERRINGCART_DONE},
+        {"in just enough room", 0, 0x01020100, TABLE_WORDS, LISTING, HERRINGCART_DONE},
+        {"in a byte too little", 0, 0x01020100, TABLE_WORDS, LISTING - 1, HERRINGCART_NO_ROOM},
+        {"two words", 0, 0x01020100, 2, 0, HERRINGCART_TOO_SHORT},
+        {"edition 3", 0, 0x03020100, TABLE_WORDS, ROOM, HERRINGCART_WRONG_EDITION},
+        {"no rule", 1, 0x00010000, TABLE_WORDS, ROOM, HERRINGCART_WRONG_COUNTS},
+        {"a word missing", 0, 0x01020100, TABLE_WORDS - 1, 0, HERRINGCART_WRONG_LENGTH},
+        {"a network that waits 0 ticks, reason 5", 6, 0x000A0005, TABLE_WORDS, ROOM, HERRINGCART_DONE},
+    };
+    for (size_t i = 0; i < sizeof all / sizeof *all; i++) {
+        const struct to_list *e = &all[i];
+        uint32_t words[TABLE_WORDS];
+        uint8_t lines[ROOM];
+        size_t bytes = 99, length = e->answer == HERRINGCART_DONE ? LISTING : 0;
+        memcpy(words, table, sizeof table);
+        words[e->place] = e->word;
+        memset(lines, UNTOUCHED_BYTE, sizeof lines);
+        uint32_t answer = herringcart_list(words, e->table_words, lines, e->room, &bytes);
+        printf("listed, %s: answer %" PRIu32 ", bytes %zu\n", e->what, answer, bytes);
+        expect("answer", answer, e->answer);
+        expect("bytes", bytes, length);
+        printf("%.*s", (int)bytes, (const char *)lines);
+        for (size_t b = 0; b < ROOM; b++) {
+            char due = marked[b < length ? b : 0];
+            /* line 7, network 3 10 5, which the last table has with 0 in place of 3 */
+            if (e->place == 6 && b == (size_t)(strstr(marked, "3 10 5") - marked))
+                due = '0';
+            expect("a byte of the listing", lines[b], b < length ? (uint8_t)due : UNTOUCHED_BYTE);
+        }
+    }
+}
+
+/* A text to read: the marked table's listing with some bytes of it taken out from a place on, and others put there. */
+struct to_read {
+    const char *what;
+    const char *from; /* the place is where this begins, or the end */
+    size_t out;
+    const char *in;
+    size_t room;
+    uint32_t answer;
+    size_t line;
+};
+
+/* The listing read back, and texts that are none: the answer, and the number of the first bad line. Line 11 is not answer 11. A refusal changes
+ * no word. */
+static void readings(void)
+{
+    static const struct to_read all[] = {
+        {"the listing", "", 0, "", TABLE_WORDS + 2, HERRINGCART_DONE, 0},
+        {"in just enough room", "", 0, "", TABLE_WORDS, HERRINGCART_DONE, 0},
+        {"in a word too little", "", 0, "", TABLE_WORDS - 1, HERRINGCART_NO_ROOM, 0},
+        {"a leading zero", "0 0\nport", 1, "00", TABLE_WORDS, HERRINGCART_BAD_LINE, 4},
+        {"a list word with a sixth field", "list", 4, "list 0", 0, HERRINGCART_BAD_LINE, 10},
+        {"a field too big, in line 11 and no room", "4 0 2", 1, "16", 0, HERRINGCART_BAD_LINE, 11},
+        {"the last line missing", "item 0", 14, "", TABLE_WORDS, HERRINGCART_BAD_LINE, 12},
+        {"its newline missing", "item 0", 14, "item 0 0 4660", TABLE_WORDS, HERRINGCART_BAD_LINE, 12},
+        {"a line more", "", 0, "item 0 0 0\n", TABLE_WORDS + 2, HERRINGCART_BAD_LINE, 13},
+        {"another line's name", "rule", 4, "list", TABLE_WORDS, HERRINGCART_BAD_LINE, 9},
+        {"edition 3", "1 2 1 0", 1, "3", TABLE_WORDS, HERRINGCART_BAD_LINE, 1},
+        {"one source more, which no line is of", "0\nheader 1 1", 1, "1", TABLE_WORDS + 2, HERRINGCART_BAD_LINE, 8},
+    };
+    for (size_t i = 0; i < sizeof all / sizeof *all; i++) {
+        const struct to_read *e = &all[i];
+        uint32_t words[TABLE_WORDS + 2];
+        char text[LISTING + 20];
+        size_t count = 99, line = 99, done = e->answer == HERRINGCART_DONE ? TABLE_WORDS : 0;
+        const char *from = *e->from ? strstr(marked, e->from) : marked + LISTING;
+        int length = snprintf(text, sizeof text, "%.*s%s%s", (int)(from - marked), marked, e->in, from + e->out);
+        memset(words, 0x55, sizeof words);
+        uint32_t answer = herringcart_read((const uint8_t *)text, (size_t)length, words, e->room, &count, &line);
+        printf("read, %s: answer %" PRIu32 ", words %zu, line %zu\n", e->what, answer, count, line);
+        expect("answer", answer, e->answer);
+        expect("words", count, done);
+        expect("line", line, e->line);
+        for (size_t w = 0; w < TABLE_WORDS + 2; w++)
+            expect("a word read", words[w], w < done ? table[w] : UNTOUCHED);
+    }
+}
+
+/* The table with the longest listing there is: listed, read back, the words compared, listed again and the bytes compared. */
+static void there_and_back(void)
+{
+    enum { WORDS = HERRINGCART_TABLE_WORDS, LONGEST = 71508 };
+    static uint32_t words[WORDS], back[WORDS];
+    static uint8_t lines[HERRINGCART_LISTING_BYTES], again[LONGEST];
+    size_t bytes = 99, count = 99, line = 99;
+    memset(words, 0xFF, sizeof words);
+    words[0] = 0x02400820;
+    words[1] = 0x02000100;
+    words[2] = 0x00FF07FF;
+    expect("listed", herringcart_list(words, WORDS, lines, sizeof lines, &bytes), HERRINGCART_DONE);
+    printf("the longest listing: %zu bytes\n", bytes);
+    expect("bytes", bytes, LONGEST);
+    expect("in a byte too little", herringcart_list(words, WORDS, again, LONGEST - 1, &bytes), HERRINGCART_NO_ROOM);
+    expect("read back", herringcart_read(lines, LONGEST, back, WORDS, &count, &line), HERRINGCART_DONE);
+    expect("words", count, WORDS);
+    expect("the same words", (uint64_t)memcmp(words, back, sizeof words), 0);
+    expect("listed again", herringcart_list(back, count, again, sizeof again, &bytes), HERRINGCART_DONE);
+    expect("the same bytes", bytes == LONGEST ? (uint64_t)memcmp(lines, again, LONGEST) : 1, 0);
+}
+
 /* Another archive than this header's may take other arguments: nothing is called with it. */
 static void version(void)
 {
@@ -403,6 +524,9 @@ int main(void)
     visits();
     panels();
     holds();
+    listings();
+    readings();
+    there_and_back();
     printf("as the documents have it\n");
     return 0;
 }

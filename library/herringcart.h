@@ -1,10 +1,10 @@
 /* Herringcart: the proved mode manager's calls for C and C++.
  *
  * Tables, states, traces, outcomes and what a supplier recorded are lent as arrays of 32-bit words, each by a pointer and its length
- * in words; a panel's lines are laid into an array of bytes. docs/TABLES.md has the layout of every word, and what to do about each
- * reason and answer.
- * Every call takes any words: it checks them for itself, and a refusal leaves every word of state and trace, and every byte of
- * lines, as it was.
+ * in words; a panel's lines and a table's listing are laid into an array of bytes, and a listing is read from one. docs/TABLES.md has
+ * the layout of every word, and what to do about each reason and answer.
+ * Every call takes any words and bytes: it checks them for itself, and a refusal leaves every word of state and trace, every byte of
+ * lines, and every word that a listing is to be read into, as it was.
  *
  * What version 5.0 changes for a caller:
  *
@@ -26,6 +26,8 @@
  * 5.3 changes no call, number, state or trace. What is promised of them is more: for one operator they go by its own events, the platform's and
  * the ticks alone, whatever other operators send (docs/CHANGES.md).
  * 5.4 has one call more, herringcart_hold, with enum herringcart_verdict and herringcart_part. No call that was there before differs.
+ * 5.5 has two calls more, herringcart_list and herringcart_read, with HERRINGCART_LISTING_BYTES and HERRINGCART_BAD_LINE. No call that was
+ * there before differs.
  * docs/CHANGES.md says what the versions before changed; since 4.0 an event call lends outcomes.
  *
  * The linker does not look at arguments. A program that was compiled with the header of another version may link with this
@@ -40,15 +42,17 @@
  * no call can check for itself:
  *
  *   - No pointer is null, for a length of 0 neither: any aligned address other than null will do there.
- *   - uint32_t pointers are aligned for uint32_t, size_t pointers for size_t, uint64_t pointers for uint64_t. Lines may stand anywhere.
+ *   - uint32_t pointers are aligned for uint32_t, size_t pointers for size_t, uint64_t pointers for uint64_t. Lines and text may stand
+ *     anywhere.
  *   - Each array is valid for its whole length for as long as the call runs: table, events, outcomes, a panel's words, theirs,
- *     their_state and a `const` state to read, state, trace and lines to read and write. All words of state and trace and all bytes
- *     of lines must have been written once before they are lent, with whatever values: the trace's and the lines' too, for the call
- *     may read them.
+ *     their_state, a text and a `const` state to read; state, trace, lines and the words that a text is read into to read and write. All
+ *     words of state and trace, all words that a text is read into and all bytes of lines must have been written once before they are
+ *     lent, with whatever values: the trace's and the lines' too, for the call may read them.
  *   - An array is at most PTRDIFF_MAX bytes long.
- *   - What a call writes (state, trace, lines, *place, *bound, *count, *taken, *visits, *bytes, *number, *rest) overlaps nothing else
- *     lent in the same call: visits neither count nor taken, and number, rest and count not each other. What it only reads may overlap:
- *     table, events, outcomes, a panel's words, theirs, their_state and a `const` state.
+ *   - What a call writes (state, trace, lines, the words that a text is read into, *place, *bound, *count, *taken, *visits, *bytes,
+ *     *number, *rest, *line) overlaps nothing else lent in the same call: visits neither count nor taken, number, rest and count not each
+ *     other, and line not count. What it only reads may overlap: table, events, outcomes, a panel's words, theirs, their_state, a text
+ *     and a `const` state.
  *   - While the call runs, no other thread, interrupt or device writes what is lent, and none reads what the call
  *     writes. The table may stand in read-only memory, and any number of calls may read it at the same time.
  *
@@ -76,13 +80,14 @@
  *     and counts 0.
  *     So the most that an event can take is measured, not reckoned from its visits alone.
  *
- * What a call costs: all but herringcart_state_words and herringcart_version check the whole table each time, for nothing is
- * kept. Measured on an Arm Neoverse N1 an event takes some 30 ns for each word of the table (docs/BENCHMARKS.md): 0.4 us with 12 words,
- * 86 us with 2,892. Tables made to be slow to check take up to 1.4 ms a call. The slowest that are known run 4,080 rule items
- * in one event: 3.5 ms, and 5.2 ms while a port is undefined. herringcart_play checks table and state once for all its events, and then
- * an event costs what it does alone. herringcart_panel checks table and state as an event does, and then goes twice through the
- * operator's lines. herringcart_hold takes its event, and then goes once through the words that are the same on both sides. Whoever
- * has a deadline measures with the table that is to be deployed.
+ * What a call costs: all but herringcart_state_words, herringcart_version, herringcart_list and herringcart_read check the whole table
+ * each time, for nothing is kept. Measured on an Arm Neoverse N1 an event takes some 30 ns for each word of the table
+ * (docs/BENCHMARKS.md): 0.4 us with 12 words, 86 us with 2,892. Tables made to be slow to check take up to 1.4 ms a call. The slowest that
+ * are known run 4,080 rule items in one event: 3.5 ms, and 5.2 ms while a port is undefined. herringcart_play checks table and state once
+ * for all its events, and then an event costs what it does alone. herringcart_panel checks table and state as an event does, and then goes
+ * twice through the operator's lines. herringcart_hold takes its event, and then goes once through the words that are the same on both
+ * sides. herringcart_list goes twice through the table, and herringcart_read at most twice through the text. Whoever has a deadline
+ * measures with the table that is to be deployed.
  */
 #ifndef HERRINGCART_H
 #define HERRINGCART_H
@@ -96,9 +101,9 @@
 
 /* The version of this header and of the archive beside it. docs/CHANGES.md says what each version changes. The number is
  * what herringcart_version of that archive gives. */
-#define HERRINGCART_VERSION "5.4"
+#define HERRINGCART_VERSION "5.5"
 #define HERRINGCART_VERSION_MAJOR 5
-#define HERRINGCART_VERSION_MINOR 4
+#define HERRINGCART_VERSION_MINOR 5
 #define HERRINGCART_VERSION_NUMBER (UINT32_C(65536) * HERRINGCART_VERSION_MAJOR + HERRINGCART_VERSION_MINOR)
 
 #ifdef __cplusplus
@@ -118,6 +123,10 @@ extern "C" {
  *
  *         static uint8_t lines[HERRINGCART_PANEL_BYTES(HERRINGCART_TRACE_WORDS)]; */
 #define HERRINGCART_PANEL_BYTES(words) (2184 + 15 * (size_t)(words))
+
+/* Bytes that are always enough for a listing: HERRINGCART_TABLE_WORDS lines, and no line has more than 47 bytes, which is proved. The
+ * longest that there is has 71,508. */
+#define HERRINGCART_LISTING_BYTES 149695
 
 /* The most stack a call takes, in bytes. */
 #define HERRINGCART_STACK_BYTES 16384
@@ -153,10 +162,16 @@ enum herringcart_answer {
     HERRINGCART_OTHER_OWNER = 6         /* the thing is not the owner's */
 };
 
-/* What herringcart_panel alone answers. Its answers are tried in the order 9, 1, 2, 11. */
+/* What herringcart_panel alone answers, but for 11, which herringcart_list and herringcart_read answer too. Its answers are tried in the
+ * order 9, 1, 2, 11. */
 enum herringcart_panel_answer {
     HERRINGCART_NO_OPERATOR = 9, /* the number is 0, the platform's, or above 15 */
-    HERRINGCART_NO_ROOM = 11     /* the lines need more bytes than are lent */
+    HERRINGCART_NO_ROOM = 11     /* the lines need more bytes than are lent; of herringcart_read, the table has more words */
+};
+
+/* What herringcart_read alone answers. Its answers are tried in the order 12, 11. */
+enum herringcart_read_answer {
+    HERRINGCART_BAD_LINE = 12 /* the text is no listing; *line says which line is the first bad one */
 };
 
 /* What herringcart_hold says of a supplier's recording, tried in the order 1, 2, 3, 4, 5; 0 where none of them holds. Beside it stands a
@@ -315,6 +330,48 @@ static inline const uint32_t *herringcart_part(uint32_t verdict, size_t number, 
         return theirs + number;
     return theirs;
 }
+
+/* Lists a table as text. Gives 0, and then the listing stands at the front of lines, *bytes of them in all, and the bytes behind are
+ * unchanged. No 0 byte ends it. Or the first of these that holds: reason 1, 2, 3 or 4 of enum herringcart_reason, HERRINGCART_TOO_SHORT to
+ * HERRINGCART_WRONG_LENGTH, for then it is not clear which word is what; HERRINGCART_NO_ROOM, lines_bytes is less than the listing has.
+ * Then no byte of lines has changed. Always writes *bytes: 0 if refused. A table with another reason is listed. HERRINGCART_LISTING_BYTES
+ * bytes of room are enough for every table.
+ *
+ * Each word of the table is a line: the name of its section, then all its fields in decimal, in the order of docs/TABLES.md, those that are
+ * 0 too, parted by single spaces, and a newline. The marked table:
+ *
+ *         header 1 2 1 0
+ *         header 1 1
+ *         header 1 2
+ *         port 0 0 0 1 0 0
+ *         port 0 1 0 1 0 0
+ *         network 1 1 2 0
+ *         network 3 10 5
+ *         expression 0 0 5 0
+ *         rule 1 0 0 0 0 255
+ *         list 1 1 7 0 2
+ *         item 4 0 2
+ *         item 0 0 4660
+ *
+ * The other name is source. The header has three lines, a network two. An expression of kinds 4 to 8 has its kind and its two sides, of any
+ * other kind its kind, port, value and the last twelve bits. An item has three fields, in edition 2 four, of which the second is abort. No
+ * two tables have the same listing. */
+uint32_t herringcart_list(const uint32_t *table, size_t table_words, uint8_t *lines, size_t lines_bytes, size_t *bytes);
+
+/* Reads a listing back. Gives 0, and then its table's words stand at the front of words, *count of them in all, and the words behind are
+ * unchanged: what herringcart_list lays for them is the text, byte for byte. Or the first of these that holds: HERRINGCART_BAD_LINE, the
+ * text is no listing; HERRINGCART_NO_ROOM, words_room is less than the table has. Then no word has changed. Always writes *count, 0 if
+ * refused; and *line, the number of the first bad line with HERRINGCART_BAD_LINE, else 0. HERRINGCART_TABLE_WORDS words of room are enough
+ * for every listing. That a listing can be read says nothing of reasons 5 to 10: herringcart_check_table says whether the table is accepted.
+ *
+ * It takes listings and no other spelling: no leading zero, no sign, no second space, no tab, no carriage return, no capital, no comment, no
+ * empty line, no field that is too big for its width, no edition and no count that reasons 2 and 3 refuse, no line too few or too many, and
+ * a newline behind the last line too. No 0 byte ends the text: one is a byte as any other, and bad.
+ *
+ * Lines count from 1. The first bad line is the first at which no listing goes on: the lines before it are the first lines of some listing,
+ * and with it they are none's. So a missing line has the number it would have had, an extra one the last plus 1, and a count that does not
+ * fit what follows shows at the first line with the wrong name. */
+uint32_t herringcart_read(const uint8_t *text, size_t text_bytes, uint32_t *words, size_t words_room, size_t *count, size_t *line);
 
 #ifdef __cplusplus
 }

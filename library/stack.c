@@ -25,7 +25,9 @@ static uint32_t table[TABLE_WORDS];
 static uint32_t state[STATE_WORDS];
 static uint32_t trace[HERRINGCART_TRACE_WORDS];
 static uint8_t lines[HERRINGCART_PANEL_BYTES(HERRINGCART_TRACE_WORDS)];
-static size_t place, count, laid, number, rest;
+static uint8_t listing[HERRINGCART_LISTING_BYTES];
+static uint32_t back[TABLE_WORDS];
+static size_t place, count, laid, number, rest, listed, words_read, line;
 static uint32_t bound, visits;
 
 static void make_table(uint32_t edition)
@@ -105,6 +107,17 @@ static uint32_t hold(void)
                             STATE_WORDS, &number, &rest, &count, &visits);
 }
 
+static uint32_t list(void)
+{
+    return herringcart_list(table, TABLE_WORDS, listing, sizeof listing, &listed);
+}
+
+/* The listing that was laid just before. */
+static uint32_t read_back(void)
+{
+    return herringcart_read(listing, listed, back, TABLE_WORDS, &words_read, &line);
+}
+
 static _Alignas(65536) unsigned char stack[STACK];
 
 struct measured {
@@ -152,7 +165,8 @@ static int measure(uint32_t edition)
         uint32_t (*call)(void);
     } calls[] = {
         {"check_table", check_table}, {"make_fresh", make_fresh}, {"check_state", check_state}, {"play", play},
-        {"take_event", take_event},   {"hold", hold},             {"panel", panel},
+        {"take_event", take_event},   {"hold", hold},             {"panel", panel},             {"list", list},
+        {"read", read_back},
     };
     int more = 0;
     make_table(edition);
@@ -165,6 +179,10 @@ static int measure(uint32_t edition)
     /* The port is the platform's: the panel has the trace words alone. */
     if (laid != 15 * HERRINGCART_TRACE_WORDS) {
         printf("%zu bytes of panel\n", laid);
+        exit(1);
+    }
+    if (words_read != TABLE_WORDS || memcmp(back, table, sizeof table) != 0) {
+        printf("the listing is not read back: %zu words\n", words_read);
         exit(1);
     }
     /* In the event every list started and every rule item ran; of the deepest list's two outside calls edition 2 leaves

@@ -1,6 +1,7 @@
 //! One case through both sides, every answer and every lent word and byte compared.
 
 pub mod holds;
+pub mod listings;
 pub mod pairs;
 pub mod panels;
 mod plays;
@@ -15,6 +16,7 @@ use second::stream::{STATE_FILL, TRACE_FILL};
 use second::words::{HEADER, Section, Table};
 
 use self::holds::Recorded;
+use self::listings::{Asked, Listings};
 use self::panels::Shown;
 use crate::nearest::Visited;
 use crate::subject::Subject;
@@ -30,6 +32,8 @@ pub struct Difference {
     pub panel: Option<Box<Shown>>,
     /// The supplier's recording, where it is one that differs: likewise.
     pub hold: Option<Box<Recorded>>,
+    /// The table or the text, where it is its listing or reading that differs: likewise.
+    pub listing: Option<Box<Asked>>,
 }
 
 impl fmt::Display for Difference {
@@ -129,7 +133,7 @@ fn same<U: Unit>(
         return Ok(());
     }
     let (what, proved, second) = (what(), U::told(proved), U::told(second));
-    Err(Difference { what, proved, second, panel: None, hold: None })
+    Err(Difference { what, proved, second, panel: None, hold: None, listing: None })
 }
 
 /// As `same`; where a guard differs, the guards are shown too.
@@ -153,20 +157,23 @@ pub fn bound(table: &[u32]) -> u64 {
     if check.reason == 0 { WHOLE_TREE * evaluations as u64 } else { 0 }
 }
 
-/// What a case without a difference has shown: how near its bound it came, and what was said of the recordings held.
+/// What a case without a difference has shown: how near its bound it came, what was said of the recordings held, and how its table was
+/// listed and read back.
 #[derive(Clone, Copy, PartialEq, Eq, Debug)]
 pub struct Compared {
     pub visited: Visited,
     pub held: Verdicts,
+    pub listed: Listings,
 }
 
-/// Everything both sides say of a case, in the order of the calls, and of suppliers' recordings of its events.
+/// Everything both sides say of a case, in the order of the calls, of suppliers' recordings of its events, and of its table's listing.
 pub fn compare(subject: &impl Subject, case: &Case) -> Result<Compared, Difference> {
     let visited = compare_calls(subject, case)?;
-    Ok(Compared { visited, held: holds::compare_holds(subject, case)? })
+    let held = holds::compare_holds(subject, case)?;
+    Ok(Compared { visited, held, listed: listings::compare_table(subject, &case.table)? })
 }
 
-/// As `compare`, but that nothing is held, for that is many calls. Gives how near its bound the case came.
+/// As `compare`, but that nothing is held and nothing listed, for that is many calls. Gives how near its bound the case came.
 pub fn compare_calls(subject: &impl Subject, case: &Case) -> Result<Visited, Difference> {
     let mut visited = Visited { most: 0, bound: bound(&case.table) };
     let untouched = Lent::of(&case.table);

@@ -1,6 +1,6 @@
 //! `compare fixed`: what the second program's fixed cases ask, with their panels,
-//! suppliers' recordings and these two's programs, and the cases that a hunt has
-//! found, through both sides.
+//! suppliers' recordings, listings and these three's programs, and the cases that a
+//! hunt has found, through both sides.
 
 use std::collections::BTreeSet;
 use std::fs::{self, File};
@@ -10,64 +10,120 @@ use std::path::{Path, PathBuf};
 use second::cases::Case;
 use second::program::words;
 use second::stream::{case_words, read_case, write_words};
-use second::testing::{AskedHoldRun, AskedPanelRun, run_fixed};
+use second::testing::{AskedHoldRun, AskedListingRun, AskedPanelRun, Ran, run_fixed};
 
 use crate::differ::holds::{Recorded, compare_hold};
+use crate::differ::listings::{Asked, Listings, compare_rooms};
 use crate::differ::panels::{Shown, compare_panel};
-use crate::differ::{Compared, compare};
+use crate::differ::{Compared, Difference, compare};
 use crate::generated::{told, told_hold, told_panel};
-use crate::hold;
 use crate::nearest::Nearest;
 use crate::panel::by_library;
 use crate::subject::Proved;
 use crate::verdicts::Verdicts;
+use crate::{hold, listing, listings};
 
 /// Where found cases are kept: in the source, for they are fixed cases.
 pub fn folder() -> PathBuf {
     Path::new(env!("CARGO_MANIFEST_DIR")).join("found")
 }
 
+/// What the fixed cases have shown: what they ask, their own recordings and those that the comparison makes of what they ask, and how
+/// many panels there were and runs of the programs.
+#[derive(Default)]
+struct Met {
+    seen: BTreeSet<Vec<u32>>,
+    nearest: Nearest,
+    asked_for: Verdicts,
+    verdicts: Verdicts,
+    listings: Listings,
+    panels: usize,
+    panel_runs: usize,
+    hold_runs: usize,
+    listing_runs: usize,
+}
+
 pub fn fixed() -> Result<(), String> {
     // A case that fails is told with its name, not by its panic.
     std::panic::set_hook(Box::new(|_| {}));
     let ran = run_fixed();
-    let fixed = ran.len();
-    let (mut seen, mut nearest) = (BTreeSet::new(), Nearest::default());
-    let (mut panels, mut runs, mut logs) = (0, 0, 0);
-    let (mut asked_for, mut verdicts) = (Verdicts::default(), Verdicts::default());
-    for case in ran {
-        case.outcome.map_err(|what| format!("fixed case {}: {what}", case.name))?;
-        for asked in case.asked.iter().filter(|&asked| seen.insert(case_words(asked))) {
-            let Compared { visited, held } =
-                compare(&Proved, asked).map_err(|_| told(case.name, asked))?;
-            nearest.meet(visited, || case.name.into());
-            verdicts += held;
+    let mut met = Met::default();
+    ran.iter().try_for_each(|case| met.compare(case))?;
+    let found = replay(&folder())?;
+    let Met { seen, nearest, asked_for, verdicts, listings, .. } = &met;
+    let Met { panels, panel_runs, hold_runs, listing_runs, .. } = &met;
+    let (fixed, asked) = (ran.len(), seen.len());
+    println!("{fixed} fixed cases asked {asked} things: no difference\n{nearest}");
+    println!("{panels} panels and {panel_runs} runs of the panel's program: no difference");
+    println!("what they ask to be held, {asked_for}");
+    println!("{hold_runs} logs held by their program: no difference\nthe cases asked, {verdicts}");
+    println!("{listings}: no difference");
+    println!("{listing_runs} files listed or read by their programs: no difference");
+    println!("{found} found cases: no difference");
+    listings.all_met()?;
+    verdicts.all_met()
+}
+
+impl Met {
+    /// Everything that a case asks, through both sides; what it asks as another did only once.
+    fn compare(&mut self, case: &Ran) -> Result<(), String> {
+        let wrong = |what: String| format!("fixed case {}: {what}", case.name);
+        case.outcome.clone().map_err(wrong)?;
+        for asked in &case.asked {
+            if self.seen.insert(case_words(asked)) {
+                let Compared { visited, held, .. } =
+                    compare(&Proved, asked).map_err(|_| told(case.name, asked))?;
+                self.nearest.meet(visited, || case.name.into());
+                self.verdicts += held;
+            }
         }
         for shown in case.panels.iter().map(Shown::recorded) {
             compare_panel(&Proved, &shown).map_err(|_| told_panel(&Proved, case.name, &shown))?;
         }
-        for run in &case.panel_runs {
-            compare_panel_run(run).map_err(|what| format!("fixed case {}: {what}", case.name))?;
-        }
         for recorded in case.holds.iter().map(Recorded::of_fixed) {
             let verdict = compare_hold(&Proved, &recorded)
                 .map_err(|_| told_hold(&Proved, case.name, &recorded))?;
-            asked_for.meet(verdict);
+            self.asked_for.meet(verdict);
         }
-        for run in &case.hold_runs {
-            compare_hold_run(run).map_err(|what| format!("fixed case {}: {what}", case.name))?;
-        }
-        panels += case.panels.len();
-        runs += case.panel_runs.len();
-        logs += case.hold_runs.len();
+        self.listings += compare_listings(case)
+            .map_err(|difference| listings::told(&Proved, case.name, difference))?;
+        case.panel_runs.iter().try_for_each(compare_panel_run).map_err(wrong)?;
+        case.hold_runs.iter().try_for_each(compare_hold_run).map_err(wrong)?;
+        case.listing_runs.iter().try_for_each(compare_listing_run).map_err(wrong)?;
+        self.panels += case.panels.len();
+        self.panel_runs += case.panel_runs.len();
+        self.hold_runs += case.hold_runs.len();
+        self.listing_runs += case.listing_runs.len();
+        Ok(())
     }
-    let found = replay(&folder())?;
-    println!("{fixed} fixed cases asked {} things: no difference\n{nearest}", seen.len());
-    println!("{panels} panels and {runs} runs of the panel's program: no difference");
-    println!("what they ask to be held, {asked_for}");
-    println!("{logs} logs held by their program: no difference\nthe cases asked, {verdicts}");
-    println!("{found} found cases: no difference");
-    verdicts.all_met()
+}
+
+/// The tables that a case listed and the texts that it read, as they were lent, and in other rooms; and the texts that its programs read.
+fn compare_listings(case: &Ran) -> Result<Listings, Difference> {
+    let lists = case
+        .lists
+        .iter()
+        .map(|asked| Asked::List { table: asked.table.clone(), room: asked.lent.clone() });
+    let reads = case
+        .reads
+        .iter()
+        .map(|asked| Asked::Read { text: asked.text.clone(), room: asked.lent.clone() });
+    let files = case.listing_runs.iter().filter(|run| !run.lists);
+    let files = files.map(|run| Asked::read(&run.file, 0));
+    let mut met = Listings::default();
+    for asked in lists.chain(reads).chain(files) {
+        met += compare_rooms(&Proved, &asked)?;
+    }
+    Ok(met)
+}
+
+/// What a listing's program told over the second program's rules, over the library.
+fn compare_listing_run(run: &AskedListingRun) -> Result<(), String> {
+    let proved = if run.lists { listing::list(&run.file) } else { listing::read(&run.file) };
+    if proved == run.told {
+        return Ok(());
+    }
+    Err(format!("differs: {run:?}\n  proved: {proved:?}"))
 }
 
 /// What the log's program told over the second program's rules, over the library.

@@ -9,22 +9,25 @@ use crate::differ::pairs::compare_pair;
 use crate::differ::{Compared, compare};
 use crate::found::keep;
 use crate::generated::told;
+use crate::listings::{Met, compare_drawing, drawing};
 use crate::nearest::Nearest;
 use crate::number;
-use crate::pairs;
 use crate::shrink::smallest_difference;
 use crate::subject::Proved;
 use crate::verdicts::Verdicts;
+use crate::{listings, pairs};
 
 /// After so many a hunt ends: the rest is most likely the same fault again.
 const ENOUGH: usize = 10;
 
-/// One in so many of a hunt's seconds is for pairs of runs, the last ones.
+/// One in so many of a hunt's seconds is for pairs of runs, the last ones; and one in so many, before these, for listings.
 const PAIRS: u32 = 4;
+const LISTINGS: u32 = 8;
 
 pub fn hunt(seconds: &str) -> Result<(), String> {
     let (start, time) = (Instant::now(), Duration::from_secs(number(seconds)?));
-    let end = start + time - time / PAIRS;
+    let listings = start + time - time / PAIRS;
+    let end = listings - time / LISTINGS;
     let now = SystemTime::now().duration_since(UNIX_EPOCH).map_err(|why| why.to_string())?;
     let seed = now.as_nanos() as u64;
     println!("seed {seed}");
@@ -35,7 +38,7 @@ pub fn hunt(seconds: &str) -> Result<(), String> {
             break;
         }
         match compare(&Proved, &made.case) {
-            Ok(Compared { visited, held }) => {
+            Ok(Compared { visited, held, .. }) => {
                 nearest.meet(visited, || format!("case {cases}"));
                 verdicts += held;
             }
@@ -49,11 +52,28 @@ pub fn hunt(seconds: &str) -> Result<(), String> {
         cases += 1;
     }
     println!("{cases} cases of seed {seed}: {found} differ\n{nearest}\n{verdicts}");
+    let listed = hunt_listings(seed, listings);
     let at_fault = hunt_pairs(seed, start + time);
-    match (found, at_fault) {
-        (0, 0) => Ok(()),
-        _ => Err(format!("{found} cases and {at_fault} pairs of runs found")),
+    match (found, listed, at_fault) {
+        (0, 0, 0) => Ok(()),
+        _ => Err(format!("{found} cases, {listed} listings and {at_fault} pairs of runs found")),
     }
+}
+
+/// Tables listed and damaged listings read until then; gives how many differ. None is kept, for a found case is one run: a drawing is
+/// named by seed and number, and `compare listings` makes it again.
+fn hunt_listings(seed: u64, end: Instant) -> usize {
+    let (mut tried, mut found, mut met) = (0, 0, Met::none());
+    while Instant::now() < end && found < ENOUGH {
+        if let Err(difference) = compare_drawing(&Proved, &drawing(seed, tried), &mut met) {
+            let name = format!("drawing {tried} of seed {seed}");
+            println!("{}", listings::told(&Proved, &name, difference));
+            found += 1;
+        }
+        tried += 1;
+    }
+    println!("{met}: {found} differ, of seed {seed}");
+    found
 }
 
 /// Pairs of runs until then; gives how many are at fault. None is kept, for a found case is one run: a pair is named by seed and

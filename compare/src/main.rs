@@ -7,6 +7,8 @@ mod generated;
 mod hold;
 mod hunt;
 mod kind;
+mod listing;
+mod listings;
 mod long;
 mod nearest;
 mod pairs;
@@ -22,6 +24,7 @@ use std::process::ExitCode;
 
 const USAGE: &str = "usage: compare cases SEED COUNT [SEED COUNT ...]
        compare pairs SEED COUNT [SEED COUNT ...]
+       compare listings SEED COUNT [SEED COUNT ...]
        compare fixed
        compare hunt SECONDS
        compare run TABLE EVENTS [OUTCOMES]
@@ -29,10 +32,13 @@ const USAGE: &str = "usage: compare cases SEED COUNT [SEED COUNT ...]
        compare cost TABLE EVENTS
        compare panel OPERATOR TABLE EVENTS [--follow]
        compare hold TABLE EVENTS LOG [--all]
-       compare programs run|play|cost|panel|hold DIR COUNT SEED PROGRAM...
+       compare list TABLE
+       compare read LISTING
+       compare programs run|play|cost|panel|hold|list|read DIR COUNT SEED PROGRAM...
        compare long run|play|cost|panel|hold DIR PROGRAM...
        compare day DIR PROGRAM...
        compare bench
+       compare bench-listings
        compare bench-programs PROGRAM...
        compare bench-day PROGRAM...
        compare bench-hold PROGRAM...";
@@ -52,9 +58,12 @@ fn end_quietly_in_a_closed_pipe() {
 fn main() -> ExitCode {
     let args: Vec<String> = std::env::args().skip(1).collect();
     let args: Vec<&str> = args.iter().map(String::as_str).collect();
-    // Its status is 0 in a closed pipe, which that of a program ended by a signal is not.
-    if let ["panel", ref words @ ..] = args[..] {
-        return panel::panel(words, USAGE);
+    // Their status is 0 in a closed pipe, which that of a program ended by a signal is not.
+    match args[..] {
+        ["panel", ref words @ ..] => return panel::panel(words, USAGE),
+        ["list", table] => return listing::tell(table, listing::list),
+        ["read", text] => return listing::tell(text, listing::read),
+        _ => {}
     }
     end_quietly_in_a_closed_pipe();
     if let ["hold", ref words @ ..] = args[..] {
@@ -63,12 +72,21 @@ fn main() -> ExitCode {
     let done = match args[..] {
         ["cases", ref pairs @ ..] if !pairs.is_empty() => generated::cases(pairs),
         ["pairs", ref pairs @ ..] if !pairs.is_empty() => pairs::pairs(pairs),
+        ["listings", ref pairs @ ..] if !pairs.is_empty() => listings::listings(pairs),
         ["fixed"] => found::fixed(),
         ["hunt", seconds] => hunt::hunt(seconds),
         ["run", table, events] => programs::run(table, events, None),
         ["run", table, events, outcomes] => programs::run(table, events, Some(outcomes)),
         ["play", table, events] => programs::play(table, events),
         ["cost", table, events] => programs::cost(table, events),
+        [
+            "programs",
+            kind @ (listings::LISTER | listings::READER),
+            folder,
+            count,
+            seed,
+            ref program @ ..,
+        ] if !program.is_empty() => listings::programs(kind, folder, count, seed, program),
         ["programs", kind, folder, count, seed, ref program @ ..] if !program.is_empty() => {
             programs::programs(kind, folder, count, seed, program)
         }
@@ -77,6 +95,7 @@ fn main() -> ExitCode {
         }
         ["day", folder, ref program @ ..] if !program.is_empty() => bench::day(folder, program),
         ["bench"] => bench::bench(),
+        ["bench-listings"] => bench::bench_listings(),
         ["bench-programs", ref program @ ..] if !program.is_empty() => bench::programs(program),
         ["bench-day", ref program @ ..] if !program.is_empty() => bench::bench_day(program),
         ["bench-hold", ref program @ ..] if !program.is_empty() => bench::bench_hold(program),

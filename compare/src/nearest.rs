@@ -28,6 +28,13 @@ impl Nearest {
             self.share = Some((visited, name()));
         }
     }
+
+    /// What later cases came to.
+    pub fn add(&mut self, later: Nearest) {
+        for (visited, name) in later.most.into_iter().chain(later.share) {
+            self.meet(visited, || name.clone());
+        }
+    }
 }
 
 impl fmt::Display for Nearest {
@@ -65,6 +72,20 @@ mod tests {
             "visits: at most 200 in an event, case 4\n\
              visits: the nearest to 127 (R + B) is 200 of 400, 50.0 %, case 5"
         );
+    }
+
+    #[test]
+    fn what_was_met_in_two_parts_is_as_in_one() {
+        let cases = [(100, 254), (9, 127), (200, 508), (200, 400), (100, 200), (0, 0), (5, 6)];
+        for cut in 0..=cases.len() {
+            let (mut nearest, mut later) = (Nearest::default(), Nearest::default());
+            for (number, &(most, bound)) in cases.iter().enumerate() {
+                let part = if number < cut { &mut nearest } else { &mut later };
+                part.meet(Visited { most, bound }, || format!("case {number}"));
+            }
+            nearest.add(later);
+            assert_eq!(nearest.to_string(), told(&cases), "{cut}");
+        }
     }
 
     #[test]

@@ -1,7 +1,8 @@
 //! What is compared with the second program: the proved code. It stands behind
 //! a trait so that the tests can put a wrong one in its place.
 
-use herringcart::{Answer, Check, Held, Panel, Played};
+use herringcart::{Answer, Check, Held, NotRead, Panel, Played};
+use second::{Listed, Read};
 
 pub trait Subject {
     /// Whether its visits are compared: a side that was made before Q-10 reports none.
@@ -62,6 +63,23 @@ pub trait Subject {
         their_state: &[u32],
     ) -> Held<'a> {
         herringcart::hold(table, state, trace, outcomes, event, theirs, their_state)
+    }
+
+    fn list(&self, table: &[u32], lines: &mut [u8]) -> Listed {
+        match herringcart::list(table, lines) {
+            Ok(listing) => Listed { answer: 0, bytes: listing.len() },
+            Err(refused) => Listed { answer: refused.number(), bytes: 0 },
+        }
+    }
+
+    fn read(&self, text: &[u8], words: &mut [u32]) -> Read {
+        match herringcart::read(text, words) {
+            Ok(words) => Read { answer: 0, words: words.len(), line: 0 },
+            Err(refused) => {
+                let line = if let NotRead::BadLine(line) = refused { line } else { 0 };
+                Read { answer: refused.number(), words: 0, line }
+            }
+        }
     }
 }
 

@@ -61,7 +61,7 @@ pub fn accept(words: &[u32]) -> Result<(Accepted<'_>, usize), (u32, usize)> {
 }
 
 /// Reasons 1 to 4, which have no place.
-fn shaped(words: &[u32]) -> Result<Table<'_>, u32> {
+pub fn shaped(words: &[u32]) -> Result<Table<'_>, u32> {
     let table = Table::of(words).ok_or(1u32)?;
     // "Reason 2 now means an edition other than 1 or 2".
     if ![edition::ONE, edition::TWO].contains(&table.edition) {

@@ -1,44 +1,42 @@
 //! `run TABLE EVENTS [OUTCOMES]`, `play TABLE EVENTS`, `cost TABLE EVENTS`, `panel OPERATOR TABLE
-//! EVENTS [--follow]`, `hold TABLE EVENTS LOG [--all]`, `test`, `emit SEED COUNT` and `answer`.
+//! EVENTS [--follow]`, `hold TABLE EVENTS LOG [--all]`, `list TABLE`, `read LISTING`, `test`, `emit
+//! SEED COUNT` and `answer`.
 
 use std::io::{self, BufWriter, Write};
 use std::process::ExitCode;
 
 use second::cases::Cases;
+use second::listing_run::{self, Told};
 use second::program::NoPanel;
 use second::{program, stream, testing};
 
 const USAGE: &str = "usage: second run TABLE EVENTS [OUTCOMES] | play TABLE EVENTS | \
                      cost TABLE EVENTS | panel OPERATOR TABLE EVENTS [--follow] | \
-                     hold TABLE EVENTS LOG [--all] | test | emit SEED COUNT | answer < CASES";
+                     hold TABLE EVENTS LOG [--all] | list TABLE | read LISTING | test | \
+                     emit SEED COUNT | answer < CASES";
 const FOLLOW: &str = "--follow";
 const ALL: &str = "--all";
 
 fn main() -> ExitCode {
     let args: Vec<String> = std::env::args().skip(1).collect();
     let args: Vec<&str> = args.iter().map(String::as_str).collect();
+    let out = || BufWriter::new(io::stdout().lock());
     let done = match args[..] {
-        ["run", table, events] => run(table, events, None),
-        ["run", table, events, outcomes] => run(table, events, Some(outcomes)),
-        ["play", table, events] => {
-            program::play_files(&mut BufWriter::new(io::stdout().lock()), table, events)
-        }
-        ["cost", table, events] => {
-            program::cost_files(&mut BufWriter::new(io::stdout().lock()), table, events)
-        }
-        ["panel", ref asked @ ..] => return ExitCode::from(panel(asked)),
-        ["hold", ref asked @ ..] => match hold(asked) {
-            Ok(status) => return ExitCode::from(status),
-            Err(why) => Err(why),
-        },
-        ["test"] if testing::test() => Ok(()),
-        ["test"] => return ExitCode::FAILURE,
-        ["emit", seed, count] => emit(seed, count),
-        ["answer"] => answer().map_err(|why| format!("cannot answer: {why}")),
+        ["run", table, events] => run(table, events, None).map(|()| 0),
+        ["run", table, events, outcomes] => run(table, events, Some(outcomes)).map(|()| 0),
+        ["play", table, events] => program::play_files(&mut out(), table, events).map(|()| 0),
+        ["cost", table, events] => program::cost_files(&mut out(), table, events).map(|()| 0),
+        ["panel", ref asked @ ..] => Ok(panel(asked)),
+        ["hold", ref asked @ ..] => hold(asked),
+        ["list", table] => tell(listing_run::list_file(table)),
+        ["read", listing] => tell(listing_run::read_file(listing)),
+        ["test"] => Ok(if testing::test() { 0 } else { 1 }),
+        ["emit", seed, count] => emit(seed, count).map(|()| 0),
+        ["answer"] => answer().map(|()| 0).map_err(|why| format!("cannot answer: {why}")),
         _ => Err(USAGE.into()),
     };
     match done {
-        Ok(()) => ExitCode::SUCCESS,
+        Ok(status) => ExitCode::from(status),
         Err(message) => {
             eprintln!("{message}");
             ExitCode::from(2)
@@ -98,6 +96,21 @@ fn hold(asked: &[&str]) -> Result<u8, String> {
         eprintln!("{trouble}");
     }
     Ok(told.status)
+}
+
+/// Prints what is told of a table or a listing; gives the status to leave with.
+fn tell(told: Result<Told, String>) -> Result<u8, String> {
+    let told = told?;
+    let mut out = io::stdout().lock();
+    match out.write_all(&told.printed).and_then(|()| out.flush()) {
+        Ok(()) => {
+            let _ = io::stderr().write_all(told.trouble.as_bytes());
+            Ok(told.status)
+        }
+        // Who reads it has seen enough.
+        Err(why) if why.kind() == io::ErrorKind::BrokenPipe => Ok(0),
+        Err(why) => Err(format!("cannot print: {why}")),
+    }
 }
 
 fn put(bytes: &[u8]) -> Result<(), String> {

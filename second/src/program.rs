@@ -58,7 +58,7 @@ pub fn printed_with(table: &[u8], events: &[u8], outcomes: &[u8]) -> String {
 
 /// A file's bytes. All files are read before anything is printed, so that an
 /// unreadable one leaves no output.
-fn read(path: &str) -> Result<Vec<u8>, String> {
+pub fn read(path: &str) -> Result<Vec<u8>, String> {
     std::fs::read(path).map_err(|why| format!("cannot read {path}: {why}"))
 }
 

@@ -17,6 +17,9 @@ macro_rules! layout {
         pub struct $name { $(pub $field: u32),+ }
 
         impl $name {
+            /// Its fields' widths, in order.
+            pub const WIDTHS: &'static [u32] = &[$($width),+];
+
             pub fn of(word: u32) -> Self {
                 let mut rest = word;
                 $name { $($field: take(&mut rest, $width)),+ }
@@ -258,7 +261,7 @@ pub const SECTIONS: [Section; 7] = [
 
 impl Section {
     /// The least and the most of its things.
-    pub fn limits(self) -> (usize, usize) {
+    pub const fn limits(self) -> (usize, usize) {
         match self {
             Section::Ports => (1, 64),
             Section::Networks => (0, 8),
@@ -336,6 +339,13 @@ impl<'a> Table<'a> {
     /// The length its header states.
     pub fn stated_length(&self) -> usize {
         self.starts[SECTIONS.len()]
+    }
+
+    /// The section that a place past the header is in, and the number of the word there among a
+    /// thing's words; None past the length that the header states.
+    pub fn section_at(&self, place: usize) -> Option<(Section, usize)> {
+        let section = SECTIONS.into_iter().find(|&s| place < self.starts[s as usize + 1])?;
+        Some((section, (place - self.starts[section as usize]) % section.words_each()))
     }
 
     fn word(&self, section: Section, number: usize) -> u32 {

@@ -8,6 +8,7 @@ mod day;
 mod editions;
 mod holds;
 mod hostile;
+mod listings;
 mod logs;
 mod panels;
 mod programs;
@@ -28,6 +29,7 @@ use second::program::words;
 pub use clock::Clock;
 pub use day::{bench_day, day};
 use hostile::Hostile;
+pub use listings::{listings as bench_listings, longest};
 pub use logs::bench_hold;
 pub use programs::programs;
 use times::{Run, Times};
@@ -99,6 +101,7 @@ pub fn bench() -> Result<(), String> {
     visits::prices()?;
     panels::panels()?;
     holds::holds()?;
+    listings::listings()?;
     hostile_tables()
 }
 

@@ -315,3 +315,14 @@ fn what_is_held_is_our_own_recording_of_a_trace_and_a_state() {
         assert_eq!(own.their_state.len(), herringcart::state_words(table));
     }
 }
+
+#[test]
+fn no_listing_is_longer_than_the_longest_row_s() {
+    let longest = second::listing::lines(&longest()).expect("no reason from 1 to 4");
+    assert_eq!((longest.len(), longest.lines().count()), (71_508, herringcart::TABLE_WORDS));
+    // Nor is a line longer than the bound that the rooms are reckoned by.
+    for table in (0..400).map(|number| crate::listings::drawing(3, number).table) {
+        let lines = second::listing::lines(&table).unwrap_or_default();
+        assert!(lines.len() <= longest.len() && lines.lines().all(|line| line.len() < 47));
+    }
+}

@@ -13,6 +13,7 @@ use second::stream::{PANEL_FILL, TRACE_FILL};
 use second::words::{SECTIONS, Section};
 
 use crate::differ::holds::{Recorded, compare_hold};
+use crate::differ::listings::{Asked, compare_asked};
 use crate::differ::panels::{Shown, compare_panel};
 use crate::differ::{Difference, compare, compare_calls};
 use crate::subject::Subject;
@@ -34,7 +35,8 @@ pub fn smallest_difference(subject: &impl Subject, case: &Case) -> (Case, Differ
 
 fn not_again() -> Difference {
     let what = "nothing any more: a side does not answer alike when asked again".into();
-    Difference { what, proved: String::new(), second: String::new(), panel: None, hold: None }
+    let (proved, second) = (String::new(), String::new());
+    Difference { what, proved, second, panel: None, hold: None, listing: None }
 }
 
 /// The smallest panel found that the two sides differ on, and how they differ. The ways are those of a case, whose events the trace
@@ -100,6 +102,52 @@ pub fn smallest_hold(subject: &impl Subject, recorded: &Recorded) -> (Recorded, 
     let small = words(&smallest(&case, |case| differs(&words(case)), LIMIT / 2));
     let difference = compare_hold(subject, &small).err().unwrap_or_else(not_again);
     (small, difference)
+}
+
+/// The smallest table to list, or text to read, found that the two sides differ on, and how they differ. The room stays by as much above
+/// or below what is needed as it is; of what is refused in any room it stays.
+pub fn smallest_listing(subject: &impl Subject, asked: &Asked) -> (Asked, Difference) {
+    let above = asked.needs().map(|needs| asked.room() as isize - needs as isize);
+    let tied = |smaller: Asked| match (above, smaller.needs()) {
+        (Some(above), Some(needs)) => smaller.lent((needs as isize + above).max(0) as usize),
+        _ => smaller,
+    };
+    let differs = |asked: &Asked| compare_asked(subject, asked).is_err();
+    let small = match asked {
+        Asked::List { table, room } => {
+            let listed = |case: &Case| tied(Asked::list(&case.table, room.len()));
+            let case = Case { table: table.clone(), ..Default::default() };
+            listed(&smallest(&case, |case| differs(&listed(case)), LIMIT))
+        }
+        Asked::Read { text, room } => {
+            let read = |text: &[u8]| tied(Asked::read(text, room.len()));
+            read(&smallest_text(text, |text| differs(&read(text)), LIMIT))
+        }
+    };
+    // What was lent can have been the fault.
+    let small = if differs(&small) { small } else { asked.clone() };
+    let difference = compare_asked(subject, &small).err().unwrap_or_else(not_again);
+    (small, difference)
+}
+
+/// A text without pieces that it differs without as well: halves first, single bytes last.
+pub fn smallest_text(text: &[u8], differs: impl Fn(&[u8]) -> bool, limit: Duration) -> Vec<u8> {
+    let (end, mut text) = (Instant::now() + limit, text.to_vec());
+    let mut piece = text.len().div_ceil(2);
+    while piece > 0 && Instant::now() < end {
+        let (mut at, before) = (0, text.len());
+        while at < text.len() && Instant::now() < end {
+            let behind = (at + piece).min(text.len());
+            let without = [&text[..at], &text[behind..]].concat();
+            if differs(&without) {
+                text = without;
+            } else {
+                at += piece;
+            }
+        }
+        piece = if piece == 1 && text.len() < before { 1 } else { piece / 2 };
+    }
+    text
 }
 
 /// How words are made of others: a piece of them, between words that are the same from the first and from the last on, has others in

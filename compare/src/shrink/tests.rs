@@ -1,6 +1,7 @@
 //! A side made wrong on purpose is found and its case made small.
 
 mod holds;
+mod listings;
 mod panels;
 
 use herringcart::{Answer, End, Played};

@@ -6,7 +6,10 @@ ghost use Rattle.manager.specs.Answers.{stateNumber};
 ghost use Rattle.manager.specs.Promises.{ChecksTableIn, CountsWords, MakesFreshIn, ChecksStateIn, TakesEventIn, PlaysIn};
 ghost use Rattle.panel.specs.Promises.{ShowsIn};
 ghost use Rattle.hold.specs.Promises.{HoldsForC};
+ghost use Rattle.listing.specs.Promises.{ListsIn, ReadsIn};
 ghost use Rattle.gateway.specs.Version.{version};
+use listing::reading;
+use listing::writing;
 use manager::Fit;
 use states::Made;
 
@@ -35,7 +38,7 @@ fn fit_number(fit: Fit) -> u32
 pub extern "C" fn herringcart_version() -> u32
     ensures { λ r. ⌜ r ≡ version ⌝ }
 {
-    5 * 65536 + 4
+    5 * 65536 + 5
 }
 
 // Checks a table: gives its reason, 0 if it is accepted, and writes the place and B.
@@ -163,4 +166,31 @@ pub extern "C" fn herringcart_hold(
     *count = held.count;
     *visits = held.visits;
     hold::number(verdict)
+}
+
+// Lists a table as text: gives the answer, lays the lines at the front of the lent bytes and writes how many bytes they are, 0 in a refusal.
+#[no_mangle]
+pub extern "C" fn herringcart_list(table: &[u32], lines: &mut [u8], bytes: &mut usize) -> u32
+    ensures { λ r. ⌜ ListsIn (now (table .entry)) (now (lines .entry)) r (now (bytes .exit)) (now (lines .exit)) ⌝ }
+{
+    let listed = writing::list(table, lines);
+    *bytes = writing::bytes(listed);
+    writing::number(listed)
+}
+
+// Reads a listing back: gives the answer, lays the table's words at the front of those lent, and writes how many there are, 0 in a refusal, and the
+// number of the first bad line, 0 where none is bad.
+#[no_mangle]
+pub extern "C" fn herringcart_read(
+    text: &[u8],
+    words: &mut [u32],
+    count: &mut usize,
+    line: &mut usize,
+) -> u32
+    ensures { λ r. ⌜ ReadsIn (now (text .entry)) (now (words .entry)) r (now (count .exit)) (now (line .exit)) (now (words .exit)) ⌝ }
+{
+    let read = reading::read(text, words);
+    *count = reading::words(read);
+    *line = reading::bad_line(read);
+    reading::number(read)
 }

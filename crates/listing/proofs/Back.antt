@@ -1,13 +1,14 @@
 -- There and back; two results that a promise allows are equal; the reason is the table check's. Assumes nothing.
 use Prim.Native.Nat.{ℕ, _+_, _-_, _≤_, _<_}
 use mathlib.Core.Path.{_≡_, refl, sym, ap, subst, _∙_}
-use mathlib.Core.Bool.{true, false}
+use mathlib.Core.Bool.{false}
 use mathlib.Core.List.{List, [], _++_, append-nil}
 use native.Mathlib.Omega.{arith}
-use lib.ListN.{length, getD, take, drop}
+use lib.ListN.{length, take, drop}
 use lib.Seq.{take-at, ext-getD}
-use Rattle.rulebook.specs.Words.{word, between}
-use Rattle.rulebook.specs.Reasons.{hasHeader, knownEdition, countsInside, exactLength, ownFields, names, nesting, owners, reached, affordable, lowest, orNext, firstOf}
+use Rattle.rulebook.specs.Words.{between}
+use Rattle.rulebook.specs.Reasons.{hasHeader, knownEdition, countsInside, exactLength, ownFields, names, nesting, owners, reached, affordable}
+use Rattle.rulebook.specs.Reasons.{lowest, orNext, firstOf}
 use Rattle.rulebook.specs.Listing.{shapeReason}
 use Rattle.tables.proofs.Chain.{from-fields}
 use Rattle.tables.proofs.Shapes.{left-fields, stops}
@@ -18,13 +19,13 @@ use Rattle.text.proofs.Lay.{front-laid}
 use Rattle.text.proofs.Digits.{below}
 use Rattle.listing.specs.declared.reading.Reading.{Reading}
 use Rattle.listing.specs.declared.reading.Reading.the-variants.{Words, Line, NoRoom}
-use Rattle.listing.specs.Lines.{firstLines, listing, Listable, ListingOf, BeginsAs, BadLine}
-use Rattle.listing.specs.Promises.{listAnswer, ListsIn, Reads, ReadsWords, RefusesLine, RefusesRoom}
-use Rattle.listing.specs.Back.{ReadsBack, SameBytes, ListsBack, AcceptsExactly, OneReading, OneListing, CheckReason}
+use Rattle.listing.specs.Lines.{firstLines, listing, Listable, ListingOf, BadLine}
+use Rattle.listing.specs.Promises.{listAnswer, Reads, ReadsWords, RefusesRoom}
+use Rattle.listing.specs.Back.{ReadsBack, ListsBack, AcceptsExactly, OneReading, OneListing, CheckReason}
 use Rattle.listing.proofs.Lists.{all-lines, answered}
 use Rattle.listing.proofs.Places.{Agree, heads-of, long-same}
 use Rattle.listing.proofs.Decoding.{one-table}
-use Rattle.listing.proofs.Texts.{long, headed, fewer, listing-begins, begins-less}
+use Rattle.listing.proofs.Texts.{long, headed, listing-begins, begins-less}
 
 -- One text is the listing of one table.
 

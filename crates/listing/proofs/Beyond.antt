@@ -8,7 +8,9 @@ use Rattle.rulebook.specs.Listing.{form, forms, of}
 
 -- a number that is none of the forms', as a `match` tells it
 abbrev pub None : ℕ → Type 0
-None f = (((((((((((((Unit {0} × (f ≡ 0 → ⊥)) × (f ≡ 1 → ⊥)) × (f ≡ 2 → ⊥)) × (f ≡ 3 → ⊥)) × (f ≡ 4 → ⊥)) × (f ≡ 5 → ⊥)) × (f ≡ 6 → ⊥)) × (f ≡ 7 → ⊥)) × (f ≡ 8 → ⊥)) × (f ≡ 9 → ⊥)) × (f ≡ 10 → ⊥)) × (f ≡ 11 → ⊥)) × (f ≡ 12 → ⊥))
+None f =
+    (((((((((((((Unit {0} × (f ≡ 0 → ⊥)) × (f ≡ 1 → ⊥)) × (f ≡ 2 → ⊥)) × (f ≡ 3 → ⊥)) × (f ≡ 4 → ⊥)) × (f ≡ 5 → ⊥))
+    × (f ≡ 6 → ⊥)) × (f ≡ 7 → ⊥)) × (f ≡ 8 → ⊥)) × (f ≡ 9 → ⊥)) × (f ≡ 10 → ⊥)) × (f ≡ 11 → ⊥)) × (f ≡ 12 → ⊥))
 
 pub beyond : (f : ℕ) → None f → form f ≡ of [] []
 unfolding form forms

@@ -1,12 +1,10 @@
 -- An expression's kind is the first of its fields, in both of its forms, so it is read before the form is known. Assumes nothing.
-use Prim.Native.Nat.{ℕ, _+_, _%_, _/_, _^_, _<_, _≤_}
-use mathlib.Core.Path.{_≡_, refl, sym, ap, _∙_}
-use mathlib.Core.Bool.{true, false}
+use Prim.Native.Nat.{ℕ, _+_, _<_}
+use mathlib.Core.Path.{_≡_, refl, sym, _∙_}
 use mathlib.Core.List.{List, [], _∷_, _++_, append-assoc}
 use mathlib.Core.Logic.{_⊎_, inl, inr, ⊎-elim}
-use native.Mathlib.Nat.{mod-lt}
 use native.Mathlib.Omega.{arith}
-use lib.ListN.{length, drop}
+use lib.ListN.{drop}
 use Rattle.laws.proofs.Tests.{split}
 use Rattle.rulebook.specs.Words.{digit, field}
 use Rattle.rulebook.specs.Expressions.{operatorKind}

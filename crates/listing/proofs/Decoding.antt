@@ -1,5 +1,5 @@
 -- One text, one table: fields, lines and whole listings are told by their bytes, whatever stands behind them. Assumes nothing.
-use Prim.Native.Nat.{ℕ, zero, suc, _+_, _-_, _*_, _/_, _%_, _^_, _<_, _≤_}
+use Prim.Native.Nat.{ℕ, zero, suc, _+_, _-_, _*_, _/_, _^_, _<_, _≤_}
 use mathlib.Core.Path.{_≡_, refl, sym, ap, _∙_}
 use mathlib.Core.Bool.{_&&_}
 use mathlib.Core.List.{List, [], _∷_, _++_, append-assoc}
@@ -23,7 +23,8 @@ use Rattle.listing.proofs.Packing.{one-number, upper-next}
 use Rattle.listing.proofs.ByKind.{same-kind}
 use Rattle.listing.proofs.OneLine.{line-parts, cancel, is-condition, other-kind}
 
-ends-same : (from : ℕ) (widths : List ℕ) (w u : ℕ) → (ending (fieldsFrom from widths w) ≡ ending (fieldsFrom from widths u)) × (ending (fieldsFrom from widths w) < 48)
+ends-same : (from : ℕ) (widths : List ℕ) (w u : ℕ)
+    → (ending (fieldsFrom from widths w) ≡ ending (fieldsFrom from widths u)) × (ending (fieldsFrom from widths w) < 48)
 unfolding ending fieldsFrom
 ends-same from [] w u = (refl, omega arith)
 ends-same from (width ∷ widths) w u = (refl, omega arith)

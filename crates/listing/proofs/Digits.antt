@@ -1,17 +1,13 @@
 -- Decimal digits in a text: the digit at a place; the digits of a number are digits, and say it; where they end, they are told. Assumes nothing.
 use Prim.Native.Nat.{ℕ, zero, suc, _+_, _-_, _*_, _/_, _%_, _<_, _≤_}
 use mathlib.Core.Path.{_≡_, refl, sym, ap, _∙_}
-use mathlib.Core.Bool.{Bool, true, false, cond}
-use mathlib.Core.List.{List, [], _∷_, _++_, append-assoc}
-use native.Mathlib.Nat.{mod-lt}
+use mathlib.Core.List.{List, [], _∷_, _++_}
 use native.Mathlib.Omega.{arith}
-use lib.ListN.{length, getD}
-use lib.Dec.{eqb, leb, ltb}
-use borrow.Author.Tests.{le-leb, lt-leb, lt-ltb, le-ltb, leb-true, eq-eqb, ne-eqb}
-use Rattle.rulebook.specs.Words.{between}
+use lib.ListN.{getD}
+use borrow.Author.Tests.{le-leb, lt-leb, lt-ltb}
 use Rattle.text.specs.Lines.{hexDigit, decimal}
 use Rattle.text.proofs.Digits.{below, worth, valueFrom, value}
-use Rattle.text.proofs.Decimal.{decimal-one, decimal-more, decimal-says, no-leading-zero}
+use Rattle.text.proofs.Decimal.{decimal-one, decimal-more, decimal-says}
 use Rattle.listing.specs.Inside.{digitOf}
 
 module _ (b : ℕ) where

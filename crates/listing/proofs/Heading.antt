@@ -1,21 +1,21 @@
 -- The header's three lines read one after the other, each judged as it comes. Assumes nothing.
-use Prim.Native.Nat.{ℕ, zero, suc, _+_, _-_, _^_, _<_, _≤_}
-use mathlib.Core.Path.{_≡_, refl, sym, ap, _∙_}
+use Prim.Native.Nat.{ℕ, _+_, _-_, _^_, _<_, _≤_}
+use mathlib.Core.Path.{_≡_, refl, sym, _∙_}
 use mathlib.Core.Bool.{true, false}
-use mathlib.Core.List.{List, [], _∷_, _++_, append-assoc}
+use mathlib.Core.List.{List, _++_, append-assoc}
 use native.Mathlib.Numerals.{add-one}
 use native.Mathlib.Omega.{arith}
-use lib.ListN.{length, getD, drop, set, length-set}
+use lib.ListN.{length, drop, set, length-set}
 use lib.Seq.{getD-set-same, getD-set-other}
 use Rattle.laws.proofs.Tests.{clash}
 use Rattle.text.proofs.Digits.{below}
 use Rattle.rulebook.specs.Words.{word}
 use Rattle.rulebook.specs.Table.{tableLength}
-use Rattle.rulebook.specs.Listing.{formAt, byKind}
-use Rattle.listing.specs.Lines.{line, lineAt, firstLines, ListingOf, BeginsAs, BadLine}
+use Rattle.rulebook.specs.Listing.{byKind}
+use Rattle.listing.specs.Lines.{line, firstLines, BeginsAs, BadLine}
 use Rattle.listing.specs.Inside.{least, HasLine, Opened}
 use Rattle.listing.proofs.Headers.{sound, insideAt, sound-of, of-sound, least-inside, least-words}
-use Rattle.listing.proofs.Places.{Agree, header-form, lines-agree}
+use Rattle.listing.proofs.Places.{header-form, lines-agree}
 use Rattle.listing.proofs.Decoding.{one-line}
 use Rattle.listing.proofs.Texts.{is-sound, headed, begins, listing-begins, goes-on}
 

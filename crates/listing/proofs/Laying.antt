@@ -1,5 +1,5 @@
 -- Fields laid one behind the other: with those to come laid behind them they are all of them. Assumes nothing.
-use Prim.Native.Nat.{ℕ, _+_, _-_, _*_, _/_, _%_, _^_, _<_, _≤_}
+use Prim.Native.Nat.{ℕ, _+_, _-_, _/_, _%_, _^_, _<_, _≤_}
 use mathlib.Core.Path.{_≡_, refl, sym, ap, _∙_}
 use mathlib.Core.List.{List, [], _∷_, _++_}
 use native.Mathlib.Omega.{arith}
@@ -12,7 +12,7 @@ use Rattle.text.specs.Puts.{lay, Put, PutAt}
 use Rattle.text.proofs.Lay.{lay-none, lay-more}
 use Rattle.text.proofs.Puts.{put-length, one-put}
 use Rattle.listing.specs.Lines.{ending, spelt}
-use Rattle.listing.proofs.Widths.{bits, Wide, width-there, field-next, ends-field, fields-end, fields-all, bits-next, no-bits}
+use Rattle.listing.proofs.Widths.{bits, width-there, field-next, fields-end, fields-all, bits-next, no-bits}
 
 -- a unit of the fields behind the k-th, from that of those behind the one before
 pub next-unit : (from width unit size : ℕ) → from + width ≤ 32 → unit ≡ 2 ^ (32 - from) → size ≡ 2 ^ width → unit / size ≡ 2 ^ (32 - (from + width))
@@ -62,7 +62,8 @@ module _ (f w : ℕ) where
         fits = omega (arith, length-next k there, a .place, a .long)
 
         -- the byte that ends it, and its value by unit and size
-        pub laid-next : (size n : ℕ) (o′ : List ℕ) (end v : ℕ) → size ≡ 2 ^ getD widths k 0 → end ≡ ending (fieldsFrom (bits (k + 1) widths) (drop (k + 1) widths) w)
+        pub laid-next : (size n : ℕ) (o′ : List ℕ) (end v : ℕ) → size ≡ 2 ^ getD widths k 0
+            → end ≡ ending (fieldsFrom (bits (k + 1) widths) (drop (k + 1) widths) w)
             → v ≡ w / (unit / size) % size → Put (decimal v ++ end ∷ []) out next n o′ → LaidOf before at n o′ (k + 1) (unit / size)
         unfolding digit
         laid-next size n o′ end v s e is p =

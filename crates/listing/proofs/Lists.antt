@@ -11,14 +11,13 @@ use lib.Pow.{pow-pos, pow-mono}
 use borrow.Author.Tests.{ne-eqb, lt-ltb, le-ltb}
 use Rattle.rulebook.specs.Words.{digit, field}
 use Rattle.rulebook.specs.Listing.{form, kindForm, byKind, fieldsFrom, fieldsOf, shapeReason}
-use Rattle.text.specs.Lines.{decimal}
 use Rattle.text.specs.Puts.{PutAt}
 use Rattle.text.proofs.Decimal.{decimal-within}
 use Rattle.text.proofs.Lay.{lay-none}
 use Rattle.text.proofs.Puts.{put-more, put-length}
 use Rattle.listing.specs.declared.writing.Room.{Room}
 use Rattle.listing.specs.declared.writing.Room.the-variants.{Left, Short}
-use Rattle.listing.specs.Lines.{ending, spelt, line, lineAt, firstLines, listing}
+use Rattle.listing.specs.Lines.{spelt, line, lineAt, firstLines, listing}
 use Rattle.listing.specs.Inside.{padded, Leaves}
 use Rattle.listing.specs.Promises.{listAnswer, ListsIn}
 use Rattle.listing.proofs.Widths.{short-name, few-fields, narrow}
@@ -50,7 +49,8 @@ field-small from width w h =
     let p : 2 ^ width ≤ 2 ^ 16 = pow-mono h in
     omega arith
 
-spelt-short : (from : ℕ) (widths : List ℕ) (w : ℕ) → ((k : ℕ) → k < length widths → getD widths k 0 ≤ 16) → length (spelt (fieldsFrom from widths w)) ≤ 6 * length widths
+spelt-short : (from : ℕ) (widths : List ℕ) (w : ℕ) → ((k : ℕ) → k < length widths → getD widths k 0 ≤ 16)
+    → length (spelt (fieldsFrom from widths w)) ≤ 6 * length widths
 unfolding spelt fieldsFrom
 spelt-short from [] w thin = omega arith
 spelt-short from (width ∷ widths) w thin =

@@ -1,15 +1,14 @@
 -- The fields of each word are document 01's, by name and in its order. Assumes nothing.
-use Prim.Native.Nat.{ℕ, zero, suc, _+_, _-_, _*_, _/_, _%_, _<_, _≤_}
-use mathlib.Core.Path.{_≡_, refl, sym, ap, _∙_}
-use mathlib.Core.Bool.{Bool, true, false, cond, _&&_}
+use Prim.Native.Nat.{ℕ, zero, suc, _+_, _-_, _*_, _/_, _%_, _<_}
+use mathlib.Core.Path.{_≡_, refl, ap}
 use mathlib.Core.List.{List}
 use native.Mathlib.Omega.{arith}
 use lib.Dec.{eqb, ltb}
-use borrow.Author.Tests.{lt-ltb, le-ltb, ltb-true, ltb-false, eqb-true, eqb-false}
+use borrow.Author.Tests.{ltb-false, eqb-true, eqb-false}
 use Rattle.laws.proofs.Tests.{split, clash}
 use Rattle.text.proofs.Digits.{below}
 use Rattle.listing.proofs.Places.{in-header, outside}
-use Rattle.rulebook.specs.Words.{word, digit, field}
+use Rattle.rulebook.specs.Words.{word}
 use Rattle.rulebook.specs.Table.{part, Part, inHeader, atPort, atNetwork, atWaits, atSource, atExpression, atRule, atList, atItem}
 use Rattle.rulebook.specs.Table as Table
 use Rattle.rulebook.specs.Expressions.{operatorKind, operator}

@@ -1,5 +1,5 @@
 -- A number read from a text: what is told so far, digit by digit, and each end. Assumes nothing.
-use Prim.Native.Nat.{ℕ, zero, suc, _+_, _-_, _*_, _/_, _%_, _<_, _≤_}
+use Prim.Native.Nat.{ℕ, zero, _+_, _-_, _*_, _/_, _%_, _<_, _≤_}
 use mathlib.Core.Path.{_≡_, refl, sym, ap, _∙_}
 use mathlib.Core.Bool.{cond}
 use mathlib.Core.List.{List, [], _∷_, _++_, append-assoc}
@@ -8,12 +8,12 @@ use native.Mathlib.Omega.{arith}
 use lib.ListN.{length, getD, drop, length-append, List·getD-append, List·getD-eq-default}
 use lib.Seq.{drop-cons, getD-drop}
 use lib.Dec.{eqb}
-use borrow.Author.Tests.{eq-eqb, ne-eqb, lt-ltb}
+use borrow.Author.Tests.{ne-eqb, lt-ltb}
 use Rattle.text.specs.Lines.{hexDigit, decimal}
 use Rattle.text.proofs.Digits.{below, value as valueOf, valueFrom}
 use Rattle.text.proofs.Decimal.{decimal-one, decimal-more, decimal-says, no-leading-zero}
 use Rattle.listing.specs.Inside.{digitOf, digitAt, Spelling, HasNumber}
-use Rattle.listing.proofs.Digits.{Digit, is-digit, is-none, none, decimal-digits, head, tail-of, told, front-below, decimal-one-to-one}
+use Rattle.listing.proofs.Digits.{Digit, is-digit, is-none, none, decimal-digits, head, tail-of, told, front-below}
 
 -- The digits of a number that is not 0, and none of 0: what stands where no digit is told yet.
 

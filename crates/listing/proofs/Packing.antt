@@ -1,6 +1,6 @@
 -- Fields read one behind the other: the word that they make, and that no other word has them. Assumes nothing.
 use Prim.Native.Nat.{ℕ, _+_, _-_, _*_, _/_, _%_, _^_, _<_, _≤_}
-use mathlib.Core.Path.{_≡_, refl, sym, ap, _∙_}
+use mathlib.Core.Path.{_≡_, sym, ap, _∙_}
 use mathlib.Core.List.{List, [], _∷_, _++_, append-assoc}
 use native.Mathlib.Nat.{add-mul, mul-le-mul-right, mod-lt, div-one, div-eq-of-lt, lt-of-lt-of-le}
 use mathlib.Core.Logic.{⊎-elim}

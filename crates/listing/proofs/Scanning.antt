@@ -1,22 +1,23 @@
 -- The lines behind the header's, read one after the other to the text's end. Assumes nothing.
-use Prim.Native.Nat.{ℕ, zero, suc, _+_, _-_, _^_, _<_, _≤_}
+use Prim.Native.Nat.{ℕ, _+_, _-_, _^_, _<_, _≤_}
 use mathlib.Core.Path.{_≡_, refl, sym, ap, _∙_}
-use mathlib.Core.Bool.{true, false}
+use mathlib.Core.Bool.{true}
 use mathlib.Core.List.{List, [], _∷_, _++_, append-assoc, append-nil}
 use native.Mathlib.Numerals.{add-one}
 use native.Mathlib.Omega.{arith}
-use lib.ListN.{length, getD, take, drop, set, length-append, length-drop, length-take, drop-of-length-le, List·getD-eq-default}
-use lib.Seq.{getD-at, getD-append-add, length-take-le, getD-take, ext-getD, take-suc, drop-cons, set-at, take-all}
+use lib.ListN.{length, getD, take, drop, length-append, length-drop, drop-of-length-le, List·getD-eq-default}
+use lib.Seq.{getD-at, length-take-le, getD-take, ext-getD}
 use Rattle.text.proofs.Digits.{below}
 use Rattle.rulebook.specs.Words.{word}
 use Rattle.rulebook.specs.Table.{tableLength}
 use Rattle.rulebook.specs.Listing.{formAt, byKind}
-use Rattle.listing.specs.Lines.{line, lineAt, firstLines, listing, Listable, ListingOf, BeginsAs, BadLine}
+use Rattle.listing.specs.Lines.{line, firstLines, listing, ListingOf, BeginsAs, BadLine}
 use Rattle.listing.specs.Inside.{HasLine, Opened, Whole}
 use Rattle.listing.proofs.Headers.{sound}
 use Rattle.listing.proofs.Lists.{all-lines}
-use Rattle.listing.proofs.Places.{Heads, Agree, heads-of, of-heads, long-same, edition-same, counts-same, form-same, form-agrees, form-bound, lines-agree, agree-less, agree-longer}
-use Rattle.listing.proofs.Decoding.{one-line, one-table}
+use Rattle.listing.proofs.Places.{Heads, Agree, heads-of, of-heads, long-same, edition-same, counts-same}
+use Rattle.listing.proofs.Places.{form-same, form-agrees, lines-agree, agree-longer}
+use Rattle.listing.proofs.Decoding.{one-table}
 use Rattle.listing.proofs.Texts.{long, headed, lists-so, begins, fewer, listing-begins, begins-less, goes-on, begun}
 
 -- words are read, i of them, up to a place; their first three are the header

@@ -1,24 +1,23 @@
 -- Texts against listings: the lines that were read begin one, and where the next cannot be read none goes on. Assumes nothing.
 use Prim.Native.Nat.{ℕ, zero, suc, _+_, _-_, _^_, _<_, _≤_}
-use mathlib.Core.Path.{_≡_, refl, sym, ap, subst, _∙_}
-use mathlib.Core.Bool.{true, false, _&&_}
-use mathlib.Core.List.{List, [], _∷_, _++_, append-assoc, append-nil}
+use mathlib.Core.Path.{_≡_, sym, _∙_}
+use mathlib.Core.Bool.{true}
+use mathlib.Core.List.{List, [], _++_, append-assoc, append-nil}
 use native.Mathlib.Numerals.{add-one}
 use native.Mathlib.Omega.{arith}
-use lib.ListN.{length, getD, take, drop, replicate, set, length-append, length-replicate, getD-replicate, List·getD-append, List·getD-eq-default, drop-of-length-le}
+use lib.ListN.{length, getD, drop, replicate, length-append, length-replicate, getD-replicate, List·getD-append, List·getD-eq-default}
 use lib.Seq.{getD-append-add}
 use borrow.Author.Tests.{le-leb, eq-eqb, leb-true, eqb-true}
-use Rattle.laws.proofs.Tests.{and-left, and-right, and-both, clash}
+use Rattle.laws.proofs.Tests.{and-left, and-right, and-both}
 use Rattle.text.proofs.Digits.{below}
 use Rattle.rulebook.specs.Words.{word}
 use Rattle.rulebook.specs.Table.{tableLength}
 use Rattle.rulebook.specs.Reasons.{hasHeader, knownEdition, countsInside, exactLength}
-use Rattle.rulebook.specs.Listing.{formAt, byKind, shapeReason}
 use Rattle.tables.proofs.Shapes.{Kept, kept-of, reason-none}
-use Rattle.listing.specs.Lines.{line, lineAt, firstLines, listing, Listable, ListingOf, BeginsAs, BadLine}
+use Rattle.listing.specs.Lines.{line, lineAt, firstLines, listing, Listable, ListingOf, BeginsAs}
 use Rattle.listing.proofs.Lists.{all-lines}
 use Rattle.listing.proofs.Headers.{sound}
-use Rattle.listing.proofs.Places.{Heads, Agree, long-same, edition-same, counts-same, heads-of, form-agrees, lines-agree, agree-longer, agree-less}
+use Rattle.listing.proofs.Places.{Heads, Agree, long-same, edition-same, counts-same, heads-of, lines-agree, agree-longer, agree-less}
 use Rattle.listing.proofs.Decoding.{one-table}
 
 -- a list's words, with zeros behind them

@@ -1,11 +1,10 @@
 -- A text longer than any listing may be read through a window: what stands behind it changes no bad line. Assumes nothing.
-use Prim.Native.Nat.{ℕ, _+_, _-_, _*_, _≤_, _<_}
+use Prim.Native.Nat.{ℕ, _+_, _-_, _≤_, _<_}
 use mathlib.Core.Path.{_≡_, sym, ap, _∙_}
 use mathlib.Core.List.{List, _++_, append-assoc}
 use native.Mathlib.Omega.{arith}
-use lib.ListN.{length, take, drop, length-append, take-append-drop}
-use lib.Seq.{length-take-le, take-append-le, take-append-add}
-use Rattle.rulebook.specs.Table.{tableLength}
+use lib.ListN.{length, take, drop, take-append-drop}
+use lib.Seq.{length-take-le, take-append-add}
 use Rattle.laws.proofs.Facts.{counts-of}
 use Rattle.tables.proofs.Shapes.{kept-of}
 use Rattle.listing.specs.Lines.{firstLines, listing, Listable, ListingOf, BeginsAs, BadLine}

@@ -1,5 +1,5 @@
 -- There and back, each said of calls: of every result that the promises of `list` and `read` allow. Proved in proofs/Back, proofs/Window and proofs/Named.
-use Prim.Native.Nat.{ℕ, _*_, _^_, _≤_, _<_}
+use Prim.Native.Nat.{ℕ, _*_, _≤_, _<_}
 use mathlib.Core.Path.{_≡_}
 use mathlib.Core.Bool.{cond}
 use mathlib.Core.List.{List, [], _∷_, _++_}

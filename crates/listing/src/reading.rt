@@ -2,9 +2,8 @@
 // and then nothing is written. Each reader is told a place and says, by value, what stands there and where it ends.
 ghost use mathlib.Core.Path.{_≡_};
 ghost use mathlib.Core.Bool.{true};
-ghost use mathlib.Core.List.{List};
-ghost use Prim.Native.Nat.{ℕ, _≤_, _<_};
-ghost use lib.ListN.{length, take};
+ghost use Prim.Native.Nat.{_≤_, _<_};
+ghost use lib.ListN.{length};
 ghost use Rattle.listing.specs.Inside.{digitAt, Spelling, ReadsNumber, ReadsFields, ReadsLine, Stands, KindAt, least, Opens, Opened};
 ghost use Rattle.listing.specs.Inside.{openedLine, Scans, scannedLine, Told};
 ghost use Rattle.listing.specs.Promises.{readNumber, wordsOf, lineIn, ReadsWords, Reads};

@@ -9,7 +9,7 @@ use denote.Enum.Declared.{tagOf}
 use borrow.Author.Tests.{ne-eqb}
 use Rattle.laws.proofs.Tests.{split}
 use Rattle.rulebook.specs.Reasons.{hasHeader, knownEdition, countsInside, exactLength, Verdict, verdict, Link, ofTable, firstOf, check}
-use Rattle.rulebook.specs.Listing.{shapeReasons, shapeReason}
+use Rattle.rulebook.specs.Listing.{shapeReason}
 use Rattle.words.specs.Sections.{Laid}
 use Rattle.words.specs.declared.sections.Layout.{Layout}
 use Rattle.tables.specs.declared.Shape.{Shape}

@@ -1,10 +1,11 @@
 //! The proved mode manager for Rust. Tables, states, traces, outcomes and what a
 //! supplier recorded are slices of 32-bit words; `docs/TABLES.md` has the layout of
-//! each and what to do about each reason and answer. A panel's lines are laid into a
-//! slice of bytes. Answers are the documents' numbers.
+//! each and what to do about each reason and answer. A panel's lines and a table's
+//! listing are laid into a slice of bytes, and a listing is read from one. Answers
+//! are the documents' numbers.
 //!
-//! Every call takes any words: it checks them for itself, and a refusal leaves
-//! every lent word and byte as it was. Nothing is kept between calls, no heap is
+//! Every call takes any words and bytes: it checks them for itself, and a refusal
+//! leaves every lent word and byte as it was. Nothing is kept between calls, no heap is
 //! used, and calls on different states may run at the same time.
 //!
 //! ```
@@ -38,6 +39,12 @@
 //!     herringcart::hold(&table, &mut state, &mut trace, &[], 0x1100_0500, &theirs, &their_state);
 //! assert_eq!(held.verdict, herringcart::Verdict::TheirsStops(2));
 //! assert_eq!(held.part, [0x0100_1234]);
+//! // The table as text, and read back.
+//! let mut lines = vec![0; herringcart::LISTING_BYTES];
+//! let listing = herringcart::list(&table, &mut lines).expect("no reason from 1 to 4, and room");
+//! assert!(listing.starts_with(b"header 1 2 1 0\nheader 1 1\n"));
+//! let mut words = vec![0; herringcart::TABLE_WORDS];
+//! assert_eq!(herringcart::read(listing, &mut words), Ok(&table[..]));
 //! ```
 #![no_std]
 
@@ -221,9 +228,63 @@ impl Held<'_> {
     }
 }
 
+/// The most words that a table can have: always room enough for `read`.
+pub const TABLE_WORDS: usize = 3185;
+
+/// Bytes that are always enough for a listing: no line has more than 47.
+pub const LISTING_BYTES: usize = 47 * TABLE_WORDS;
+
+/// Why a table is not listed: the first of these that holds, in this order.
+#[derive(Clone, Copy, PartialEq, Eq, Debug)]
+pub enum NotListed {
+    /// Reason 1: the table has fewer than 3 words.
+    TooShort,
+    /// Reason 2: the edition is neither 1 nor 2.
+    WrongEdition,
+    /// Reason 3: a count is outside its limits.
+    WrongCounts,
+    /// Reason 4: the length is not what the header asks for.
+    WrongLength,
+    /// 11: the listing has more bytes than are lent.
+    NoRoom,
+}
+
+impl NotListed {
+    /// The documents' number.
+    pub fn number(self) -> u32 {
+        match self {
+            NotListed::TooShort => 1,
+            NotListed::WrongEdition => 2,
+            NotListed::WrongCounts => 3,
+            NotListed::WrongLength => 4,
+            NotListed::NoRoom => 11,
+        }
+    }
+}
+
+/// Why a text is not read. A bad line 11 and too little room, which is answer 11,
+/// are different cases.
+#[derive(Clone, Copy, PartialEq, Eq, Debug)]
+pub enum NotRead {
+    /// The text is no listing: the number of its first bad line, from 1.
+    BadLine(usize),
+    /// The listing's table has more words than are lent.
+    NoRoom,
+}
+
+impl NotRead {
+    /// The answer's number, as C's call gives it.
+    pub fn number(self) -> u32 {
+        match self {
+            NotRead::BadLine(_) => 12,
+            NotRead::NoRoom => 11,
+        }
+    }
+}
+
 mod c {
     // As library/herringcart.h declares them. A slice is lent as its pointer
-    // and its length, in words or, of lines, in bytes.
+    // and its length, in words or, of lines and text, in bytes.
     unsafe extern "C" {
         pub safe fn herringcart_version() -> u32;
         pub fn herringcart_check_table(
@@ -301,6 +362,21 @@ mod c {
             rest: *mut usize,
             count: *mut usize,
             visits: *mut u32,
+        ) -> u32;
+        pub fn herringcart_list(
+            table: *const u32,
+            table_words: usize,
+            lines: *mut u8,
+            lines_bytes: usize,
+            bytes: *mut usize,
+        ) -> u32;
+        pub fn herringcart_read(
+            text: *const u8,
+            text_bytes: usize,
+            words: *mut u32,
+            words_room: usize,
+            count: *mut usize,
+            line: *mut usize,
         ) -> u32;
     }
 }
@@ -520,4 +596,63 @@ pub fn hold<'a>(
         _ => unreachable!("the call gives no other number, which is proved"),
     };
     Held { verdict, count, visits, part: &whose[from..][..rest] }
+}
+
+/// Lists a table as text: lays a line for each word at the front of the lent
+/// bytes, those behind them unchanged, and gives the listing; refused, no byte
+/// has changed. A table with a reason from 5 on is listed. `LISTING_BYTES` is
+/// always room enough.
+///
+/// A line is a section's name and all fields of the word in decimal, as
+/// `port 0 0 0 1 0 0`, with a newline. No two tables have the same listing.
+pub fn list<'a>(table: &[u32], lines: &'a mut [u8]) -> Result<&'a [u8], NotListed> {
+    let mut bytes = usize::MAX;
+    // SAFETY: see above; bytes is a local of its own.
+    let number = unsafe {
+        c::herringcart_list(
+            table.as_ptr(),
+            table.len(),
+            lines.as_mut_ptr(),
+            lines.len(),
+            &mut bytes,
+        )
+    };
+    match (number, bytes) {
+        (0, _) => Ok(&lines[..bytes]),
+        (1, 0) => Err(NotListed::TooShort),
+        (2, 0) => Err(NotListed::WrongEdition),
+        (3, 0) => Err(NotListed::WrongCounts),
+        (4, 0) => Err(NotListed::WrongLength),
+        (11, 0) => Err(NotListed::NoRoom),
+        _ => unreachable!("the call gives no other numbers, which is proved"),
+    }
+}
+
+/// Reads a listing back: lays its table's words at the front of the lent ones,
+/// those behind them unchanged, and gives them; refused, no word has changed.
+/// `list` of these words gives the text again, byte for byte. Whether the table
+/// is accepted is for `check_table` to say. `TABLE_WORDS` is always room enough.
+///
+/// Any other spelling is refused with the number of the first line at which no
+/// listing goes on: a missing line has the number it would have had, an extra
+/// one the last plus 1.
+pub fn read<'a>(text: &[u8], words: &'a mut [u32]) -> Result<&'a [u32], NotRead> {
+    let (mut count, mut line) = (usize::MAX, usize::MAX);
+    // SAFETY: see above; count and line are locals of their own.
+    let number = unsafe {
+        c::herringcart_read(
+            text.as_ptr(),
+            text.len(),
+            words.as_mut_ptr(),
+            words.len(),
+            &mut count,
+            &mut line,
+        )
+    };
+    match (number, count, line) {
+        (0, _, 0) => Ok(&words[..count]),
+        (12, 0, 1..) => Err(NotRead::BadLine(line)),
+        (11, 0, 0) => Err(NotRead::NoRoom),
+        _ => unreachable!("the call gives no other numbers, which is proved"),
+    }
 }

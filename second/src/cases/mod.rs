@@ -8,6 +8,7 @@ pub mod failing;
 pub mod heard;
 pub mod lent;
 pub mod levels;
+pub mod listed;
 pub mod neighbours;
 pub mod numbers;
 pub mod outcomes;

@@ -7,6 +7,7 @@ use std::fmt;
 use super::failing_rows::{self, Failing};
 use super::heard::{self, Heard};
 use super::held_rows::{self, Held};
+use super::listed_rows::{self, Listing};
 use super::nesting::{self, Nesting};
 use super::nothing_rows::{self, Nothing};
 use super::panel_rows::{self, Panels};
@@ -45,6 +46,7 @@ pub enum Row {
     Nesting(Nesting),
     Panels(Panels),
     Held(Held),
+    Listing(Listing),
     Nothing(Nothing),
     SourceTurn(u32, u32),
     Unfit(usize),
@@ -256,6 +258,7 @@ impl fmt::Display for Row {
             Row::Nesting(nesting) => nesting.to_string(),
             Row::Panels(panels) => panels.to_string(),
             Row::Held(held) => held.to_string(),
+            Row::Listing(listing) => listing.to_string(),
             Row::Nothing(nothing) => nothing.to_string(),
             Row::SourceTurn(from, to) => format!("source: {}", turn(&STATUSES, from, to)),
             Row::Unfit(misfit) => format!("state unfit: {:?}", MISFITS[misfit]),
@@ -309,6 +312,7 @@ impl Coverage {
             .chain(nesting::rows().map(Row::Nesting))
             .chain(panel_rows::rows().map(Row::Panels))
             .chain(held_rows::rows().map(Row::Held))
+            .chain(listed_rows::rows().map(Row::Listing))
             .chain(nothing_rows::rows().map(Row::Nothing))
             .chain(SOURCE_TURNS.map(|(from, to)| Row::SourceTurn(from, to)))
             .chain(MISFITS.map(Row::unfit))
@@ -322,6 +326,7 @@ impl Coverage {
             .chain(played::ROWS.map(Row::Special))
             .chain(panel_rows::ROWS.map(Row::Special))
             .chain(held_rows::ROWS.map(Row::Special))
+            .chain(listed_rows::ROWS.map(Row::Special))
             .chain(nothing_rows::ROWS.map(Row::Special));
         Coverage(rows.map(|row| (row, 0)).collect())
     }

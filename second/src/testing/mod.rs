@@ -13,6 +13,8 @@ mod held;
 mod held_rows;
 mod held_run;
 mod levels;
+mod listed;
+mod listed_rows;
 mod log;
 mod names;
 mod nesting;
@@ -35,12 +37,15 @@ mod visits;
 mod visits_rows;
 mod walk;
 
+use std::collections::BTreeSet;
 use std::panic::{AssertUnwindSafe, catch_unwind};
 
 use crate::cases::pairs::{Pair, pair};
 use crate::cases::{Case, Cases, Made};
 use coverage::Coverage;
-pub use recorded::{AskedHold, AskedHoldRun, AskedPanel, AskedPanelRun};
+pub use recorded::{
+    AskedHold, AskedHoldRun, AskedList, AskedListingRun, AskedPanel, AskedPanelRun, AskedRead,
+};
 
 /// Each seed's first cases are run.
 const SEEDS: [u64; 4] = [1, 2026, 0xC0FFEE, 0x5EED_5EED_5EED_5EED];
@@ -125,18 +130,57 @@ pub struct Ran {
     /// The suppliers' logs it held against ours, and the log's program (request Q-7).
     pub holds: Vec<AskedHold>,
     pub hold_runs: Vec<AskedHoldRun>,
+    /// The tables it listed, the texts it read, and the programs for these (request Q-4).
+    pub lists: Vec<AskedList>,
+    pub reads: Vec<AskedRead>,
+    pub listing_runs: Vec<AskedListingRun>,
 }
 
 /// Runs the fixed cases for another program to be asked the same.
 pub fn run_fixed() -> Vec<Ran> {
-    let run = |(name, case): (&'static str, fn())| {
-        let outcome = catch_unwind(case).map_err(|panic| panic_text(&*panic));
-        let (panels, panel_runs) = (recorded::panels(), recorded::panel_runs());
-        let (holds, hold_runs) = (recorded::holds(), recorded::hold_runs());
-        let asked = recorded::asked();
-        Ran { name, outcome, asked, panels, panel_runs, holds, hold_runs }
-    };
-    fixed::all().into_iter().map(run).collect()
+    fixed::all().into_iter().map(ran).collect()
+}
+
+fn ran((name, case): (&'static str, fn())) -> Ran {
+    let outcome = catch_unwind(case).map_err(|panic| panic_text(&*panic));
+    Ran {
+        name,
+        outcome,
+        asked: recorded::asked(),
+        panels: recorded::panels(),
+        panel_runs: recorded::panel_runs(),
+        holds: recorded::holds(),
+        hold_runs: recorded::hold_runs(),
+        lists: recorded::lists(),
+        reads: recorded::reads(),
+        listing_runs: recorded::listing_runs(),
+    }
+}
+
+/// The tables that the fixed cases of request Q-4 list, each with the bytes of room lent; all
+/// different.
+pub fn fixed_listings() -> Vec<(Vec<u32>, usize)> {
+    let ran = fixed::listing_cases().into_iter().map(ran);
+    let asked = ran.flat_map(|ran| ran.lists).map(|asked| (asked.table, asked.lent.len()));
+    asked.collect::<BTreeSet<_>>().into_iter().collect()
+}
+
+/// The texts that they read, each with the words of room lent; all different.
+pub fn fixed_reads() -> Vec<(Vec<u8>, usize)> {
+    let ran = fixed::listing_cases().into_iter().map(ran);
+    let asked = ran.flat_map(|ran| ran.reads).map(|asked| (asked.text, asked.lent.len()));
+    asked.collect::<BTreeSet<_>>().into_iter().collect()
+}
+
+/// The texts alone, those of the programs too; all different.
+pub fn fixed_texts() -> Vec<Vec<u8>> {
+    let mut texts = BTreeSet::new();
+    for ran in fixed::listing_cases().into_iter().map(ran) {
+        texts.extend(ran.reads.into_iter().map(|asked| asked.text));
+        let runs = ran.listing_runs.into_iter().filter(|asked| !asked.lists);
+        texts.extend(runs.map(|asked| asked.file));
+    }
+    texts.into_iter().collect()
 }
 
 /// What a fixed case asked, tried for its nesting.

@@ -10,7 +10,7 @@ use super::skipping::Skipping;
 use super::traces::evaluated;
 use super::visits::{Visited, try_refusals};
 use super::walk::{By, Walk};
-use super::{cost, demand3, failing, held, held_run, nesting, panel, panel_others};
+use super::{cost, demand3, failing, held, held_run, listed, nesting, panel, panel_others};
 use super::{play, played, ports, reach};
 use crate::cases::draft::Draft;
 use crate::cases::states::fresh_state;
@@ -52,6 +52,7 @@ pub fn try_case(made: &Made) -> Result<Met, String> {
     play::try_plays(&good, checked.b, &calls_good, &mut met)?;
     try_panels(case, &log, &mut met)?;
     held::try_holds(case, &log, &mut met)?;
+    listed::try_listing(case, checked.reason, &mut met)?;
     if checked.reason == 0 {
         try_accepted(made, checked.b, &log, &mut met)?;
         failing::try_good(&read(&case.table), &good, &log, &calls_good, &mut met)?;

@@ -6,12 +6,14 @@ use std::cell::RefCell;
 use crate::cases::Case;
 use crate::check::{Check, accept};
 use crate::hold::Held;
+use crate::listing::{Listed, Read};
+use crate::listing_run::Told;
 use crate::panel::Panel;
 use crate::play::Played;
 use crate::program::{HoldTold, NoPanel};
 use crate::state::state_length;
 use crate::step::Stepped;
-use crate::{program, stream};
+use crate::{listing_run, program, stream};
 
 thread_local! {
     static ASKED: RefCell<Vec<Case>> = const { RefCell::new(vec![]) };
@@ -19,6 +21,9 @@ thread_local! {
     static PANEL_RUNS: RefCell<Vec<AskedPanelRun>> = const { RefCell::new(vec![]) };
     static HOLDS: RefCell<Vec<AskedHold>> = const { RefCell::new(vec![]) };
     static HOLD_RUNS: RefCell<Vec<AskedHoldRun>> = const { RefCell::new(vec![]) };
+    static LISTS: RefCell<Vec<AskedList>> = const { RefCell::new(vec![]) };
+    static READS: RefCell<Vec<AskedRead>> = const { RefCell::new(vec![]) };
+    static LISTING_RUNS: RefCell<Vec<AskedListingRun>> = const { RefCell::new(vec![]) };
 }
 
 /// A panel that was asked for, and what the rules answered.
@@ -75,6 +80,37 @@ pub struct AskedHoldRun {
     pub told: HoldTold,
 }
 
+/// A table that was listed, and what the rules answered.
+#[derive(Clone, PartialEq, Eq, Debug)]
+pub struct AskedList {
+    pub table: Vec<u32>,
+    /// The room's bytes before; so many are lent.
+    pub lent: Vec<u8>,
+    pub listed: Listed,
+    /// The room's bytes after.
+    pub room: Vec<u8>,
+}
+
+/// A text that was read, and what the rules answered.
+#[derive(Clone, PartialEq, Eq, Debug)]
+pub struct AskedRead {
+    pub text: Vec<u8>,
+    /// The room's words before; so many are lent.
+    pub lent: Vec<u32>,
+    pub read: Read,
+    /// The room's words after.
+    pub room: Vec<u32>,
+}
+
+/// What `list TABLE` or `read LISTING` was asked, by the file's bytes, and what it tells.
+#[derive(Clone, PartialEq, Eq, Debug)]
+pub struct AskedListingRun {
+    /// `list`, else `read`.
+    pub lists: bool,
+    pub file: Vec<u8>,
+    pub told: Told,
+}
+
 /// What was asked since this was called last.
 pub fn asked() -> Vec<Case> {
     ASKED.take()
@@ -98,6 +134,21 @@ pub fn holds() -> Vec<AskedHold> {
 /// The logs' programs that were.
 pub fn hold_runs() -> Vec<AskedHoldRun> {
     HOLD_RUNS.take()
+}
+
+/// The tables that were listed.
+pub fn lists() -> Vec<AskedList> {
+    LISTS.take()
+}
+
+/// The texts that were read.
+pub fn reads() -> Vec<AskedRead> {
+    READS.take()
+}
+
+/// The programs that list and read.
+pub fn listing_runs() -> Vec<AskedListingRun> {
+    LISTING_RUNS.take()
 }
 
 fn note(table: &[u32], state: &[u32], room: usize, events: &[u32]) {
@@ -250,6 +301,38 @@ pub fn hold_run(table: &[u8], events: &[u8], log: &[u8], all: bool) -> HoldTold 
     let (table, events, log) = (table.to_vec(), events.to_vec(), log.to_vec());
     let asked = AskedHoldRun { table, events, log, all, told: told.clone() };
     HOLD_RUNS.with_borrow_mut(|runs| runs.push(asked));
+    told
+}
+
+pub fn list(table: &[u32], room: &mut [u8]) -> Listed {
+    let lent = room.to_vec();
+    let listed = crate::list(table, room);
+    let asked = AskedList { table: table.to_vec(), lent, listed, room: room.to_vec() };
+    LISTS.with_borrow_mut(|lists| lists.push(asked));
+    listed
+}
+
+pub fn read(text: &[u8], room: &mut [u32]) -> Read {
+    let lent = room.to_vec();
+    let read = crate::read(text, room);
+    let asked = AskedRead { text: text.to_vec(), lent, read, room: room.to_vec() };
+    READS.with_borrow_mut(|reads| reads.push(asked));
+    read
+}
+
+/// What the listing's program tells.
+pub fn list_run(table: &[u8]) -> Told {
+    noted_run(true, table, listing_run::list(table))
+}
+
+/// What the reading's program tells.
+pub fn read_run(text: &[u8]) -> Told {
+    noted_run(false, text, listing_run::read(text))
+}
+
+fn noted_run(lists: bool, file: &[u8], told: Told) -> Told {
+    let asked = AskedListingRun { lists, file: file.to_vec(), told: told.clone() };
+    LISTING_RUNS.with_borrow_mut(|runs| runs.push(asked));
     told
 }
 

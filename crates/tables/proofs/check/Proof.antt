@@ -4,10 +4,9 @@ use mathlib.Core.List.{List}
 use Prim.Native.Nat.{ℕ, _≤_}
 use native.Mathlib.Omega.{arith}
 use borrow.Author.Tests.{eqb-true}
-use mathlib.Core.Bool.{true}
 use Rattle.rulebook.specs.Reasons as Reasons
 use Rattle.rulebook.specs.Reasons.{exactLength, ownFields, names, nesting, owners, reached, Link, firstOf}
-use Rattle.tables.proofs.Chain.{from-fields, from-names, from-nesting, from-owners}
+use Rattle.tables.proofs.Chain.{from-names, from-nesting, from-owners}
 use Rattle.tables.proofs.Shapes.{kept-of, left-fields, laid-of, none-of, misshapes}
 use Rattle.rulebook.specs.Listing.{shapeReason}
 use Rattle.words.specs.Sections.{Laid, Whole}

@@ -1,6 +1,6 @@
 //! Fixed cases: each a few words long, its outcome worked out by hand from
-//! documents 01 and 02 and named
-//! after the sentence or reading it tells apart.
+//! documents 01 and 02 and named after the sentence or
+//! reading it tells apart.
 //!
 //! Expected words stand in hex, so that no layout is judged by itself:
 //! - port state: 80000000 defined, 40000000 marked, value times 00400000, remaining;
@@ -35,6 +35,9 @@ mod hold;
 mod hold_run;
 mod levels;
 mod levels_checked;
+mod listing;
+mod listing_run;
+mod listing_started;
 mod lists;
 mod marked;
 mod names;
@@ -49,6 +52,7 @@ mod play;
 mod played;
 mod program;
 mod reached;
+mod reading;
 mod shape;
 mod sources;
 mod states;
@@ -100,6 +104,10 @@ pub fn all() -> Vec<(&'static str, fn())> {
         panel_run::CASES,
         hold::CASES,
         hold_run::CASES,
+        listing::CASES,
+        reading::CASES,
+        listing_run::CASES,
+        listing_started::CASES,
         streams::CASES,
         demand3::CASES,
         nesting::CASES,
@@ -107,6 +115,11 @@ pub fn all() -> Vec<(&'static str, fn())> {
         agreement::CASES,
     ]
     .concat()
+}
+
+/// Those of request Q-4 that any program can run: this one need not be started for them.
+pub fn listing_cases() -> Vec<(&'static str, fn())> {
+    [listing::CASES, reading::CASES, listing_run::CASES].concat()
 }
 
 /// 255: a rule's missing list.

@@ -1,6 +1,5 @@
 -- `listing::reading::digit` meets its contract, by the byte. Assumes nothing.
 use borrow.Author.Needs.{needs}
-use native.Mathlib.Omega.{arith}
 use Rattle.listing.proofs.Digits.{no-digit-below, no-digit-above, digit-value}
 use Rattle.listing.proofs.reading.digit.Statement.{statement}
 use Rattle.listing.proofs.reading.digit.Tie as tie

@@ -1,5 +1,4 @@
 -- `listing::reading::read` meets its promise: what refuses it, one after the other, or the words. Assumes nothing.
-use Prim.Native.Nat.{_≤_}
 use mathlib.Core.Path.{refl}
 use native.Mathlib.Omega.{arith}
 use borrow.Author.Needs.{needs}

@@ -35,7 +35,8 @@ its-form c = start (c .before) .args .f
 there : (c : tie.In-loop Inv-loop μ-loop) → c .before .loop .k < length (form (its-form c) .widths)
 there c = omega (arith, sized (c .before) .before .fields .ensures .0)
 
-size-is : (c : tie.In-loop Inv-loop μ-loop) → getD (sized (c .before) .sizes .result) (c .before .loop .k) 0 ≡ 2 ^ getD (form (its-form c) .widths) (c .before .loop .k) 0
+size-is : (c : tie.In-loop Inv-loop μ-loop)
+    → getD (sized (c .before) .sizes .result) (c .before .loop .k) 0 ≡ 2 ^ getD (form (its-form c) .widths) (c .before .loop .k) 0
 size-is c = size-there (its-form c) (c .before .loop .k) (there c) _ (sized (c .before) .sizes .ensures)
 
 low-end : (c : tie.After-ending Inv-loop μ-loop) → (c .ending .result < 48) × (1 ≤ c .ending .result)

@@ -2,7 +2,6 @@
 use Prim.Native.Nat.{_+_, _-_, _≤_}
 use native.Mathlib.Omega.{arith}
 use lib.ListN.{length}
-use borrow.Author.Needs.{needs}
 use Rattle.listing.proofs.Names.{Same, same-more, too-short, differs, all-same}
 use Rattle.listing.proofs.reading.stands.Statement.{statement}
 use Rattle.listing.proofs.reading.stands.Tie as tie

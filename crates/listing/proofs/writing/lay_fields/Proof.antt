@@ -32,7 +32,8 @@ its-form c = start (c .before) .args .f
 there : (c : tie.In-loop Inv-loop μ-loop) → c .before .loop .k < length (form (its-form c) .widths)
 there c = omega (arith, sized (c .before) .before .fields .ensures .0)
 
-size-is : (c : tie.In-loop Inv-loop μ-loop) → getD (sized (c .before) .sizes .result) (c .before .loop .k) 0 ≡ 2 ^ getD (form (its-form c) .widths) (c .before .loop .k) 0
+size-is : (c : tie.In-loop Inv-loop μ-loop)
+    → getD (sized (c .before) .sizes .result) (c .before .loop .k) 0 ≡ 2 ^ getD (form (its-form c) .widths) (c .before .loop .k) 0
 size-is c = size-there (its-form c) (c .before .loop .k) (there c) _ (sized (c .before) .sizes .ensures)
 
 some-size : tie.Need-div-unit Inv-loop μ-loop
@@ -41,7 +42,8 @@ some-size c = size-some (its-form c) (c .before .loop .k) (there c) _ (sized (c 
 unit-some : (c : tie.In-loop Inv-loop μ-loop) → 0 < c .before .loop .unit / getD (sized (c .before) .sizes .result) (c .before .loop .k) 0
 unit-some c =
     let wide = width-there (its-form c) (c .before .loop .k) (there c) in
-    rw (next-unit _ _ _ _ (wide .within) (c .before .loop .inv .1 .per) (size-is c)) (pow-pos (32 - (bits (c .before .loop .k) (form (its-form c) .widths) + getD (form (its-form c) .widths) (c .before .loop .k) 0)))
+    rw (next-unit _ _ _ _ (wide .within) (c .before .loop .inv .1 .per) (size-is c))
+    (pow-pos (32 - (bits (c .before .loop .k) (form (its-form c) .widths) + getD (form (its-form c) .widths) (c .before .loop .k) 0)))
 
 loop-again : tie.Need-loop-again Inv-loop μ-loop
 loop-again c =
@@ -50,7 +52,8 @@ loop-again c =
     let l = turn .before in (
       omega arith,
       laid-next _ _ _ _ (start l .pre) _ _ _ _ (l .loop .inv .1) (there turn) _ _ _ _ _ (size-is turn)
-          (rw (sized l .before .fields .ensures .0) at (put .before .ending .ensures) ∙ ends-field (its-form turn) (l .loop .k) (there turn) _ _) refl (put .put-decimal .ensures),
+          (rw (sized l .before .fields .ensures .0) at (put .before .ending .ensures) ∙ ends-field (its-form turn) (l .loop .k) (there turn) _ _) refl
+          (put .put-decimal .ensures),
     )
 
 pub lay-fields-spec : {M : Type 1} → statement M

@@ -2,7 +2,6 @@
 use Prim.Native.Nat.{_-_, _≤_}
 use native.Mathlib.Omega.{arith}
 use lib.ListN.{length}
-use borrow.Author.Needs.{needs}
 use Rattle.listing.proofs.Lists.{LaidTo, laid-begin, laid-room, laid-next, laid-end}
 use Rattle.listing.proofs.writing.lay_listing.Statement.{statement}
 use Rattle.listing.proofs.writing.lay_listing.Tie as tie

@@ -11,7 +11,6 @@ use Rattle.rulebook.specs.Listing.{shapeReason}
 use Rattle.words.specs.Sections.{Whole}
 use Rattle.words.specs.declared.sections.Layout.{Layout}
 use Rattle.tables.proofs.Shapes.{kept-of, laid-of, none-of, not-shaped}
-use Rattle.text.proofs.Puts.{put-length}
 use Rattle.listing.specs.Lines.{listing}
 use Rattle.listing.proofs.Lists.{left-of, short-of, no-shape, no-room, done}
 use Rattle.listing.proofs.writing.list.Statement.{statement}

@@ -1,0 +1,2 @@
+-- How words stand in a file.
+pub mod Raw
