@@ -1,10 +1,11 @@
 //! `run TABLE EVENTS [OUTCOMES]`, `play TABLE EVENTS`, `cost TABLE EVENTS`, `panel OPERATOR TABLE
-//! EVENTS [--follow]`, `hold TABLE EVENTS LOG [--all]`, `list TABLE`, `read LISTING`, `test`, `emit
-//! SEED COUNT` and `answer`.
+//! EVENTS [--follow]`, `hold TABLE EVENTS LOG [--all]`, `list TABLE`, `read LISTING`, `canlog TABLE
+//! INTERFACES LOG`, `day TABLE INTERFACES LOG`, `test`, `emit SEED COUNT` and `answer`.
 
 use std::io::{self, BufWriter, Write};
 use std::process::ExitCode;
 
+use second::buslog_run::{self, Stopped};
 use second::cases::Cases;
 use second::listing_run::{self, Told};
 use second::program::NoPanel;
@@ -12,7 +13,8 @@ use second::{program, stream, testing};
 
 const USAGE: &str = "usage: second run TABLE EVENTS [OUTCOMES] | play TABLE EVENTS | \
                      cost TABLE EVENTS | panel OPERATOR TABLE EVENTS [--follow] | \
-                     hold TABLE EVENTS LOG [--all] | list TABLE | read LISTING | test | \
+                     hold TABLE EVENTS LOG [--all] | list TABLE | read LISTING | \
+                     canlog TABLE INTERFACES LOG | day TABLE INTERFACES LOG | test | \
                      emit SEED COUNT | answer < CASES";
 const FOLLOW: &str = "--follow";
 const ALL: &str = "--all";
@@ -30,6 +32,12 @@ fn main() -> ExitCode {
         ["hold", ref asked @ ..] => hold(asked),
         ["list", table] => tell(listing_run::list_file(table)),
         ["read", listing] => tell(listing_run::read_file(listing)),
+        ["canlog", table, interfaces, log] => {
+            converted(buslog_run::canlog_files(&mut out(), [table, interfaces, log]))
+        }
+        ["day", table, interfaces, log] => {
+            converted(buslog_run::day_files(&mut out(), [table, interfaces, log]))
+        }
         ["test"] => Ok(if testing::test() { 0 } else { 1 }),
         ["emit", seed, count] => emit(seed, count).map(|()| 0),
         ["answer"] => answer().map(|()| 0).map_err(|why| format!("cannot answer: {why}")),
@@ -110,6 +118,21 @@ fn tell(told: Result<Told, String>) -> Result<u8, String> {
         // Who reads it has seen enough.
         Err(why) if why.kind() == io::ErrorKind::BrokenPipe => Ok(0),
         Err(why) => Err(format!("cannot print: {why}")),
+    }
+}
+
+/// Tells what a log was refused by; gives the status to leave with.
+fn converted(done: Result<Option<String>, Stopped>) -> Result<u8, String> {
+    match done {
+        Ok(None) => Ok(0),
+        Ok(Some(trouble)) => {
+            let _ = writeln!(io::stderr(), "{trouble}");
+            Ok(1)
+        }
+        // Who reads it has seen enough.
+        Err(Stopped::Closed) => Ok(0),
+        Err(Stopped::Unread(why)) => Err(why.to_string()),
+        Err(Stopped::Unable(why)) => Err(why),
     }
 }
 

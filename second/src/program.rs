@@ -59,7 +59,12 @@ pub fn printed_with(table: &[u8], events: &[u8], outcomes: &[u8]) -> String {
 /// A file's bytes. All files are read before anything is printed, so that an
 /// unreadable one leaves no output.
 pub fn read(path: &str) -> Result<Vec<u8>, String> {
-    std::fs::read(path).map_err(|why| format!("cannot read {path}: {why}"))
+    std::fs::read(path).map_err(|why| unreadable(path, &why))
+}
+
+/// What is told of a file that cannot be read.
+pub fn unreadable(path: &str, why: &io::Error) -> String {
+    format!("cannot read {path}: {why}")
 }
 
 pub fn run(table: &str, events: &str, outcomes: Option<&str>) -> Result<String, String> {
@@ -92,23 +97,54 @@ pub fn write_played(
         Ok(accepted) => accepted,
         Err((reason, place)) => return write!(out, "{reason}\n{place}\n"),
     };
-    let mut state = vec![0; state_length(&shape)];
-    fresh(&table, &mut state);
-    let mut trace = vec![0; b + spare];
-    let (mut taken, mut visits, mut answer) = (0, 0, TRACE_FULL);
-    // it "can be resumed from that event".
-    while answer == TRACE_FULL {
-        let played = play(&table, &mut state, &mut trace, &events[taken..]);
-        for word in &trace[..played.count] {
-            writeln!(out, "trace {word:08X}")?;
-        }
-        assert!(played.taken > 0 || played.answer != TRACE_FULL, "the day would never end");
-        taken += played.taken;
-        visits += played.visits;
-        answer = played.answer;
+    let mut day = Day::fresh(&table, &shape, b + spare);
+    day.play(out, &events)?;
+    day.end(out, &shape)
+}
+
+/// A day that is played call after call, and printed as it goes.
+pub struct Day<'a> {
+    table: &'a [u32],
+    state: Vec<u32>,
+    trace: Vec<u32>,
+    taken: usize,
+    visits: u64,
+    answer: u32,
+}
+
+impl<'a> Day<'a> {
+    /// With so many trace words lent to each call, B at least.
+    pub fn fresh(table: &'a [u32], shape: &Table, room: usize) -> Self {
+        let mut state = vec![0; state_length(shape)];
+        fresh(table, &mut state);
+        Day { table, state, trace: vec![0; room], taken: 0, visits: 0, answer: 0 }
     }
-    write_state(out, &shape, &state)?;
-    writeln!(out, "taken {taken}\nvisits {visits}\nanswer {answer}")
+
+    /// Plays events behind those before, unless one of these was refused.
+    pub fn play(&mut self, out: &mut impl Write, events: &[u32]) -> io::Result<()> {
+        let (mut taken, mut go_on) = (0, self.answer == 0);
+        // it "can be resumed from that event".
+        while go_on {
+            let played = play(self.table, &mut self.state, &mut self.trace, &events[taken..]);
+            for word in &self.trace[..played.count] {
+                writeln!(out, "trace {word:08X}")?;
+            }
+            go_on = played.answer == TRACE_FULL;
+            assert!(played.taken > 0 || !go_on, "the day would never end");
+            taken += played.taken;
+            self.visits += played.visits;
+            self.answer = played.answer;
+        }
+        self.taken += taken;
+        Ok(())
+    }
+
+    /// Prints how it ended.
+    pub fn end(&self, out: &mut impl Write, shape: &Table) -> io::Result<()> {
+        write_state(out, shape, &self.state)?;
+        let Day { taken, visits, answer, .. } = self;
+        writeln!(out, "taken {taken}\nvisits {visits}\nanswer {answer}")
+    }
 }
 
 /// A state's words, each with its section's name and its number there.

@@ -11,4 +11,5 @@ pub mod Step
 pub mod Play
 pub mod Hold
 pub mod Listing
+pub mod BusLog
 pub mod Marked

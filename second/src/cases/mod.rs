@@ -2,6 +2,7 @@
 //! their outcome.
 
 pub mod agreement;
+pub mod buslogs;
 pub mod cleared;
 pub mod draft;
 pub mod failing;

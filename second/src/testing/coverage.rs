@@ -4,6 +4,7 @@ use std::cmp::Ordering;
 use std::collections::{BTreeMap, BTreeSet};
 use std::fmt;
 
+use super::buslogs_rows::{self, Log};
 use super::failing_rows::{self, Failing};
 use super::heard::{self, Heard};
 use super::held_rows::{self, Held};
@@ -47,6 +48,7 @@ pub enum Row {
     Panels(Panels),
     Held(Held),
     Listing(Listing),
+    BusLog(Log),
     Nothing(Nothing),
     SourceTurn(u32, u32),
     Unfit(usize),
@@ -259,6 +261,7 @@ impl fmt::Display for Row {
             Row::Panels(panels) => panels.to_string(),
             Row::Held(held) => held.to_string(),
             Row::Listing(listing) => listing.to_string(),
+            Row::BusLog(log) => log.to_string(),
             Row::Nothing(nothing) => nothing.to_string(),
             Row::SourceTurn(from, to) => format!("source: {}", turn(&STATUSES, from, to)),
             Row::Unfit(misfit) => format!("state unfit: {:?}", MISFITS[misfit]),
@@ -313,6 +316,7 @@ impl Coverage {
             .chain(panel_rows::rows().map(Row::Panels))
             .chain(held_rows::rows().map(Row::Held))
             .chain(listed_rows::rows().map(Row::Listing))
+            .chain(buslogs_rows::rows().map(Row::BusLog))
             .chain(nothing_rows::rows().map(Row::Nothing))
             .chain(SOURCE_TURNS.map(|(from, to)| Row::SourceTurn(from, to)))
             .chain(MISFITS.map(Row::unfit))
@@ -327,6 +331,7 @@ impl Coverage {
             .chain(panel_rows::ROWS.map(Row::Special))
             .chain(held_rows::ROWS.map(Row::Special))
             .chain(listed_rows::ROWS.map(Row::Special))
+            .chain(buslogs_rows::ROWS.map(Row::Special))
             .chain(nothing_rows::ROWS.map(Row::Special));
         Coverage(rows.map(|row| (row, 0)).collect())
     }

@@ -1,5 +1,7 @@
 //! Everything that `test` runs.
 
+mod buslogs;
+mod buslogs_rows;
 mod choices;
 mod clears;
 mod cost;
@@ -40,11 +42,13 @@ mod walk;
 use std::collections::BTreeSet;
 use std::panic::{AssertUnwindSafe, catch_unwind};
 
+use crate::cases::buslogs::{BusLog, bus_log};
 use crate::cases::pairs::{Pair, pair};
 use crate::cases::{Case, Cases, Made};
 use coverage::Coverage;
 pub use recorded::{
-    AskedHold, AskedHoldRun, AskedList, AskedListingRun, AskedPanel, AskedPanelRun, AskedRead,
+    AskedBusLog, AskedBusLogRun, AskedHold, AskedHoldRun, AskedList, AskedListingRun, AskedPanel,
+    AskedPanelRun, AskedRead,
 };
 
 /// Each seed's first cases are run.
@@ -52,6 +56,8 @@ const SEEDS: [u64; 4] = [1, 2026, 0xC0FFEE, 0x5EED_5EED_5EED_5EED];
 const CASES_EACH: usize = 5600;
 /// And each seed's first pairs of runs (request Q-14).
 const PAIRS_EACH: usize = 1000;
+/// And each seed's first bus logs (request Q-12).
+const LOGS_EACH: usize = 3000;
 
 #[derive(Default)]
 struct Tally {
@@ -93,14 +99,16 @@ pub fn test() -> bool {
             coverage.add(&met);
         }
     }
-    let pairs = SEEDS.len() * PAIRS_EACH;
-    let generated = tally.passed + tally.failed - fixed - pairs;
+    let (pairs, logs) = (SEEDS.len() * PAIRS_EACH, SEEDS.len() * LOGS_EACH);
+    let generated = tally.passed + tally.failed - fixed - pairs - logs;
     println!("cases  coverage\n{coverage}");
     for row in coverage.missing() {
         tally.failed += 1;
         println!("FAILED no case met: {row}");
     }
-    println!("{fixed} fixed cases, {generated} generated cases, {pairs} pairs of runs");
+    println!(
+        "{fixed} fixed cases, {generated} generated cases, {pairs} pairs of runs, {logs} bus logs"
+    );
     println!("{} passed, {} failed", tally.passed, tally.failed);
     tally.failed == 0
 }
@@ -115,6 +123,10 @@ fn run_seed(seed: u64) -> (Vec<(String, Result<(), String>)>, Coverage) {
     outcomes.extend((0..PAIRS_EACH).map(|number| {
         let tried = paired(|| pair(seed, number), &mut coverage);
         (format!("pair {number} of seed {seed}"), tried)
+    }));
+    outcomes.extend((0..LOGS_EACH).map(|number| {
+        let tried = logged(|| bus_log(seed, number), &mut coverage);
+        (format!("bus log {number} of seed {seed}"), tried)
     }));
     (outcomes, coverage)
 }
@@ -134,6 +146,9 @@ pub struct Ran {
     pub lists: Vec<AskedList>,
     pub reads: Vec<AskedRead>,
     pub listing_runs: Vec<AskedListingRun>,
+    /// The bus logs it converted, and the programs for these (request Q-12).
+    pub bus_logs: Vec<AskedBusLog>,
+    pub bus_log_runs: Vec<AskedBusLogRun>,
 }
 
 /// Runs the fixed cases for another program to be asked the same.
@@ -154,6 +169,8 @@ fn ran((name, case): (&'static str, fn())) -> Ran {
         lists: recorded::lists(),
         reads: recorded::reads(),
         listing_runs: recorded::listing_runs(),
+        bus_logs: recorded::bus_logs(),
+        bus_log_runs: recorded::bus_log_runs(),
     }
 }
 
@@ -183,6 +200,16 @@ pub fn fixed_texts() -> Vec<Vec<u8>> {
     texts.into_iter().collect()
 }
 
+/// The bus logs that the fixed cases of request Q-12 convert, in order.
+pub fn fixed_bus_logs() -> Vec<AskedBusLog> {
+    fixed::buslog_cases().into_iter().map(ran).flat_map(|ran| ran.bus_logs).collect()
+}
+
+/// The files that its programs are asked in them.
+pub fn fixed_bus_log_runs() -> Vec<AskedBusLogRun> {
+    fixed::buslog_cases().into_iter().map(ran).flat_map(|ran| ran.bus_log_runs).collect()
+}
+
 /// What a fixed case asked, tried for its nesting.
 fn fixed_nesting(asked: &[Case]) -> Result<(), String> {
     let tried = catch_unwind(|| asked.iter().try_for_each(|c| nesting::try_asked(c).map(|_| ())));
@@ -199,6 +226,13 @@ pub fn generated(made: &Made, coverage: &mut Coverage) -> Result<(), String> {
 /// Tries a pair of runs and counts what it met. It is made in here, for making it runs the rules.
 pub fn paired(make: impl Fn() -> Pair, coverage: &mut Coverage) -> Result<(), String> {
     let tried = catch_unwind(AssertUnwindSafe(|| nothing::try_pair(&make())));
+    let met = tried.map_err(|panic| panic_text(&*panic))??;
+    coverage.count(&met).map_err(|row| format!("met what cannot be: {row}"))
+}
+
+/// Tries a bus log and counts what it met. It is made in here, for making it runs the rules.
+pub fn logged(make: impl Fn() -> BusLog, coverage: &mut Coverage) -> Result<(), String> {
+    let tried = catch_unwind(AssertUnwindSafe(|| buslogs::try_bus_log(&make())));
     let met = tried.map_err(|panic| panic_text(&*panic))??;
     coverage.count(&met).map_err(|row| format!("met what cannot be: {row}"))
 }

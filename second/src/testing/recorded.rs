@@ -3,6 +3,7 @@
 
 use std::cell::RefCell;
 
+use crate::buslog::{Converted, Cursor};
 use crate::cases::Case;
 use crate::check::{Check, accept};
 use crate::hold::Held;
@@ -13,7 +14,7 @@ use crate::play::Played;
 use crate::program::{HoldTold, NoPanel};
 use crate::state::state_length;
 use crate::step::Stepped;
-use crate::{listing_run, program, stream};
+use crate::{buslog_run, listing_run, program, stream};
 
 thread_local! {
     static ASKED: RefCell<Vec<Case>> = const { RefCell::new(vec![]) };
@@ -24,6 +25,8 @@ thread_local! {
     static LISTS: RefCell<Vec<AskedList>> = const { RefCell::new(vec![]) };
     static READS: RefCell<Vec<AskedRead>> = const { RefCell::new(vec![]) };
     static LISTING_RUNS: RefCell<Vec<AskedListingRun>> = const { RefCell::new(vec![]) };
+    static BUS_LOGS: RefCell<Vec<AskedBusLog>> = const { RefCell::new(vec![]) };
+    static BUS_LOG_RUNS: RefCell<Vec<AskedBusLogRun>> = const { RefCell::new(vec![]) };
 }
 
 /// A panel that was asked for, and what the rules answered.
@@ -111,6 +114,30 @@ pub struct AskedListingRun {
     pub told: Told,
 }
 
+/// A bus log that was converted, and what the rules answered.
+#[derive(Clone, PartialEq, Eq, Debug)]
+pub struct AskedBusLog {
+    pub table: Vec<u32>,
+    pub interfaces: Vec<u8>,
+    pub log: Vec<u8>,
+    pub from: Cursor,
+    /// How many words of output are lent.
+    pub room: usize,
+    pub converted: Converted,
+}
+
+/// What `canlog TABLE INTERFACES LOG` or `day TABLE INTERFACES LOG` was asked, by the files' bytes,
+/// and what it tells.
+#[derive(Clone, PartialEq, Eq, Debug)]
+pub struct AskedBusLogRun {
+    /// `day`, else `canlog`.
+    pub plays: bool,
+    pub table: Vec<u8>,
+    pub interfaces: Vec<u8>,
+    pub log: Vec<u8>,
+    pub told: Told,
+}
+
 /// What was asked since this was called last.
 pub fn asked() -> Vec<Case> {
     ASKED.take()
@@ -149,6 +176,16 @@ pub fn reads() -> Vec<AskedRead> {
 /// The programs that list and read.
 pub fn listing_runs() -> Vec<AskedListingRun> {
     LISTING_RUNS.take()
+}
+
+/// The bus logs that were converted.
+pub fn bus_logs() -> Vec<AskedBusLog> {
+    BUS_LOGS.take()
+}
+
+/// The programs that convert and play them.
+pub fn bus_log_runs() -> Vec<AskedBusLogRun> {
+    BUS_LOG_RUNS.take()
 }
 
 fn note(table: &[u32], state: &[u32], room: usize, events: &[u32]) {
@@ -333,6 +370,37 @@ pub fn read_run(text: &[u8]) -> Told {
 fn noted_run(lists: bool, file: &[u8], told: Told) -> Told {
     let asked = AskedListingRun { lists, file: file.to_vec(), told: told.clone() };
     LISTING_RUNS.with_borrow_mut(|runs| runs.push(asked));
+    told
+}
+
+pub fn convert(
+    table: &[u32],
+    interfaces: &[u8],
+    log: &[u8],
+    from: Cursor,
+    room: usize,
+) -> Converted {
+    let converted = crate::convert(table, interfaces, log, from, room);
+    let (table, interfaces, log) = (table.to_vec(), interfaces.to_vec(), log.to_vec());
+    let asked = AskedBusLog { table, interfaces, log, from, room, converted: converted.clone() };
+    BUS_LOGS.with_borrow_mut(|logs| logs.push(asked));
+    converted
+}
+
+/// What the program tells that converts a bus log.
+pub fn canlog_run(table: &[u8], interfaces: &[u8], log: &[u8]) -> Told {
+    noted_log(false, table, interfaces, log, buslog_run::canlog(table, interfaces, log))
+}
+
+/// What the program tells that plays one.
+pub fn day_run(table: &[u8], interfaces: &[u8], log: &[u8]) -> Told {
+    noted_log(true, table, interfaces, log, buslog_run::day(table, interfaces, log))
+}
+
+fn noted_log(plays: bool, table: &[u8], interfaces: &[u8], log: &[u8], told: Told) -> Told {
+    let (table, interfaces, log) = (table.to_vec(), interfaces.to_vec(), log.to_vec());
+    let asked = AskedBusLogRun { plays, table, interfaces, log, told: told.clone() };
+    BUS_LOG_RUNS.with_borrow_mut(|runs| runs.push(asked));
     told
 }
 

@@ -1,5 +1,5 @@
 //! Fixed cases: each a few words long, its outcome worked out by hand from
-//! documents 01 and 02 and named after the sentence or
+//! documents 01 and 02 and named after the sentence or
 //! reading it tells apart.
 //!
 //! Expected words stand in hex, so that no layout is judged by itself:
@@ -22,6 +22,11 @@ macro_rules! fixed_cases {
 mod agreement;
 mod arbitration;
 mod bound;
+mod buslog;
+mod buslog_lists;
+mod buslog_run;
+mod buslog_started;
+mod buslog_times;
 mod clears;
 mod cost;
 mod demand3;
@@ -108,6 +113,11 @@ pub fn all() -> Vec<(&'static str, fn())> {
         reading::CASES,
         listing_run::CASES,
         listing_started::CASES,
+        buslog::CASES,
+        buslog_times::CASES,
+        buslog_lists::CASES,
+        buslog_run::CASES,
+        buslog_started::CASES,
         streams::CASES,
         demand3::CASES,
         nesting::CASES,
@@ -120,6 +130,11 @@ pub fn all() -> Vec<(&'static str, fn())> {
 /// Those of request Q-4 that any program can run: this one need not be started for them.
 pub fn listing_cases() -> Vec<(&'static str, fn())> {
     [listing::CASES, reading::CASES, listing_run::CASES].concat()
+}
+
+/// Those of request Q-12 that any program can run.
+pub fn buslog_cases() -> Vec<(&'static str, fn())> {
+    [buslog::CASES, buslog_times::CASES, buslog_lists::CASES, buslog_run::CASES].concat()
 }
 
 /// 255: a rule's missing list.
