@@ -14,7 +14,7 @@ use Rattle.buslog.specs.declared.reading.Step.{Step}
 use Rattle.buslog.specs.Promises.{cursorAs, endNumber}
 use Rattle.buslog.specs.Inside.{GivesTicks, eventsOf, fits, Gives}
 
-take-ticks : (k n : ℕ) → k ≤ n → take k (replicate n tickWord) ≡ replicate k tickWord
+pub take-ticks : (k n : ℕ) → k ≤ n → take k (replicate n tickWord) ≡ replicate k tickWord
 take-ticks zero n h = refl
 take-ticks (suc k) zero h = absurd (omega arith)
 take-ticks (suc k) (suc n) h = ap (λ (xs : List ℕ). tickWord ∷ xs) (take-ticks k n (omega arith))

@@ -8,3 +8,4 @@ pub mod Called
 pub mod Giving
 pub mod Taking
 pub mod Logs
+pub mod Resuming

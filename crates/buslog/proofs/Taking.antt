@@ -141,7 +141,7 @@ module _ (t names log : List ℕ) (at : ℕ) (c : CursorRead) (out : List ℕ) (
 
 -- lines one after the other
 
-more-than-none : (n : ℕ) → (n ≡ 0 → ⊥) → 0 < n
+pub more-than-none : (n : ℕ) → (n ≡ 0 → ⊥) → 0 < n
 more-than-none zero some = absurd (some refl)
 more-than-none (suc n) some = omega arith
 
@@ -149,7 +149,7 @@ shorter : (p : Piece) (xs : List ℕ) → length (behind p xs) ≤ length xs
 unfolding behind
 shorter p xs = omega (arith, length-drop (length (bytesOf p xs) + 1) xs)
 
-lines-shorter : (xs : List ℕ) → 0 < length xs → length (linesBehind xs) < length xs
+pub lines-shorter : (xs : List ℕ) → 0 < length xs → length (linesBehind xs) < length xs
 unfolding linesBehind behind
 lines-shorter xs h =
     let first : length (atSeconds xs) < length xs = omega (arith, length-drop (length (bytesOf opening xs) + 1) xs) in
@@ -166,7 +166,7 @@ lines-shorter xs h =
 
 module _ (t names : List ℕ) (words : ℕ) where
   -- a line that is read leaves less to read
-  less-left : (r : Reading) → 0 < length (r .rest) → readLine t names words r .answer ≡ 0 → length (readLine t names words r .rest) < length (r .rest)
+  pub less-left : (r : Reading) → 0 < length (r .rest) → readLine t names words r .answer ≡ 0 → length (readLine t names words r .rest) < length (r .rest)
   unfolding readLine
   less-left r h e =
       split (eqb (fault t names (r .cursor) (r .rest)) 0)

@@ -44,3 +44,7 @@ lineOf r = refusedLine (record { answer = endNumber (r .end); cursor = cursorAs 
 abbrev pub ReadsLog : List ℕ → List ℕ → List ℕ → Cursor → List ℕ → Step → List ℕ → Type 0
 ReadsLog t names log c out r out′ =
     ReadsLogIn t names log (cursorAs c) out (endNumber (r .end)) (lineOf r) (r .events) (r .bytes) (cursorAs (r .cursor)) out′
+
+-- what reading came to, behind events that stand before it
+abbrev pub behindThese : List ℕ → Reading → Reading
+behindThese es r = record { answer = r .answer; cursor = r .cursor; events = es ++ r .events; rest = r .rest }
