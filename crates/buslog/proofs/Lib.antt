@@ -9,3 +9,6 @@ pub mod Giving
 pub mod Taking
 pub mod Logs
 pub mod Resuming
+pub mod Ended
+pub mod Parting
+pub mod Exact

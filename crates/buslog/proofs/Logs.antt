@@ -72,7 +72,7 @@ module _ (t names log : List ℕ) (c : Cursor) (out : List ℕ) where
 
 -- Two results allowed are the same: answer, line, cursor, counts and every lent word.
 
-same-rest : (log : List ℕ) (m m′ : ℕ) → m ≤ length log → m′ ≤ length log → drop m log ≡ drop m′ log → m ≡ m′
+pub same-rest : (log : List ℕ) (m m′ : ℕ) → m ≤ length log → m′ ≤ length log → drop m log ≡ drop m′ log → m ≡ m′
 same-rest log m m′ h h′ e = omega (arith, sym (length-drop m log) ∙ ap length e ∙ length-drop m′ log)
 
 module _ {t names log : List ℕ} {c : rulebook.Cursor} {out : List ℕ} {k l n m k′ l′ n′ m′ : ℕ} {d d′ : rulebook.Cursor} {out′ out″ : List ℕ}

@@ -17,7 +17,7 @@ use Rattle.buslog.specs.Promises.{behindThese}
 use Rattle.buslog.proofs.Giving.{take-ticks}
 use Rattle.buslog.proofs.Taking.{refused-stays, read-stays, turn, enough, less-left, lines-shorter, more-than-none}
 
-no-turn : (t names : List ℕ) (words : ℕ) (r : Reading) → readLines 0 t names words r ≡ r
+pub no-turn : (t names : List ℕ) (words : ℕ) (r : Reading) → readLines 0 t names words r ≡ r
 unfolding readLines
 no-turn t names words r = refl
 
@@ -52,17 +52,32 @@ module _ (t names : List ℕ) where
   unfolding readLine
   refused-line-answer words s e = rw e
 
+  refused-line : (words : ℕ) (s : Reading) → eqb (fault t names (s .cursor) (s .rest)) 0 ≡ false
+      → readLine t names words s ≡ answered (fault t names (s .cursor) (s .rest)) s
+  unfolding readLine
+  refused-line words s e = rw e
+
+  without-room : (words : ℕ) (s : Reading) → fault t names (s .cursor) (s .rest) ≡ 0
+      → leb (length (lineEvents t names (s .cursor) (s .rest))) (room words s) ≡ false → readLine t names words s .answer ≡ 11
+  unfolding readLine
+  without-room words s good short = rw (good, short)
+
   -- a line without room, and the same line again behind the ticks that fitted
 
-  fault-not-room : (c : Cursor) (line : List ℕ) → fault t names c line ≡ 11 → ⊥
+  pub fault-not : (c : Cursor) (line : List ℕ) (k : ℕ) → (k ≡ 0 → ⊥) → (k ≡ 12 → ⊥) → (k ≡ 14 → ⊥) → (k ≡ 15 → ⊥) → fault t names c line ≡ k → ⊥
   unfolding fault
-  fault-not-room c line e =
+  fault-not c line k a b d f e =
       split (spelt line)
-      (λ f. split (goesBack c (time line))
-      (λ g. let z : 14 ≡ 11 = rw (f, g) at e in omega (arith, z))
-      (λ g. split (eqb (networkOf t names line) (networks t))
-      (λ h. let z : 15 ≡ 11 = rw (f, g, h) at e in omega (arith, z)) (λ h. let z : 0 ≡ 11 = rw (f, g, h) at e in omega (arith, z))))
-      (λ f. let z : 12 ≡ 11 = rw f at e in omega (arith, z))
+      (λ g. split (goesBack c (time line))
+      (λ h. let z : 14 ≡ k = rw (g, h) at e in d (sym z))
+      (λ h. split (eqb (networkOf t names line) (networks t))
+      (λ i. let z : 15 ≡ k = rw (g, h, i) at e in f (sym z)) (λ i. let z : 0 ≡ k = rw (g, h, i) at e in a (sym z))))
+      (λ g. let z : 12 ≡ k = rw g at e in b (sym z))
+
+  fault-not-room : (c : Cursor) (line : List ℕ) → fault t names c line ≡ 11 → ⊥
+  fault-not-room c line =
+      fault-not c line 11 (λ (z : 11 ≡ 0). omega (arith, z)) (λ (z : 11 ≡ 12). omega (arith, z)) (λ (z : 11 ≡ 14). omega (arith, z))
+      (λ (z : 11 ≡ 15). omega (arith, z))
 
   module _ (c : Cursor) (line : List ℕ) (x : ℕ) where
     same-fault : fault t names (moreGiven c x) line ≡ fault t names c line
@@ -253,6 +268,49 @@ module _ (t names : List ℕ) where
         ap (λ (r : Reading). readLines last t names b (answered 0 r)) went
         ∙ first-line turns last s ok in-a enough-turns some (resume turns last) (ap (λ (r : Reading). r .answer) (sym went) ∙ full))
 
+-- where room was not wanting, more of it changes nothing
+module _ (t names : List ℕ) (a b : ℕ) (more : a ≤ b) where
+  line-roomier : (s : Reading) → (readLine t names a s .answer ≡ 11 → ⊥) → readLine t names a s ≡ readLine t names b s
+  line-roomier s room-left =
+      split (eqb (fault t names (s .cursor) (s .rest)) 0)
+      (λ e.
+      let good = eqb-true (fault t names (s .cursor) (s .rest)) 0 e in
+      split (leb (length (lineEvents t names (s .cursor) (s .rest))) (room a s)) (λ f. alike t names a b more s good f)
+      (λ f. absurd (room-left (without-room t names a s good f))))
+      (λ e. refused-line t names a s e ∙ sym (refused-line t names b s e))
+
+  stays-full : (turns : ℕ) (s : Reading) → s .answer ≡ 11 → readLines turns t names a s .answer ≡ 11
+  stays-full turns s full =
+      ap (λ (x : Reading). x .answer) (refused-stays t names a turns s (λ (z : s .answer ≡ 0). omega (arith, full))) ∙ full
+
+  lines-roomier : (turns : ℕ) (s : Reading) → s .answer ≡ 0 → (readLines turns t names a s .answer ≡ 11 → ⊥)
+      → readLines turns t names a s ≡ readLines turns t names b s
+  lines-roomier zero s ok room-left = no-turn t names a s ∙ sym (no-turn t names b s)
+  lines-roomier (suc turns) s ok room-left =
+      split (eqb (length (s .rest)) 0)
+      (λ e. read-stays t names a (suc turns) s (eqb-true _ _ e) ∙ sym (read-stays t names b (suc turns) s (eqb-true _ _ e)))
+      (λ e.
+      let some : 0 < length (s .rest) = more-than-none (length (s .rest)) (eqb-false _ _ e) in
+      let went = turn t names a turns s some ok in
+      let next = readLine t names a s in
+      let left-then : readLines turns t names a next .answer ≡ 11 → ⊥ =
+      λ (z : readLines turns t names a next .answer ≡ 11). room-left (ap (λ (x : Reading). x .answer) went ∙ z) in
+      let same : next ≡ readLine t names b s = line-roomier s (λ (z : next .answer ≡ 11). left-then (stays-full turns next z)) in
+      went
+      ∙ split (eqb (next .answer) 0)
+      (λ f. lines-roomier turns next (eqb-true _ _ f) left-then)
+      (λ f. refused-stays t names a turns next (eqb-false _ _ f) ∙ sym (refused-stays t names b turns next (eqb-false _ _ f)))
+      ∙ ap (λ (r : Reading). readLines turns t names b r) same
+      ∙ sym (turn t names b turns s some ok))
+
+pub log-roomier : (t names log : List ℕ) (c : Cursor) (a b : ℕ) → a ≤ b → (readLog t names log c a .answer ≡ 11 → ⊥) → readLog t names log c a ≡ readLog t names log c b
+unfolding readLog
+log-roomier t names log c a b more room-left =
+    split (accepted t)
+    (λ e. split (namesStand (networks t) names)
+    (λ n. rw (e, n) (lines-roomier t names a b more (length log) (unread c log) refl (rw (e, n) at room-left))) (λ n. rw (e, n)))
+    (λ e. rw e)
+
 -- what no line can lengthen, and an output without room is full
 
 module _ (t names : List ℕ) (words : ℕ) where
@@ -272,9 +330,12 @@ module _ (t names : List ℕ) (words : ℕ) where
       (λ z. rw (y, z, length-append (r .events) (lineEvents t names (r .cursor) (r .rest))) (omega (arith, leb-true (length (lineEvents t names (r .cursor) (r .rest))) (words - length (r .events)) z)))
       (λ z.
       let less = leb-false (length (lineEvents t names (r .cursor) (r .rest))) (words - length (r .events)) z in
-      rw
-      (y, z, length-append (r .events) (take (words - length (r .events)) (lineEvents t names (r .cursor) (r .rest))),
-      length-take-le (words - length (r .events)) (lineEvents t names (r .cursor) (r .rest)) (omega arith))
+      rw (
+        y,
+        z,
+        length-append (r .events) (take (words - length (r .events)) (lineEvents t names (r .cursor) (r .rest))),
+        length-take-le (words - length (r .events)) (lineEvents t names (r .cursor) (r .rest)) (omega arith),
+      )
       (omega arith)))
       (λ y. rw y h)
 
@@ -286,9 +347,12 @@ module _ (t names : List ℕ) (words : ℕ) where
       (λ z. let wrong : 0 ≡ 11 = rw (y, z) at full in absurd (omega (arith, wrong)))
       (λ z.
       let less = leb-false (length (lineEvents t names (r .cursor) (r .rest))) (words - length (r .events)) z in
-      rw
-      (y, z, length-append (r .events) (take (words - length (r .events)) (lineEvents t names (r .cursor) (r .rest))),
-      length-take-le (words - length (r .events)) (lineEvents t names (r .cursor) (r .rest)) (omega arith))
+      rw (
+        y,
+        z,
+        length-append (r .events) (take (words - length (r .events)) (lineEvents t names (r .cursor) (r .rest))),
+        length-take-le (words - length (r .events)) (lineEvents t names (r .cursor) (r .rest)) (omega arith),
+      )
       (omega arith)))
       (λ y. absurd (fault-not-room t names (r .cursor) (r .rest) (rw y at full)))
 
@@ -304,7 +368,19 @@ module _ (t names : List ℕ) (words : ℕ) where
       (omega (arith, shrinks turns (readLine t names words r), line-shrinks r some)))
       (λ f. rw (refused-stays t names words (suc turns) r (eqb-false _ _ f)) (omega arith)))
 
-  full-up : (turns : ℕ) (r : Reading) → r .answer ≡ 0 → length (r .events) ≤ words → readLines turns t names words r .answer ≡ 11
+  -- no more is written than there is room for
+  pub lines-fill : (turns : ℕ) (r : Reading) → length (r .events) ≤ words → length (readLines turns t names words r .events) ≤ words
+  lines-fill zero r h = rw (no-turn t names words r) h
+  lines-fill (suc turns) r h =
+      split (eqb (length (r .rest)) 0)
+      (λ e. rw (read-stays t names words (suc turns) r (eqb-true _ _ e)) h)
+      (λ e. split (eqb (r .answer) 0)
+      (λ f.
+      rw (turn t names words turns r (more-than-none (length (r .rest)) (eqb-false _ _ e)) (eqb-true _ _ f))
+      (lines-fill turns (readLine t names words r) (line-fills r h)))
+      (λ f. rw (refused-stays t names words (suc turns) r (eqb-false _ _ f)) h))
+
+  pub full-up : (turns : ℕ) (r : Reading) → r .answer ≡ 0 → length (r .events) ≤ words → readLines turns t names words r .answer ≡ 11
       → length (readLines turns t names words r .events) ≡ words
   full-up zero r ok h full = absurd (omega (arith, sym (ap (λ (x : Reading). x .answer) (no-turn t names words r)) ∙ full, ok))
   full-up (suc turns) r ok h full =

@@ -1,5 +1,5 @@
 -- What `read_log` promises: the table, the list, the log, the cursor and the output, the answer, and every lent word afterwards.
-use Prim.Native.Nat.{ℕ, _≤_}
+use Prim.Native.Nat.{ℕ, _-_, _/_, _≤_}
 use mathlib.Core.Path.{_≡_}
 use mathlib.Core.List.{List, [], _++_}
 use lib.ListN.{length, drop}
@@ -48,3 +48,9 @@ ReadsLog t names log c out r out′ =
 -- what reading came to, behind events that stand before it
 abbrev pub behindThese : List ℕ → Reading → Reading
 behindThese es r = record { answer = r .answer; cursor = r .cursor; events = es ++ r .events; rest = r .rest }
+
+-- a cursor between two lines: "the ticks for each whole 10 milliseconds passed since" the first line's time are given, all of them and no more
+pub record WholeTicks (c : rulebook.Cursor) : Type 0 where
+  pub unbegun : c .lines ≡ 0 → c .given ≡ 0
+  pub forward : (c .lines ≡ 0 → ⊥) → c .first ≤ c .last
+  pub exact : (c .lines ≡ 0 → ⊥) → c .given ≡ (c .last - c .first) / 10000

@@ -19,6 +19,7 @@ use Rattle.hold.proofs.Exactly.{case-found}
 use Rattle.demands.proofs.Panel.{panel-answered}
 use Rattle.demands.proofs.Plays.{play-answered}
 use Rattle.demands.proofs.Listed.{list-answered, read-answered}
+use Rattle.demands.proofs.BusLogs.{log-answered}
 use Rattle.demands.specs.Demand1.{TableAnswered, FreshAnswered, StateAnswered, EventAnswered, HoldAnswered, Demand1}
 
 -- The table check.
@@ -121,4 +122,5 @@ demand-1 =
       hold = hold-answered;
       list = list-answered;
       read = read-answered;
+      readLog = log-answered;
     }

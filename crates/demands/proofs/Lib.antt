@@ -4,6 +4,7 @@ pub mod Singles
 pub mod Resumed
 pub mod Panel
 pub mod Listed
+pub mod BusLogs
 pub mod Demand1
 pub mod Demand2
 pub mod Calls

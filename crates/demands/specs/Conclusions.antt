@@ -28,10 +28,12 @@ use Rattle.hold.specs.Cases.{Case}
 use Rattle.listing.specs.Lines.{listing, ListingOf}
 use Rattle.listing.specs.Promises.{ListsIn, ReadsIn}
 use Rattle.listing.specs.Back.{longest, SameBytes}
+use Rattle.rulebook.specs.BusLog.{Cursor, Reading, readLog, refusedLine}
+use Rattle.buslog.specs.Promises.{ReadsLogIn, WholeTicks}
 use Rattle.demands.specs.Calls.{Played}
 use Rattle.demands.specs.Sent.{Sent, endedBy}
 use Rattle.demands.specs.Plays.{PlayAnswered, PlayGoes}
-use Rattle.demands.specs.Demand1.{TableAnswered, FreshAnswered, StateAnswered, EventAnswered, PanelAnswered, HoldAnswered, ListAnswered, ReadAnswered}
+use Rattle.demands.specs.Demand1.{TableAnswered, FreshAnswered, StateAnswered, EventAnswered, PanelAnswered, HoldAnswered, ListAnswered, ReadAnswered, LogAnswered}
 use Rattle.demands.specs.Demand2.{Steps}
 use Rattle.demands.specs.Demand3.{Demand3After}
 use Rattle.demands.specs.Nothing.{NothingAfter}
@@ -153,3 +155,28 @@ pub record OfReading (text lent : List ℕ) (k n l : ℕ) (lent′ : List ℕ) :
   -- "listing what was read gives the same bytes": whatever bytes are lent to a call that lists these words, if they are enough
   pub back : k ≡ 0 → (out : List ℕ) (k₂ m : ℕ) (out′ : List ℕ) → length text ≤ length out → ListsIn (take n lent′) out k₂ m out′
       → SameBytes text k₂ m out′
+
+-- what reading a log comes to: its answer, the refused line, the cursor, the events and what is not read
+pub record Came (r : Reading) (k l : ℕ) (c : Cursor) (events rest : List ℕ) : Type 0 where
+  pub answer : k ≡ r .answer
+  pub line : l ≡ refusedLine r
+  pub cursor : c ≡ r .cursor
+  pub written : events ≡ r .events
+  pub unread : rest ≡ r .rest
+
+-- Q-12, of a bus log read from a cursor on: k the answer, l the line that is refused, n the events, m the bytes read, and the cursor then
+pub record OfLog (t names log : List ℕ) (c : Cursor) (out : List ℕ) (k l n m : ℕ) (c′ : Cursor) (out′ : List ℕ) : Type 0 where
+  pub answered : LogAnswered t names log c out k l n m c′ out′
+  -- the events stand at the front: "Every refusal keeps the events written before it"
+  pub events : take n out′ ≡ readLog t names log c (length out) .events
+  -- Where there was no room: a call with the rest of the log and the cursor, into whatever output, gives the events that one call with both outputs'
+  -- room gives behind these, and ends as that one does.
+  pub on : k ≡ 11 → (out₂ : List ℕ) (k₂ l₂ n₂ m₂ : ℕ) (c₂ : Cursor) (out₂′ : List ℕ) → ReadsLogIn t names (drop m log) c′ out₂ k₂ l₂ n₂ m₂ c₂ out₂′
+      → Came (readLog t names log c (length out + length out₂)) k₂ l₂ c₂ (take n out′ ++ take n₂ out₂′) (drop m₂ (drop m log))
+  -- Where all was read: a call with what follows in the log and the cursor, into an output with at least the room that was left, gives behind these
+  -- events what one call with both parts gives, and ends as that one does.
+  pub parts : k ≡ 0 → (more out₂ : List ℕ) (k₂ l₂ n₂ m₂ : ℕ) (c₂ : Cursor) (out₂′ : List ℕ) → length out ≤ n + length out₂
+      → ReadsLogIn t names more c′ out₂ k₂ l₂ n₂ m₂ c₂ out₂′
+      → Came (readLog t names (log ++ more) c (n + length out₂)) k₂ l₂ c₂ (take n out′ ++ take n₂ out₂′) (drop m₂ more)
+  -- "time exact": between two lines the ticks given are the whole 10 milliseconds since the first line's time
+  pub exact : (k ≡ 11 → ⊥) → WholeTicks c → WholeTicks c′

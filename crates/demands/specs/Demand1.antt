@@ -2,14 +2,16 @@
 -- document 01, first fault first, and changes no word of state or trace." A field an entry, over what it promises in numbers.
 use mathlib.Core.Path.{_≡_}
 use mathlib.Core.Logic.{_⊎_}
-use mathlib.Core.Bool.{true, false}
-use mathlib.Core.List.{List}
+use mathlib.Core.Bool.{true, false, _&&_}
+use mathlib.Core.List.{List, []}
 use Prim.Native.Nat.{ℕ, _≤_, _<_}
-use lib.ListN.{length}
+use lib.ListN.{length, drop}
 use Rattle.rulebook.specs.Words.{between}
+use Rattle.rulebook.specs.Table.{networks}
 use Rattle.rulebook.specs.Reasons.{check, accepted, bound}
 use Rattle.rulebook.specs.State.{stateLength, fits, fresh}
 use Rattle.rulebook.specs.Step.{firstFault}
+use Rattle.rulebook.specs.BusLog.{Cursor, namesStand, nextLine, fault}
 use Rattle.laws.specs.Acceptance.{Given}
 use Rattle.manager.specs.Promises.{ChecksTableIn, MakesFreshIn, ChecksStateIn, TakesEventIn, PlaysIn}
 use Rattle.panel.specs.Printed.{panel}
@@ -17,6 +19,7 @@ use Rattle.panel.specs.Promises.{ShowsIn}
 use Rattle.hold.specs.Promises.{HoldsIn}
 use Rattle.listing.specs.Lines.{listing, ListingOf, BadLine}
 use Rattle.listing.specs.Promises.{ListsIn, ReadsIn}
+use Rattle.buslog.specs.Promises.{ReadsLogIn}
 use Rattle.demands.specs.Plays.{PlayAnswered}
 
 -- the table check: the first reason that holds, at the lowest word that breaks its rule; B of an accepted table
@@ -88,6 +91,18 @@ pub record ReadAnswered (text lent : List ℕ) (k n l : ℕ) (lent′ : List ℕ
   pub wordsKept : (k ≡ 0 → ⊥) → lent′ ≡ lent
   pub noWords : (k ≡ 0 → ⊥) → n ≡ 0
 
+-- a log read from a cursor on: a table with a reason, then a list that is not N different names, "refused as line 0" with nothing written; then the first
+-- line that is refused, by its first fault, its number l with it, and whatever refuses leaves the words behind the events as they were
+pub record LogAnswered (t names log : List ℕ) (c : Cursor) (out : List ℕ) (k l n m : ℕ) (c′ : Cursor) (out′ : List ℕ) : Type 0 where
+  pub noTable : accepted t ≡ false → k ≡ 1
+  pub noNames : accepted t ≡ true → namesStand (networks t) names ≡ false → k ≡ 13
+  pub lineZero : (accepted t && namesStand (networks t) names) ≡ false → (l ≡ 0) × (n ≡ 0) × (m ≡ 0) × (c′ ≡ c) × (out′ ≡ out)
+  pub read : accepted t ≡ true → namesStand (networks t) names ≡ true → k ≡ 0 → (l ≡ 0) × (drop m log ≡ [])
+  pub refused : accepted t ≡ true → namesStand (networks t) names ≡ true → (k ≡ 0 → ⊥) → l ≡ nextLine (c′ .lines)
+  pub faulty : accepted t ≡ true → namesStand (networks t) names ≡ true → (k ≡ 0 → ⊥) → (k ≡ 11 → ⊥) → fault t names c′ (drop m log) ≡ k
+  pub noRoom : k ≡ 11 → n ≡ length out
+  pub wordsKept : drop n out′ ≡ drop n out
+
 pub record Demand1 : Type 0 where
   pub checkTable : (t : List ℕ) (reason place b : ℕ) → ChecksTableIn t reason place b → TableAnswered t reason place b
   pub makeFresh : (t s : List ℕ) (k : ℕ) (s′ : List ℕ) → MakesFreshIn t s k s′ → FreshAnswered t s k s′
@@ -104,3 +119,6 @@ pub record Demand1 : Type 0 where
   -- Q-4: of a listing, and of one read back
   pub list : (t out : List ℕ) (k n : ℕ) (out′ : List ℕ) → ListsIn t out k n out′ → ListAnswered t out k n out′
   pub read : (text lent : List ℕ) (k n l : ℕ) (lent′ : List ℕ) → ReadsIn text lent k n l lent′ → ReadAnswered text lent k n l lent′
+  -- Q-12: of a bus log
+  pub readLog : (t names log : List ℕ) (c : Cursor) (out : List ℕ) (k l n m : ℕ) (c′ : Cursor) (out′ : List ℕ)
+      → ReadsLogIn t names log c out k l n m c′ out′ → LogAnswered t names log c out k l n m c′ out′

@@ -1,12 +1,15 @@
-// The entries of `manager`, and what stands beside and above it: the panel, a supplier's recording held against ours, a table listed and read back.
+// The entries of `manager`, and what stands beside and above it: the panel, a supplier's recording held against ours, a table listed and read back, a bus log read.
 ghost use Rattle.tables.specs.Finding.{finding};
 ghost use Rattle.states.specs.Made.{numberOf as madeNumber};
 ghost use Rattle.events.specs.Answers.{numberOf, countOf, visitsOf};
 ghost use Rattle.manager.specs.Answers.{stateNumber, endNumber};
-ghost use Rattle.demands.specs.Conclusions.{OfTable, OfFresh, OfState, OfEvent, OfPlay, OfPanel, OfHold, OfListing, OfReading};
+ghost use Rattle.demands.specs.Conclusions.{OfTable, OfFresh, OfState, OfEvent, OfPlay, OfPanel, OfHold, OfListing, OfReading, OfLog};
 ghost use Rattle.panel.specs.Promises.{numberOf as panelNumber, bytesOf};
 ghost use Rattle.hold.specs.Promises.{numberOf as verdictNumber, givenBy, HandsBack};
+ghost use Rattle.buslog.specs.Promises.{cursorAs, endNumber as logNumber, lineOf};
 ghost use Rattle.listing.specs.Promises.{listedNumber, bytesOf as bytesListed, readNumber, wordsOf, lineIn};
+use buslog::reading::Cursor;
+use buslog::reading::Step;
 use events::Answer;
 use hold::Held;
 use listing::reading::Reading;
@@ -86,4 +89,11 @@ pub fn read(text: &[u8], words: &mut [u32]) -> Reading
     ensures { λ r. ⌜ OfReading (now (text .entry)) (now (words .entry)) (readNumber r) (wordsOf r) (lineIn r) (now (words .exit)) ⌝ }
 {
     listing::reading::read(text, words)
+}
+
+pub fn read_log(t: &[u32], names: &[u8], log: &[u8], from: Cursor, out: &mut [u32]) -> Step
+    ensures { λ r. ⌜ OfLog (now (t .entry)) (now (names .entry)) (now (log .entry)) (cursorAs from) (now (out .entry)) (logNumber (r .end)) (lineOf r)
+        (r .events) (r .bytes) (cursorAs (r .cursor)) (now (out .exit)) ⌝ }
+{
+    buslog::reading::read_log(t, names, log, from, out)
 }

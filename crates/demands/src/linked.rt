@@ -2,7 +2,7 @@
 ghost use mathlib.Core.Path.{_≡_};
 ghost use lib.ListN.{length};
 ghost use Rattle.hold.specs.Promises.{partOf};
-ghost use Rattle.demands.specs.Conclusions.{OfTable, OfFresh, OfState, OfEvent, OfPlay, OfPanel, OfHold, OfListing, OfReading};
+ghost use Rattle.demands.specs.Conclusions.{OfTable, OfFresh, OfState, OfEvent, OfPlay, OfPanel, OfHold, OfListing, OfReading, OfLog};
 
 pub fn check_table(t: &[u32], place: &mut usize, bound: &mut u32) -> u32
     ensures { λ r. ⌜ OfTable (now (t .entry)) r (now (place .exit)) (now (bound .exit)) ⌝ }
@@ -100,4 +100,37 @@ pub fn read(text: &[u8], words: &mut [u32], count: &mut usize, line: &mut usize)
     ensures { λ r. ⌜ OfReading (now (text .entry)) (now (words .entry)) r (now (count .exit)) (now (line .exit)) (now (words .exit)) ⌝ }
 {
     gateway::herringcart_read(text, words, count, line)
+}
+
+pub fn read_log(
+    t: &[u32],
+    names: &[u8],
+    log: &[u8],
+    lines: &mut u64,
+    first: &mut u64,
+    last: &mut u64,
+    given: &mut u64,
+    out: &mut [u32],
+    line: &mut u64,
+    events: &mut usize,
+    bytes: &mut usize,
+) -> u32
+    ensures { λ r. ⌜ OfLog (now (t .entry)) (now (names .entry)) (now (log .entry))
+        (record { lines = now (lines .entry); first = now (first .entry); last = now (last .entry); given = now (given .entry) })
+        (now (out .entry)) r (now (line .exit)) (now (events .exit)) (now (bytes .exit))
+        (record { lines = now (lines .exit); first = now (first .exit); last = now (last .exit); given = now (given .exit) }) (now (out .exit)) ⌝ }
+{
+    gateway::herringcart_read_log(
+        t,
+        names,
+        log,
+        lines,
+        first,
+        last,
+        given,
+        out,
+        line,
+        events,
+        bytes,
+    )
 }
