@@ -1,5 +1,6 @@
 -- The few claims that give the definitions teeth; the laws stand in crates above.
 pub mod AtOrAbove
+pub mod BusLine
 pub mod Reached
 pub mod Marked
 pub mod Mentioned
