@@ -1,6 +1,7 @@
 /* Runs document 01's marked table through the library, the same in edition 2 with a call that fails, and a table whose rules visit
  * more than one expression word; shows operators their panels; holds a supplier's recordings against the run; lists tables as text and
- * reads them back; prints what each call gives and holds it against the documents. Leaves with status 1 at the first difference. */
+ * reads them back; turns a bus log into events; prints what each call gives and holds it against the documents. Leaves with status 1 at
+ * the first difference. */
 #include "herringcart.h"
 
 #include <inttypes.h>
@@ -479,6 +480,62 @@ static void there_and_back(void)
     expect("the same bytes", bytes == LONGEST ? (uint64_t)memcmp(lines, again, LONGEST) : 1, 0);
 }
 
+/* A log of the marked table's one network, read from a cursor in so much room, and what is said of it. */
+struct to_convert {
+    const char *what;
+    const char *interfaces;
+    size_t from, bytes, room;
+    uint32_t answer;
+    uint64_t line;
+    size_t events; /* up to so many of all */
+};
+
+/* The bench's log: a bus-off behind 25 milliseconds, and another 15 milliseconds later. Each call goes on where the one before it ended: in
+ * room for one event, which ends in the midst of a line; with a part that ends behind the second line; and with what is left. */
+static void logs(void)
+{
+    enum { EVENTS = 6, ROOM = 8 };
+    static const char log[] = "(1700000000.250037) can0 123#0011\n"
+                              "(1700000000.275036) can0 20000040#0000000000000000\n"
+                              "(1700000000.290037) can0 200000C4#\n"
+                              "(1700000000.290037) can0 321#R\n";
+    static const uint32_t all[EVENTS] = {0, 0, 0x51000000, 0, 0, 0x51000000};
+    const size_t first = (size_t)(strchr(log, '\n') - log) + 1, second = (size_t)(strchr(log + first, '\n') - log) + 1;
+    const size_t last = (size_t)(strrchr(log, '(') - log);
+    const struct to_convert parts[] = {
+        {"two names for one network", "can0\ncan1\n", 0, last, ROOM, HERRINGCART_BAD_INTERFACES, 0, 0},
+        {"in room for one event", "can0\n", 0, last, 1, HERRINGCART_NO_ROOM, 2, 1},
+        {"gone on with, up to the second line's end", "can0\n", first, second - first, ROOM, HERRINGCART_DONE, 0, 3},
+        {"another interface", "can1\n", second, last - second, ROOM, HERRINGCART_NOT_LISTED, 3, 3},
+        {"the lines behind it", "can0\n", second, sizeof log - 1 - second, ROOM, HERRINGCART_MISSPELT, 4, EVENTS},
+        {"the first line again", "can0\n", 0, last, ROOM, HERRINGCART_GOES_BACK, 4, EVENTS},
+    };
+    struct herringcart_cursor at = HERRINGCART_LOG_START;
+    size_t given = 0;
+    for (size_t i = 0; i < sizeof parts / sizeof *parts; i++) {
+        const struct to_convert *e = &parts[i];
+        uint32_t out[ROOM];
+        uint64_t line = 99;
+        size_t events = 99, bytes = 99;
+        memset(out, 0x55, sizeof out);
+        uint32_t answer = herringcart_read_log(table, TABLE_WORDS, (const uint8_t *)e->interfaces, strlen(e->interfaces),
+                                               (const uint8_t *)log + e->from, e->bytes, &at.lines, &at.first, &at.last, &at.given, out,
+                                               e->room, &line, &events, &bytes);
+        printf("log, %s: answer %" PRIu32 ", line %" PRIu64 ", bytes %zu\n", e->what, answer, line, bytes);
+        expect("answer", answer, e->answer);
+        expect("line", line, e->line);
+        expect("events", events, e->events - given);
+        expect_words("events", out, all + given, events);
+        for (size_t w = events; w < ROOM; w++)
+            expect("a word past the events", out[w], UNTOUCHED);
+        given += events;
+    }
+    expect("lines", at.lines, 3);
+    expect("the first time", at.first, UINT64_C(1700000000250037));
+    expect("the last time", at.last, UINT64_C(1700000000290037));
+    expect("ticks", at.given, 4);
+}
+
 /* Another archive than this header's may take other arguments: nothing is called with it. */
 static void version(void)
 {
@@ -527,6 +584,7 @@ int main(void)
     listings();
     readings();
     there_and_back();
+    logs();
     printf("as the documents have it\n");
     return 0;
 }

@@ -1,10 +1,11 @@
 /* Herringcart: the proved mode manager's calls for C and C++.
  *
- * Tables, states, traces, outcomes and what a supplier recorded are lent as arrays of 32-bit words, each by a pointer and its length
- * in words; a panel's lines and a table's listing are laid into an array of bytes, and a listing is read from one. docs/TABLES.md has
- * the layout of every word, and what to do about each reason and answer.
+ * Tables, states, traces, outcomes, events and what a supplier recorded are lent as arrays of 32-bit words, each by a pointer and its
+ * length in words; a panel's lines and a table's listing are laid into an array of bytes, and a listing, a bus log and a list of interfaces
+ * are read from one. docs/TABLES.md has the layout of every word, and what to do about each reason and answer.
  * Every call takes any words and bytes: it checks them for itself, and a refusal leaves every word of state and trace, every byte of
- * lines, and every word that a listing is to be read into, as it was.
+ * lines, and every word that a listing is to be read into, as it was. herringcart_read_log alone writes words and is then refused: the
+ * events of the lines before the one that is refused stay.
  *
  * What version 5.0 changes for a caller:
  *
@@ -28,6 +29,8 @@
  * 5.4 has one call more, herringcart_hold, with enum herringcart_verdict and herringcart_part. No call that was there before differs.
  * 5.5 has two calls more, herringcart_list and herringcart_read, with HERRINGCART_LISTING_BYTES and HERRINGCART_BAD_LINE. No call that was
  * there before differs.
+ * 5.6 has one call more, herringcart_read_log, with enum herringcart_log_answer and struct herringcart_cursor. No call that was there
+ * before differs.
  * docs/CHANGES.md says what the versions before changed; since 4.0 an event call lends outcomes.
  *
  * The linker does not look at arguments. A program that was compiled with the header of another version may link with this
@@ -42,17 +45,18 @@
  * no call can check for itself:
  *
  *   - No pointer is null, for a length of 0 neither: any aligned address other than null will do there.
- *   - uint32_t pointers are aligned for uint32_t, size_t pointers for size_t, uint64_t pointers for uint64_t. Lines and text may stand
- *     anywhere.
+ *   - uint32_t pointers are aligned for uint32_t, size_t pointers for size_t, uint64_t pointers for uint64_t. Lines, text, log and
+ *     interfaces may stand anywhere.
  *   - Each array is valid for its whole length for as long as the call runs: table, events, outcomes, a panel's words, theirs,
- *     their_state, a text and a `const` state to read; state, trace, lines and the words that a text is read into to read and write. All
- *     words of state and trace, all words that a text is read into and all bytes of lines must have been written once before they are
- *     lent, with whatever values: the trace's and the lines' too, for the call may read them.
+ *     their_state, a text, a log, interfaces and a `const` state to read; state, trace, lines, the words that a text is read into and those
+ *     that a log's events are laid into to read and write. All these that are written must have been written once before they are lent,
+ *     with whatever values: the trace's words and the bytes of lines too, for the call may read them. So must the four numbers of a cursor.
  *   - An array is at most PTRDIFF_MAX bytes long.
- *   - What a call writes (state, trace, lines, the words that a text is read into, *place, *bound, *count, *taken, *visits, *bytes,
- *     *number, *rest, *line) overlaps nothing else lent in the same call: visits neither count nor taken, number, rest and count not each
- *     other, and line not count. What it only reads may overlap: table, events, outcomes, a panel's words, theirs, their_state, a text
- *     and a `const` state.
+ *   - What a call writes (state, trace, lines, the words that a text is read into, those that a log's events are laid into, *place, *bound,
+ *     *count, *taken, *visits, *bytes, *number, *rest, *line, *events, a cursor's numbers) overlaps nothing else lent in the same call:
+ *     visits neither count nor taken, number, rest and count not each other, line not count, and of a log's numbers none another. What it
+ *     only reads may overlap: table, events, outcomes, a panel's words, theirs, their_state, a text, a log, interfaces and a `const`
+ *     state.
  *   - While the call runs, no other thread, interrupt or device writes what is lent, and none reads what the call
  *     writes. The table may stand in read-only memory, and any number of calls may read it at the same time.
  *
@@ -86,8 +90,9 @@
  * are known run 4,080 rule items in one event: 3.5 ms, and 5.2 ms while a port is undefined. herringcart_play checks table and state once
  * for all its events, and then an event costs what it does alone. herringcart_panel checks table and state as an event does, and then goes
  * twice through the operator's lines. herringcart_hold takes its event, and then goes once through the words that are the same on both
- * sides. herringcart_list goes twice through the table, and herringcart_read at most twice through the text. Whoever has a deadline
- * measures with the table that is to be deployed.
+ * sides. herringcart_list goes twice through the table, and herringcart_read at most twice through the text. herringcart_read_log checks
+ * the table, holds the names of the list against each other, and goes once through the log and once through the events that it lays; each
+ * line's name is held against the list's from the first on. Whoever has a deadline measures with the table that is to be deployed.
  */
 #ifndef HERRINGCART_H
 #define HERRINGCART_H
@@ -101,9 +106,9 @@
 
 /* The version of this header and of the archive beside it. docs/CHANGES.md says what each version changes. The number is
  * what herringcart_version of that archive gives. */
-#define HERRINGCART_VERSION "5.5"
+#define HERRINGCART_VERSION "5.6"
 #define HERRINGCART_VERSION_MAJOR 5
-#define HERRINGCART_VERSION_MINOR 5
+#define HERRINGCART_VERSION_MINOR 6
 #define HERRINGCART_VERSION_NUMBER (UINT32_C(65536) * HERRINGCART_VERSION_MAJOR + HERRINGCART_VERSION_MINOR)
 
 #ifdef __cplusplus
@@ -162,16 +167,25 @@ enum herringcart_answer {
     HERRINGCART_OTHER_OWNER = 6         /* the thing is not the owner's */
 };
 
-/* What herringcart_panel alone answers, but for 11, which herringcart_list and herringcart_read answer too. Its answers are tried in the
- * order 9, 1, 2, 11. */
+/* What herringcart_panel alone answers, but for 11, which herringcart_list, herringcart_read and herringcart_read_log answer too. Its
+ * answers are tried in the order 9, 1, 2, 11. */
 enum herringcart_panel_answer {
     HERRINGCART_NO_OPERATOR = 9, /* the number is 0, the platform's, or above 15 */
     HERRINGCART_NO_ROOM = 11     /* the lines need more bytes than are lent; of herringcart_read, the table has more words */
 };
 
-/* What herringcart_read alone answers. Its answers are tried in the order 12, 11. */
+/* What herringcart_read alone answers, but for 12, which herringcart_read_log answers too. Its answers are tried in the order 12, 11. */
 enum herringcart_read_answer {
     HERRINGCART_BAD_LINE = 12 /* the text is no listing; *line says which line is the first bad one */
+};
+
+/* What herringcart_read_log answers beside 0, HERRINGCART_BAD_TABLE and HERRINGCART_NO_ROOM. The table and the list are tried first, in the
+ * order 1, 13; then of each line, in the order 12, 14, 15, 11. */
+enum herringcart_log_answer {
+    HERRINGCART_MISSPELT = 12,       /* the line is not spelt as a line of a log is */
+    HERRINGCART_BAD_INTERFACES = 13, /* the list is not as many different names as the table has networks, one a line */
+    HERRINGCART_GOES_BACK = 14,      /* the line's time is before that of the line before it */
+    HERRINGCART_NOT_LISTED = 15      /* the line's interface is none of the list's */
 };
 
 /* What herringcart_hold says of a supplier's recording, tried in the order 1, 2, 3, 4, 5; 0 where none of them holds. Beside it stands a
@@ -372,6 +386,56 @@ uint32_t herringcart_list(const uint32_t *table, size_t table_words, uint8_t *li
  * and with it they are none's. So a missing line has the number it would have had, an extra one the last plus 1, and a count that does not
  * fit what follows shows at the first line with the wrong name. */
 uint32_t herringcart_read(const uint8_t *text, size_t text_bytes, uint32_t *words, size_t words_room, size_t *count, size_t *line);
+
+/* Turns a log of the common Linux CAN tools (candump -L) into event words. A line of it is a time in round brackets, 1 to 10 digits, a
+ * point and six digits; a space; an interface's name, 1 to 15 bytes other than space and newline; a space; an identifier of three or eight
+ * hex digits; a hash sign; up to eight pairs of hex digits; and a newline. Hex digits stand in either case, and nothing else stands in a line:
+ *
+ *         (1700000000.250037) can0 0CF00400#001F3E5D7C9BBAD9
+ *         (1700000000.310037) can1 20000040#0000000000000000
+ *
+ * interfaces names the networks' interfaces in the table's order, each with a newline behind it, the last too: "can0\ncan1\n" for a table of
+ * two networks, no byte for one of none.
+ *
+ * An identifier of eight digits with 20000000 (an error frame) and 40 (bus-off) gives a bus-off of the interface's network under that
+ * network's owner, herringcart_event(HERRINGCART_BUS_OFF, owner, network, 0), whatever its other bits are. Every other frame gives no event.
+ * Before what it gives, each line gives the ticks for each whole 10 milliseconds that have passed since the log's first line and are not yet
+ * given. The events are for herringcart_play or herringcart_take_event.
+ *
+ * Gives 0, every line is read; or what refused it: HERRINGCART_BAD_TABLE or HERRINGCART_BAD_INTERFACES, and then nothing is read; or, of the
+ * first line that is refused, the first of these that holds: HERRINGCART_MISSPELT, HERRINGCART_GOES_BACK (equal times stand),
+ * HERRINGCART_NOT_LISTED, and HERRINGCART_NO_ROOM, out has no room for the next event. The first three give nothing of that line; with
+ * HERRINGCART_NO_ROOM those of its ticks stand that there was room for. A full out is refused only where an event is due. Always writes *line,
+ * the number of the refused line from 1, 0 where no line is; *events, how many words stand at the front of out, and the words behind are
+ * unchanged; *bytes, how many bytes the lines read have; and the cursor. The events written before a refusal stay.
+ *
+ * The cursor says how far the log is read, and is kept by the caller between calls. Before a log's first line all four are 0:
+ *
+ *         lines   how many lines are read
+ *         first   the first line's time, in microseconds; of no meaning while lines is 0
+ *         last    the time of the last line read, likewise
+ *         given   how many ticks are given
+ *
+ * A log is so read in as many calls as is convenient. After 0 the next part of the log goes on with the cursor as it stands: a part must end
+ * behind a newline, for a line without one is misspelt. After HERRINGCART_NO_ROOM, take the *events words out and call again with
+ * log + *bytes, log_bytes - *bytes and the cursor as it stands, in the same out or another: the line is read again, and gives what it has not
+ * given. With room for one event each call gets on. Events, refusals and line numbers are those of the log read in one call in room enough.
+ * After another refusal *bytes and the cursor stand before the refused line; what a caller makes of such a line is its own affair.
+ *
+ * A cursor of any four numbers is taken. Times are counted in 64 bits, and no sum in them wraps; lines stops at the largest number there is. */
+uint32_t herringcart_read_log(const uint32_t *table, size_t table_words, const uint8_t *interfaces, size_t interfaces_bytes,
+                              const uint8_t *log, size_t log_bytes, uint64_t *lines, uint64_t *first, uint64_t *last, uint64_t *given,
+                              uint32_t *out, size_t out_words, uint64_t *line, size_t *events, size_t *bytes);
+
+/* The four numbers of a cursor in one place, for whoever likes them so:
+ *
+ *         struct herringcart_cursor at = HERRINGCART_LOG_START;
+ *         herringcart_read_log(.., &at.lines, &at.first, &at.last, &at.given, ..) */
+struct herringcart_cursor {
+    uint64_t lines, first, last, given;
+};
+
+#define HERRINGCART_LOG_START {0, 0, 0, 0}
 
 #ifdef __cplusplus
 }

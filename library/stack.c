@@ -27,7 +27,7 @@ static uint32_t trace[HERRINGCART_TRACE_WORDS];
 static uint8_t lines[HERRINGCART_PANEL_BYTES(HERRINGCART_TRACE_WORDS)];
 static uint8_t listing[HERRINGCART_LISTING_BYTES];
 static uint32_t back[TABLE_WORDS];
-static size_t place, count, laid, number, rest, listed, words_read, line;
+static size_t place, count, laid, number, rest, listed, words_read, line, given;
 static uint32_t bound, visits;
 
 static void make_table(uint32_t edition)
@@ -118,6 +118,32 @@ static uint32_t read_back(void)
     return herringcart_read(listing, listed, back, TABLE_WORDS, &words_read, &line);
 }
 
+/* A line behind many ticks. The table has no network, and with none no line is read; so it is the marked table's. */
+static uint32_t read_log(void)
+{
+    static const uint32_t marked[] = {0x01020100, 0x00010001, 0x00010002, 0x01000000, 0x21000000, 0x10102000,
+                                      0x030A0005, 0x00005000, 0x100000FF, 0x18380002, 0x40000002, 0x00001234};
+    static const char log[] = "(0000000000.000000) fifteen-letters 123#\n(0000000001.230000) fifteen-letters 20000040#0011223344556677\n";
+    static uint32_t out[124];
+    struct herringcart_cursor at = HERRINGCART_LOG_START;
+    uint64_t refused;
+    size_t bytes;
+    uint32_t answer = herringcart_read_log(marked, sizeof marked / sizeof *marked, (const uint8_t *)"fifteen-letters\n", 16,
+                                           (const uint8_t *)log, sizeof log - 1, &at.lines, &at.first, &at.last, &at.given, out,
+                                           sizeof out / sizeof *out, &refused, &given, &bytes);
+    return answer;
+}
+
+/* The same call with the deep table: its check is the deepest part, and what follows it with no network and no line is next to nothing. */
+static uint32_t read_no_log(void)
+{
+    struct herringcart_cursor at = HERRINGCART_LOG_START;
+    uint64_t refused;
+    size_t bytes;
+    return herringcart_read_log(table, TABLE_WORDS, lines, 0, lines, 0, &at.lines, &at.first, &at.last, &at.given, back, TABLE_WORDS,
+                                &refused, &given, &bytes);
+}
+
 static _Alignas(65536) unsigned char stack[STACK];
 
 struct measured {
@@ -166,7 +192,7 @@ static int measure(uint32_t edition)
     } calls[] = {
         {"check_table", check_table}, {"make_fresh", make_fresh}, {"check_state", check_state}, {"play", play},
         {"take_event", take_event},   {"hold", hold},             {"panel", panel},             {"list", list},
-        {"read", read_back},
+        {"read", read_back},          {"read_log", read_no_log},  {"read_log", read_log},
     };
     int more = 0;
     make_table(edition);
@@ -183,6 +209,10 @@ static int measure(uint32_t edition)
     }
     if (words_read != TABLE_WORDS || memcmp(back, table, sizeof table) != 0) {
         printf("the listing is not read back: %zu words\n", words_read);
+        exit(1);
+    }
+    if (given != 124) {
+        printf("%zu events of the log\n", given);
         exit(1);
     }
     /* In the event every list started and every rule item ran; of the deepest list's two outside calls edition 2 leaves

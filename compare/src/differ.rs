@@ -1,5 +1,6 @@
 //! One case through both sides, every answer and every lent word and byte compared.
 
+pub mod buslogs;
 pub mod holds;
 pub mod listings;
 pub mod pairs;
@@ -15,6 +16,7 @@ use second::state::state_length;
 use second::stream::{STATE_FILL, TRACE_FILL};
 use second::words::{HEADER, Section, Table};
 
+use self::buslogs::AskedLog;
 use self::holds::Recorded;
 use self::listings::{Asked, Listings};
 use self::panels::Shown;
@@ -34,6 +36,8 @@ pub struct Difference {
     pub hold: Option<Box<Recorded>>,
     /// The table or the text, where it is its listing or reading that differs: likewise.
     pub listing: Option<Box<Asked>>,
+    /// The bus log, where its reading differs: likewise.
+    pub log: Option<Box<AskedLog>>,
 }
 
 impl fmt::Display for Difference {
@@ -133,7 +137,7 @@ fn same<U: Unit>(
         return Ok(());
     }
     let (what, proved, second) = (what(), U::told(proved), U::told(second));
-    Err(Difference { what, proved, second, panel: None, hold: None, listing: None })
+    Err(Difference { what, proved, second, panel: None, hold: None, listing: None, log: None })
 }
 
 /// As `same`; where a guard differs, the guards are shown too.

@@ -1,6 +1,6 @@
 //! `compare fixed`: what the second program's fixed cases ask, with their panels,
-//! suppliers' recordings, listings and these three's programs, and the cases that a
-//! hunt has found, through both sides.
+//! suppliers' recordings, listings, bus logs and these four's programs, and the cases
+//! that a hunt has found, through both sides.
 
 use std::collections::BTreeSet;
 use std::fs::{self, File};
@@ -10,18 +10,21 @@ use std::path::{Path, PathBuf};
 use second::cases::Case;
 use second::program::words;
 use second::stream::{case_words, read_case, write_words};
-use second::testing::{AskedHoldRun, AskedListingRun, AskedPanelRun, Ran, run_fixed};
+use second::testing::{
+    AskedBusLogRun, AskedHoldRun, AskedListingRun, AskedPanelRun, Ran, run_fixed,
+};
 
+use crate::differ::buslogs::{AskedLog, Logs, compare_log};
 use crate::differ::holds::{Recorded, compare_hold};
 use crate::differ::listings::{Asked, Listings, compare_rooms};
 use crate::differ::panels::{Shown, compare_panel};
 use crate::differ::{Compared, Difference, compare};
-use crate::generated::{told, told_hold, told_panel};
+use crate::generated::{told, told_hold, told_log, told_panel};
 use crate::nearest::Nearest;
 use crate::panel::by_library;
 use crate::subject::Proved;
 use crate::verdicts::Verdicts;
-use crate::{hold, listing, listings};
+use crate::{canlog, hold, listing, listings};
 
 /// Where found cases are kept: in the source, for they are fixed cases.
 pub fn folder() -> PathBuf {
@@ -37,10 +40,12 @@ struct Met {
     asked_for: Verdicts,
     verdicts: Verdicts,
     listings: Listings,
+    logs: Logs,
     panels: usize,
     panel_runs: usize,
     hold_runs: usize,
     listing_runs: usize,
+    log_runs: usize,
 }
 
 pub fn fixed() -> Result<(), String> {
@@ -50,8 +55,8 @@ pub fn fixed() -> Result<(), String> {
     let mut met = Met::default();
     ran.iter().try_for_each(|case| met.compare(case))?;
     let found = replay(&folder())?;
-    let Met { seen, nearest, asked_for, verdicts, listings, .. } = &met;
-    let Met { panels, panel_runs, hold_runs, listing_runs, .. } = &met;
+    let Met { seen, nearest, asked_for, verdicts, listings, logs, .. } = &met;
+    let Met { panels, panel_runs, hold_runs, listing_runs, log_runs, .. } = &met;
     let (fixed, asked) = (ran.len(), seen.len());
     println!("{fixed} fixed cases asked {asked} things: no difference\n{nearest}");
     println!("{panels} panels and {panel_runs} runs of the panel's program: no difference");
@@ -59,8 +64,10 @@ pub fn fixed() -> Result<(), String> {
     println!("{hold_runs} logs held by their program: no difference\nthe cases asked, {verdicts}");
     println!("{listings}: no difference");
     println!("{listing_runs} files listed or read by their programs: no difference");
+    println!("{logs}: no difference\n{log_runs} bus logs by their programs: no difference");
     println!("{found} found cases: no difference");
     listings.all_met()?;
+    logs.all_met()?;
     verdicts.all_met()
 }
 
@@ -90,10 +97,16 @@ impl Met {
         case.panel_runs.iter().try_for_each(compare_panel_run).map_err(wrong)?;
         case.hold_runs.iter().try_for_each(compare_hold_run).map_err(wrong)?;
         case.listing_runs.iter().try_for_each(compare_listing_run).map_err(wrong)?;
+        for asked in case.bus_logs.iter().cloned().map(AskedLog::from) {
+            self.logs +=
+                compare_log(&Proved, &asked).map_err(|_| told_log(&Proved, case.name, &asked))?;
+        }
+        case.bus_log_runs.iter().try_for_each(compare_bus_log_run).map_err(wrong)?;
         self.panels += case.panels.len();
         self.panel_runs += case.panel_runs.len();
         self.hold_runs += case.hold_runs.len();
         self.listing_runs += case.listing_runs.len();
+        self.log_runs += case.bus_log_runs.len();
         Ok(())
     }
 }
@@ -120,6 +133,15 @@ fn compare_listings(case: &Ran) -> Result<Listings, Difference> {
 /// What a listing's program told over the second program's rules, over the library.
 fn compare_listing_run(run: &AskedListingRun) -> Result<(), String> {
     let proved = if run.lists { listing::list(&run.file) } else { listing::read(&run.file) };
+    if proved == run.told {
+        return Ok(());
+    }
+    Err(format!("differs: {run:?}\n  proved: {proved:?}"))
+}
+
+/// What a bus log's program told over the second program's rules, over the library.
+fn compare_bus_log_run(run: &AskedBusLogRun) -> Result<(), String> {
+    let proved = canlog::told(run.plays, &run.table, &run.interfaces, &run.log);
     if proved == run.told {
         return Ok(());
     }

@@ -4,6 +4,7 @@ use second::cases::{Case, Cases};
 use second::testing;
 use second::testing::coverage::Coverage;
 
+use crate::differ::buslogs::AskedLog;
 use crate::differ::holds::Recorded;
 use crate::differ::listings::{Asked, Listings};
 use crate::differ::panels::Shown;
@@ -11,7 +12,9 @@ use crate::differ::{Compared, Difference, Words, bound, compare};
 use crate::nearest::Nearest;
 use crate::number;
 use crate::rows::Of;
-use crate::shrink::{smallest_difference, smallest_hold, smallest_listing, smallest_panel};
+use crate::shrink::{
+    smallest_difference, smallest_hold, smallest_listing, smallest_log, smallest_panel,
+};
 use crate::subject::{Proved, Subject};
 use crate::verdicts::Verdicts;
 
@@ -170,6 +173,12 @@ pub fn told_listing(subject: &impl Subject, name: &str, asked: &Asked) -> String
     let (asked, difference) = smallest_listing(subject, asked);
     let what = if matches!(asked, Asked::List { .. }) { "a table listed" } else { "a text read" };
     format!("{name}, {what}, made smaller:\n{asked}\n{difference}")
+}
+
+/// A bus log that differs, made as small as it goes, with what each side says.
+pub fn told_log(subject: &impl Subject, name: &str, asked: &AskedLog) -> String {
+    let (asked, difference) = smallest_log(subject, asked);
+    format!("{name}, a bus log, made smaller:\n{asked}\n{difference}")
 }
 
 /// What each event visits by the second program, and the most that the table allows.

@@ -15,19 +15,22 @@ use crate::number;
 use crate::shrink::smallest_difference;
 use crate::subject::Proved;
 use crate::verdicts::Verdicts;
-use crate::{listings, pairs};
+use crate::{buslogs, listings, pairs};
 
 /// After so many a hunt ends: the rest is most likely the same fault again.
 const ENOUGH: usize = 10;
 
-/// One in so many of a hunt's seconds is for pairs of runs, the last ones; and one in so many, before these, for listings.
+/// One in so many of a hunt's seconds is for pairs of runs, the last ones; and one in so many, before these, for listings, and
+/// before these for bus logs.
 const PAIRS: u32 = 4;
 const LISTINGS: u32 = 8;
+const LOGS: u32 = 8;
 
 pub fn hunt(seconds: &str) -> Result<(), String> {
     let (start, time) = (Instant::now(), Duration::from_secs(number(seconds)?));
     let listings = start + time - time / PAIRS;
-    let end = listings - time / LISTINGS;
+    let logs = listings - time / LISTINGS;
+    let end = logs - time / LOGS;
     let now = SystemTime::now().duration_since(UNIX_EPOCH).map_err(|why| why.to_string())?;
     let seed = now.as_nanos() as u64;
     println!("seed {seed}");
@@ -52,12 +55,32 @@ pub fn hunt(seconds: &str) -> Result<(), String> {
         cases += 1;
     }
     println!("{cases} cases of seed {seed}: {found} differ\n{nearest}\n{verdicts}");
+    let logged = hunt_logs(seed, logs)?;
     let listed = hunt_listings(seed, listings);
     let at_fault = hunt_pairs(seed, start + time);
-    match (found, listed, at_fault) {
-        (0, 0, 0) => Ok(()),
-        _ => Err(format!("{found} cases, {listed} listings and {at_fault} pairs of runs found")),
+    match (found, logged, listed, at_fault) {
+        (0, 0, 0, 0) => Ok(()),
+        _ => Err(format!(
+            "{found} cases, {logged} bus logs, {listed} listings and {at_fault} pairs of runs found"
+        )),
     }
+}
+
+/// Bus logs, and real lines damaged, until then; gives how many differ. None is kept, for a found case is one run: a drawing is named by
+/// seed and number, and `compare buslogs` makes it again.
+fn hunt_logs(seed: u64, end: Instant) -> Result<usize, String> {
+    let (mut tried, mut found, mut met) = (0, 0, buslogs::Met::none());
+    let real = buslogs::Real::all()?;
+    while Instant::now() < end && found < ENOUGH {
+        if let Err(difference) = buslogs::compare_drawing(&Proved, seed, tried, &real, &mut met) {
+            let name = format!("bus log {tried} of seed {seed}");
+            println!("{}", buslogs::told(&Proved, &name, difference));
+            found += 1;
+        }
+        tried += 1;
+    }
+    println!("{met}: {found} differ, of seed {seed}");
+    Ok(found)
 }
 
 /// Tables listed and damaged listings read until then; gives how many differ. None is kept, for a found case is one run: a drawing is

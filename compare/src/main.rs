@@ -1,6 +1,8 @@
 //! The proved code, as linked from its library, beside the second program.
 
 mod bench;
+mod buslogs;
+mod canlog;
 mod differ;
 mod found;
 mod generated;
@@ -25,6 +27,8 @@ use std::process::ExitCode;
 const USAGE: &str = "usage: compare cases SEED COUNT [SEED COUNT ...]
        compare pairs SEED COUNT [SEED COUNT ...]
        compare listings SEED COUNT [SEED COUNT ...]
+       compare buslogs SEED COUNT [SEED COUNT ...]
+       compare recorded DIR
        compare fixed
        compare hunt SECONDS
        compare run TABLE EVENTS [OUTCOMES]
@@ -34,14 +38,18 @@ const USAGE: &str = "usage: compare cases SEED COUNT [SEED COUNT ...]
        compare hold TABLE EVENTS LOG [--all]
        compare list TABLE
        compare read LISTING
-       compare programs run|play|cost|panel|hold|list|read DIR COUNT SEED PROGRAM...
+       compare canlog TABLE INTERFACES LOG
+       compare day TABLE INTERFACES LOG
+       compare programs run|play|cost|panel|hold|list|read|canlog|day DIR COUNT SEED PROGRAM...
        compare long run|play|cost|panel|hold DIR PROGRAM...
-       compare day DIR PROGRAM...
+       compare whole-day DIR PROGRAM...
        compare bench
        compare bench-listings
+       compare bench-buslogs
        compare bench-programs PROGRAM...
        compare bench-day PROGRAM...
-       compare bench-hold PROGRAM...";
+       compare bench-hold PROGRAM...
+       compare bench-canlog PROGRAM...";
 
 unsafe extern "C" {
     fn signal(number: i32, action: usize) -> usize;
@@ -63,6 +71,9 @@ fn main() -> ExitCode {
         ["panel", ref words @ ..] => return panel::panel(words, USAGE),
         ["list", table] => return listing::tell(table, listing::list),
         ["read", text] => return listing::tell(text, listing::read),
+        [command @ ("canlog" | "day"), ref files @ ..] => {
+            return canlog::tell(command == "day", files, USAGE);
+        }
         _ => {}
     }
     end_quietly_in_a_closed_pipe();
@@ -73,6 +84,8 @@ fn main() -> ExitCode {
         ["cases", ref pairs @ ..] if !pairs.is_empty() => generated::cases(pairs),
         ["pairs", ref pairs @ ..] if !pairs.is_empty() => pairs::pairs(pairs),
         ["listings", ref pairs @ ..] if !pairs.is_empty() => listings::listings(pairs),
+        ["buslogs", ref pairs @ ..] if !pairs.is_empty() => buslogs::buslogs(pairs),
+        ["recorded", folder] => buslogs::recorded(folder),
         ["fixed"] => found::fixed(),
         ["hunt", seconds] => hunt::hunt(seconds),
         ["run", table, events] => programs::run(table, events, None),
@@ -87,18 +100,30 @@ fn main() -> ExitCode {
             seed,
             ref program @ ..,
         ] if !program.is_empty() => listings::programs(kind, folder, count, seed, program),
+        [
+            "programs",
+            kind @ (buslogs::CANLOG | buslogs::DAY),
+            folder,
+            count,
+            seed,
+            ref program @ ..,
+        ] if !program.is_empty() => buslogs::programs(kind, folder, count, seed, program),
         ["programs", kind, folder, count, seed, ref program @ ..] if !program.is_empty() => {
             programs::programs(kind, folder, count, seed, program)
         }
         ["long", kind, folder, ref program @ ..] if !program.is_empty() => {
             long::long(kind, folder, program)
         }
-        ["day", folder, ref program @ ..] if !program.is_empty() => bench::day(folder, program),
+        ["whole-day", folder, ref program @ ..] if !program.is_empty() => {
+            bench::day(folder, program)
+        }
         ["bench"] => bench::bench(),
         ["bench-listings"] => bench::bench_listings(),
+        ["bench-buslogs"] => bench::bench_buslogs(),
         ["bench-programs", ref program @ ..] if !program.is_empty() => bench::programs(program),
         ["bench-day", ref program @ ..] if !program.is_empty() => bench::bench_day(program),
         ["bench-hold", ref program @ ..] if !program.is_empty() => bench::bench_hold(program),
+        ["bench-canlog", ref program @ ..] if !program.is_empty() => bench::bench_canlog(program),
         _ => {
             eprintln!("{USAGE}");
             return ExitCode::from(2);

@@ -88,14 +88,20 @@ fn played_by_library(table: &[u32], events: &[u32]) -> String {
             break played.end;
         }
     };
+    lines += &state_lines(table, &state);
+    let _ = writeln!(lines, "taken {taken}\nvisits {visits}\nanswer {}", end.number());
+    lines
+}
+
+/// A state's words as `play` prints them at its end.
+pub fn state_lines(table: &[u32], state: &[u32]) -> String {
+    let (mut lines, mut words) = (String::new(), state.iter());
     let counts = [table[0] >> 16 & 255, table[1] & 0xFFFF, table[0] >> 8 & 255, table[0] & 255];
-    let mut words = state.iter();
     for (name, count) in ["port", "rule", "network", "source"].into_iter().zip(counts) {
         for (number, word) in (0..count).zip(&mut words) {
             let _ = writeln!(lines, "{name} {number} {word:08X}");
         }
     }
-    let _ = writeln!(lines, "taken {taken}\nvisits {visits}\nanswer {}", end.number());
     lines
 }
 

@@ -1,4 +1,5 @@
-//! The second program's coverage has the rows of its cases and of its pairs of runs in one table; a command meets the ones or the others.
+//! The second program's coverage has the rows of its cases, of its pairs of runs and of its bus logs in one table; a command meets those of
+//! one kind.
 
 use second::testing::coverage::Coverage;
 
@@ -7,12 +8,18 @@ use second::testing::coverage::Coverage;
 pub enum Of {
     Cases,
     Pairs,
+    Logs,
 }
 
 impl Of {
-    /// By its name, which of a pair's begins so.
+    /// By its name, which of a pair's or a bus log's begins so.
     fn has(self, row: &str) -> bool {
-        row.starts_with("pair") == (self == Of::Pairs)
+        let of = match row {
+            row if row.starts_with("pair") => Of::Pairs,
+            row if row.starts_with("bus log") => Of::Logs,
+            _ => Of::Cases,
+        };
+        self == of
     }
 
     /// The table, as the second program prints it: a number, two spaces, the row.
@@ -39,12 +46,13 @@ mod tests {
     use super::*;
 
     #[test]
-    fn every_row_is_asked_for_by_one_of_the_two() {
+    fn every_row_is_asked_for_by_one_of_the_three() {
         let none = Coverage::new();
         let rows = |of: Of| of.all_met(&none).expect_err("nothing is met").lines().count();
-        assert!(rows(Of::Cases) > 0 && rows(Of::Pairs) > 0);
-        assert_eq!(rows(Of::Cases) + rows(Of::Pairs), none.missing().len());
-        for of in [Of::Cases, Of::Pairs] {
+        let all = [Of::Cases, Of::Pairs, Of::Logs];
+        assert!(all.iter().all(|&of| rows(of) > 0));
+        assert_eq!(all.map(rows).iter().sum::<usize>(), none.missing().len());
+        for of in all {
             assert_eq!(of.table(&none).lines().count(), rows(of));
         }
     }

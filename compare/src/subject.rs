@@ -1,8 +1,18 @@
 //! What is compared with the second program: the proved code. It stands behind
 //! a trait so that the tests can put a wrong one in its place.
 
-use herringcart::{Answer, Check, Held, NotRead, Panel, Played};
-use second::{Listed, Read};
+use herringcart::{Answer, Check, Held, LogRead, NotRead, Panel, Played};
+use second::{Cursor, Listed, Read};
+
+/// What the reading of a bus log gives; its events stand at the front of what was lent.
+#[derive(Clone, Copy, PartialEq, Eq, Debug)]
+pub struct Reading {
+    pub answer: u32,
+    pub line: u64,
+    pub bytes: usize,
+    pub events: usize,
+    pub cursor: Cursor,
+}
 
 pub trait Subject {
     /// Whether its visits are compared: a side that was made before Q-10 reports none.
@@ -80,6 +90,24 @@ pub trait Subject {
                 Read { answer: refused.number(), words: 0, line }
             }
         }
+    }
+
+    fn read_log(
+        &self,
+        table: &[u32],
+        interfaces: &[u8],
+        log: &[u8],
+        from: Cursor,
+        out: &mut [u32],
+    ) -> Reading {
+        let Cursor { lines, first, last, given } = from;
+        let mut cursor = herringcart::Cursor { lines, first, last, given };
+        let LogRead { end, events, bytes } =
+            herringcart::read_log(table, interfaces, log, &mut cursor, out);
+        let (answer, line, events) = (end.number(), end.line(), events.len());
+        let herringcart::Cursor { lines, first, last, given } = cursor;
+        let cursor = Cursor { lines, first, last, given };
+        Reading { answer, line, bytes, events, cursor }
     }
 }
 

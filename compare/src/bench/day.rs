@@ -40,7 +40,7 @@ fn recorded(times: usize) -> Result<[Vec<u32>; 2], String> {
     Ok([table, events])
 }
 
-/// `compare day`: the whole day by the program, byte for byte what the second program prints.
+/// `compare whole-day`: the whole day by the program, byte for byte what the second program prints.
 pub fn day(folder: &str, command: &[&str]) -> Result<(), String> {
     let program = Program::new(folder, command)?;
     for (name, times) in DAYS {

@@ -3,6 +3,7 @@
 //! first.
 
 mod before;
+mod buslogs;
 mod clock;
 mod day;
 mod editions;
@@ -26,6 +27,7 @@ use std::path::{Path, PathBuf};
 
 use second::program::words;
 
+pub use buslogs::{bench_canlog, buslogs as bench_buslogs};
 pub use clock::Clock;
 pub use day::{bench_day, day};
 use hostile::Hostile;
@@ -102,6 +104,7 @@ pub fn bench() -> Result<(), String> {
     panels::panels()?;
     holds::holds()?;
     listings::listings()?;
+    buslogs::buslogs()?;
     hostile_tables()
 }
 

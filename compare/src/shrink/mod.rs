@@ -12,6 +12,7 @@ use second::cases::Case;
 use second::stream::{PANEL_FILL, TRACE_FILL};
 use second::words::{SECTIONS, Section};
 
+use crate::differ::buslogs::{AskedLog, compare_log};
 use crate::differ::holds::{Recorded, compare_hold};
 use crate::differ::listings::{Asked, compare_asked};
 use crate::differ::panels::{Shown, compare_panel};
@@ -36,7 +37,7 @@ pub fn smallest_difference(subject: &impl Subject, case: &Case) -> (Case, Differ
 fn not_again() -> Difference {
     let what = "nothing any more: a side does not answer alike when asked again".into();
     let (proved, second) = (String::new(), String::new());
-    Difference { what, proved, second, panel: None, hold: None, listing: None }
+    Difference { what, proved, second, panel: None, hold: None, listing: None, log: None }
 }
 
 /// The smallest panel found that the two sides differ on, and how they differ. The ways are those of a case, whose events the trace
@@ -127,6 +128,33 @@ pub fn smallest_listing(subject: &impl Subject, asked: &Asked) -> (Asked, Differ
     // What was lent can have been the fault.
     let small = if differs(&small) { small } else { asked.clone() };
     let difference = compare_asked(subject, &small).err().unwrap_or_else(not_again);
+    (small, difference)
+}
+
+/// The smallest bus log found that the two sides differ on, and how they differ: in the log's lines, its bytes, then its table, where the
+/// list stays as it is, then cursor and room.
+pub fn smallest_log(subject: &impl Subject, asked: &AskedLog) -> (AskedLog, Difference) {
+    let differs = |asked: &AskedLog| compare_log(subject, asked).is_err();
+    let with_log = |log: &[u8]| AskedLog { log: log.to_vec(), ..asked.clone() };
+    let mut lines: Vec<&[u8]> = asked.log.split_inclusive(|&byte| byte == b'\n').collect();
+    for place in (0..lines.len()).rev() {
+        let line = lines.remove(place);
+        if !differs(&with_log(&lines.concat())) {
+            lines.insert(place, line);
+        }
+    }
+    let log = smallest_text(&lines.concat(), |log| differs(&with_log(log)), LIMIT / 2);
+    let mut small = with_log(&log);
+    let with_table = |case: &Case| AskedLog { table: case.table.clone(), ..small.clone() };
+    let case = Case { table: asked.table.clone(), ..Default::default() };
+    small = with_table(&smallest(&case, |case| differs(&with_table(case)), LIMIT / 2));
+    let rooms = (0..32).map(|bits| asked.room >> (31 - bits)).filter(|&room| room < asked.room);
+    let fresh = AskedLog { from: Default::default(), ..small.clone() };
+    small = if differs(&fresh) { fresh } else { small };
+    let lent = |room: usize| AskedLog { room, ..small.clone() };
+    small = rooms.map(lent).find(|smaller| differs(smaller)).unwrap_or(small.clone());
+    let small = if differs(&small) { small } else { asked.clone() };
+    let difference = compare_log(subject, &small).err().unwrap_or_else(not_again);
     (small, difference)
 }
 

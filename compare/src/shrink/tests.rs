@@ -1,5 +1,6 @@
 //! A side made wrong on purpose is found and its case made small.
 
+mod buslogs;
 mod holds;
 mod listings;
 mod panels;

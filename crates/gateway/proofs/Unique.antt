@@ -1,4 +1,5 @@
--- Two results that a promise in numbers allows are equal, entry by entry; of a play `manager` says so (`one-play`). Assumes nothing.
+-- Two results that a promise in numbers allows are equal, entry by entry; of a play `manager` says so (`one-play`), of a bus log `buslog` (`one-reading`).
+-- Assumes nothing.
 use Prim.Native.Nat.{ℕ}
 use mathlib.Core.Path.{_≡_, sym, _∙_}
 use mathlib.Core.List.{List}

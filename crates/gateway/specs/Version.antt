@@ -5,7 +5,7 @@ abbrev pub major : ℕ
 major = 5
 
 abbrev pub minor : ℕ
-minor = 5
+minor = 6
 
 abbrev pub version : ℕ
 version = major * 65536 + minor

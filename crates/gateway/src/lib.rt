@@ -7,7 +7,10 @@ ghost use Rattle.manager.specs.Promises.{ChecksTableIn, CountsWords, MakesFresh
 ghost use Rattle.panel.specs.Promises.{ShowsIn};
 ghost use Rattle.hold.specs.Promises.{HoldsForC};
 ghost use Rattle.listing.specs.Promises.{ListsIn, ReadsIn};
+ghost use Rattle.buslog.specs.Promises.{ReadsLogIn};
 ghost use Rattle.gateway.specs.Version.{version};
+use buslog::reading as logs;
+use buslog::reading::Cursor;
 use listing::reading;
 use listing::writing;
 use manager::Fit;
@@ -38,7 +41,7 @@ fn fit_number(fit: Fit) -> u32
 pub extern "C" fn herringcart_version() -> u32
     ensures { λ r. ⌜ r ≡ version ⌝ }
 {
-    5 * 65536 + 5
+    5 * 65536 + 6
 }
 
 // Checks a table: gives its reason, 0 if it is accepted, and writes the place and B.
@@ -193,4 +196,45 @@ pub extern "C" fn herringcart_read(
     *count = reading::words(read);
     *line = reading::bad_line(read);
     reading::number(read)
+}
+
+// Reads a bus log, or a part of one, from the cursor in the four lent numbers on: gives the answer, lays the events at the front of the lent words, moves
+// the cursor, and writes the number of the line that is refused, 0 where none is, how many events there are and how many bytes are read.
+#[no_mangle]
+pub extern "C" fn herringcart_read_log(
+    table: &[u32],
+    interfaces: &[u8],
+    log: &[u8],
+    lines: &mut u64,
+    first: &mut u64,
+    last: &mut u64,
+    given: &mut u64,
+    out: &mut [u32],
+    line: &mut u64,
+    events: &mut usize,
+    bytes: &mut usize,
+) -> u32
+    ensures { λ r. ⌜ ReadsLogIn (now (table .entry)) (now (interfaces .entry)) (now (log .entry))
+        (record { lines = now (lines .entry); first = now (first .entry); last = now (last .entry); given = now (given .entry) })
+        (now (out .entry)) r (now (line .exit)) (now (events .exit)) (now (bytes .exit))
+        (record { lines = now (lines .exit); first = now (first .exit); last = now (last .exit); given = now (given .exit) })
+        (now (out .exit)) ⌝ }
+{
+    let from = Cursor {
+        lines: *lines,
+        first: *first,
+        last: *last,
+        given: *given,
+    };
+    let step = logs::read_log(table, interfaces, log, from, out);
+    let cursor = step.cursor;
+    *lines = cursor.lines;
+    *first = cursor.first;
+    *last = cursor.last;
+    *given = cursor.given;
+    *line = logs::refused_line(step);
+    *events = step.events;
+    *bytes = step.bytes;
+    let end = step.end;
+    logs::number(end)
 }

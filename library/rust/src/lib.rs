@@ -1,12 +1,13 @@
 //! The proved mode manager for Rust. Tables, states, traces, outcomes and what a
 //! supplier recorded are slices of 32-bit words; `docs/TABLES.md` has the layout of
 //! each and what to do about each reason and answer. A panel's lines and a table's
-//! listing are laid into a slice of bytes, and a listing is read from one. Answers
-//! are the documents' numbers.
+//! listing are laid into a slice of bytes; a listing and a bus log are read from one.
+//! Answers are the documents' numbers.
 //!
 //! Every call takes any words and bytes: it checks them for itself, and a refusal
-//! leaves every lent word and byte as it was. Nothing is kept between calls, no heap is
-//! used, and calls on different states may run at the same time.
+//! leaves every lent word and byte as it was, but that of a bus log the events before
+//! it stay. Nothing is kept between calls, no heap is used, and calls on different
+//! states may run at the same time.
 //!
 //! ```
 //! // An archive of another version may take other arguments.
@@ -45,6 +46,12 @@
 //! assert!(listing.starts_with(b"header 1 2 1 0\nheader 1 1\n"));
 //! let mut words = vec![0; herringcart::TABLE_WORDS];
 //! assert_eq!(herringcart::read(listing, &mut words), Ok(&table[..]));
+//! // A log of the bench: its network is bus-off 25 milliseconds after the first line.
+//! let log = b"(1700000000.250037) can0 123#00\n(1700000000.275037) can0 20000040#\n";
+//! let (mut cursor, mut out) = (herringcart::Cursor::default(), [0; 9]);
+//! let read = herringcart::read_log(&table, b"can0\n", log, &mut cursor, &mut out);
+//! assert_eq!(read.end, herringcart::LogEnd::Read);
+//! assert_eq!(read.events, [0, 0, 0x5100_0000]);
 //! ```
 #![no_std]
 
@@ -282,9 +289,79 @@ impl NotRead {
     }
 }
 
+/// How far a bus log is read. All zero, the default, is before its first line.
+#[derive(Clone, Copy, PartialEq, Eq, Debug, Default)]
+pub struct Cursor {
+    /// How many lines are read.
+    pub lines: u64,
+    /// The first line's time in microseconds; of no meaning while `lines` is 0.
+    pub first: u64,
+    /// The time of the last line read, likewise.
+    pub last: u64,
+    /// How many ticks are given.
+    pub given: u64,
+}
+
+/// What ended the reading of a bus log: the first of these that holds, of the table
+/// and the list first, then of each line, in this order. A line is told by its
+/// number in the log, from 1.
+#[derive(Clone, Copy, PartialEq, Eq, Debug)]
+pub enum LogEnd {
+    /// Every line is read.
+    Read,
+    /// The table has a reason.
+    BadTable,
+    /// The list is not as many different names as the table has networks.
+    BadInterfaces,
+    /// The line is not spelt as a line of a log is.
+    Misspelt(u64),
+    /// The line's time is before that of the line before it.
+    GoesBack(u64),
+    /// The line's interface is none of the list's.
+    NotListed(u64),
+    /// There is no room for the line's next event: go on from it.
+    NoRoom(u64),
+}
+
+impl LogEnd {
+    /// The answer's number, as C's call gives it.
+    pub fn number(self) -> u32 {
+        match self {
+            LogEnd::Read => 0,
+            LogEnd::BadTable => 1,
+            LogEnd::BadInterfaces => 13,
+            LogEnd::Misspelt(_) => 12,
+            LogEnd::GoesBack(_) => 14,
+            LogEnd::NotListed(_) => 15,
+            LogEnd::NoRoom(_) => 11,
+        }
+    }
+
+    /// The number of the line that is refused, 0 where none is.
+    pub fn line(self) -> u64 {
+        match self {
+            LogEnd::Read | LogEnd::BadTable | LogEnd::BadInterfaces => 0,
+            LogEnd::Misspelt(line)
+            | LogEnd::GoesBack(line)
+            | LogEnd::NotListed(line)
+            | LogEnd::NoRoom(line) => line,
+        }
+    }
+}
+
+/// What the reading of a bus log gives.
+#[derive(Clone, Copy, PartialEq, Eq, Debug)]
+pub struct LogRead<'a> {
+    pub end: LogEnd,
+    /// The events, at the front of the words lent; a refusal keeps those before it.
+    pub events: &'a [u32],
+    /// How many bytes the lines read have.
+    pub bytes: usize,
+}
+
 mod c {
     // As library/herringcart.h declares them. A slice is lent as its pointer
-    // and its length, in words or, of lines and text, in bytes.
+    // and its length, in words or, of lines, text, log and interfaces, in bytes.
     unsafe extern "C" {
         pub safe fn herringcart_version() -> u32;
         pub fn herringcart_check_table(
@@ -377,6 +454,23 @@ mod c {
             words_room: usize,
             count: *mut usize,
             line: *mut usize,
+        ) -> u32;
+        pub fn herringcart_read_log(
+            table: *const u32,
+            table_words: usize,
+            interfaces: *const u8,
+            interfaces_bytes: usize,
+            log: *const u8,
+            log_bytes: usize,
+            lines: *mut u64,
+            first: *mut u64,
+            last: *mut u64,
+            given: *mut u64,
+            out: *mut u32,
+            out_words: usize,
+            line: *mut u64,
+            events: *mut usize,
+            bytes: *mut usize,
         ) -> u32;
     }
 }
@@ -655,4 +749,59 @@ pub fn read<'a>(text: &[u8], words: &'a mut [u32]) -> Result<&'a [u32], NotRead>
         (11, 0, 0) => Err(NotRead::NoRoom),
         _ => unreachable!("the call gives no other numbers, which is proved"),
     }
+}
+
+/// Turns a log of the common Linux CAN tools into event words, laid at the front of
+/// `out`, the words behind them unchanged. `interfaces` names the networks'
+/// interfaces in the table's order, a newline behind each.
+///
+/// A line is as `(1700000000.250037) can0 20000040#00`, with a newline. An eight-digit
+/// identifier with 20000000 and 40 is a bus-off of the interface's network under its
+/// owner; other frames give no event. Before each line come the ticks for each whole
+/// 10 milliseconds since the log's first line that are not yet given.
+///
+/// The cursor moves behind the lines read. So a log is read in parts, each ending
+/// behind a newline, and after `NoRoom` from `&log[bytes..]` on, in the same words or
+/// others: the line is read again, and gives what it has not given. Events, refusals
+/// and line numbers are those of the log read at once in room enough.
+pub fn read_log<'a>(
+    table: &[u32],
+    interfaces: &[u8],
+    log: &[u8],
+    cursor: &mut Cursor,
+    out: &'a mut [u32],
+) -> LogRead<'a> {
+    let (mut line, mut events, mut bytes) = (u64::MAX, usize::MAX, usize::MAX);
+    // SAFETY: see above; line, events and bytes are locals of their own, and the
+    // cursor's numbers are its own, each another.
+    let number = unsafe {
+        c::herringcart_read_log(
+            table.as_ptr(),
+            table.len(),
+            interfaces.as_ptr(),
+            interfaces.len(),
+            log.as_ptr(),
+            log.len(),
+            &mut cursor.lines,
+            &mut cursor.first,
+            &mut cursor.last,
+            &mut cursor.given,
+            out.as_mut_ptr(),
+            out.len(),
+            &mut line,
+            &mut events,
+            &mut bytes,
+        )
+    };
+    let end = match (number, line) {
+        (0, 0) => LogEnd::Read,
+        (1, 0) => LogEnd::BadTable,
+        (13, 0) => LogEnd::BadInterfaces,
+        (12, 1..) => LogEnd::Misspelt(line),
+        (14, 1..) => LogEnd::GoesBack(line),
+        (15, 1..) => LogEnd::NotListed(line),
+        (11, 1..) => LogEnd::NoRoom(line),
+        _ => unreachable!("the call gives no other numbers, which is proved"),
+    };
+    LogRead { end, events: &out[..events], bytes }
 }
