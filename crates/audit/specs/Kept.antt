@@ -3,30 +3,16 @@ use Prim.Native.Nat.{ℕ, _-_, _≤_}
 use mathlib.Core.Path.{_≡_}
 use mathlib.Core.Bool.{true}
 use mathlib.Core.List.{List}
-use lib.ListN.{length, take, drop}
+use lib.ListN.{length, take}
 use Rattle.rulebook.specs.Reasons.{accepted, bound}
 use Rattle.rulebook.specs.State.{stateLength}
 use Rattle.words.specs.declared.sections.Layout.{Layout}
 use Rattle.words.specs.Sections.{Laid}
 use Rattle.session.specs.Promises.{Ready}
+use Rattle.text.specs.Window.{Within, ahead}
 use Rattle.audit.specs.declared.Place.{Place}
 
--- the log's bytes from `at` up to `end` stand in the window
-pub record Within (at end : ℕ) (window : List ℕ) : Type 0 where
-  pub order : at ≤ end
-  pub inside : end ≤ length window
-
--- those bytes, which are read next
-abbrev pub ahead : ℕ → ℕ → List ℕ → List ℕ
-ahead at end window = take (end - at) (drop at window)
-
--- they were moved to the front
-pub record Slid (at end : ℕ) (window : List ℕ) (n : ℕ) (window′ : List ℕ) : Type 0 where
-  pub count : n ≡ end - at
-  pub inside : n ≤ length window′
-  pub front : take n window′ ≡ ahead at end window
-
--- they still come first, from another place on and with more behind them where the log was read on
+-- the log's bytes that were read next still come first, from another place on and with more behind them where the log was read on
 pub record Widened (at end : ℕ) (window : List ℕ) (r : Place) (window′ : List ℕ) : Type 0 where
   pub within : Within (r .at) (r .end) window′
   pub first : take (end - at) (ahead (r .at) (r .end) window′) ≡ ahead at end window

@@ -5,7 +5,8 @@ ghost use Prim.Native.Nat.{_≤_};
 ghost use lib.ListN.{length};
 ghost use Rattle.io.specs.Counts.{Counts};
 ghost use Rattle.telling.specs.Promises.{Room, Tells};
-ghost use Rattle.audit.specs.Kept.{Within, Slid, Widened, Lent, Going, mostWords, toldBytes};
+ghost use Rattle.text.specs.Window.{Within};
+ghost use Rattle.audit.specs.Kept.{Widened, Lent, Going, mostWords, toldBytes};
 ghost use Rattle.audit.specs.Held.{onFrom, Followed, HeldOne};
 
 mod space;
@@ -16,6 +17,7 @@ use libc::STDERR_FILENO;
 use recording::Found;
 use text::input::read_word;
 use text::input::word_count;
+use text::window::slide;
 use words::sections::Layout;
 use words::sections::read_accepted;
 
@@ -29,20 +31,6 @@ struct Place {
     ended: bool,
     at: usize,
     end: usize,
-}
-
-// Moves the bytes from `at` up to `end` to the front.
-fn slide(window: &mut [u8], at: usize, end: usize) -> usize
-    requires { ⌜ Within at end (now window) ⌝ }
-    ensures { λ r. ⌜ Slid at end (now (window .entry)) r (now (window .exit)) ⌝ }
-{
-    let n = end - at;
-    let mut i = 0;
-    while i < n {
-        window[i] = window[at + i];
-        i += 1;
-    }
-    n
 }
 
 // Reads on where the window may not have a whole recording any more.

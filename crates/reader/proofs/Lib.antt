@@ -1,3 +1,2 @@
--- Laws of words as a file has them, and of what is read.
-pub mod Bytes
+-- Laws of what is read.
 pub mod Words

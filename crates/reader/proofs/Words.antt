@@ -8,8 +8,8 @@ use Rattle.listing.specs.declared.reading.Reading.the-variants.{Words}
 use Rattle.listing.specs.Lines.{ListingOf}
 use Rattle.listing.specs.Promises.{Reads}
 use Rattle.text.specs.Words.{wordsOf}
-use Rattle.reader.specs.Raw.{bytesIn}
-use Rattle.reader.proofs.Bytes.{read-back}
+use Rattle.text.specs.Raw.{bytesIn}
+use Rattle.text.proofs.Bytes.{read-back}
 
 pub words-inside : (text lent lent′ : List ℕ) {r : Reading} {n : ℕ} → r ≡ Words n → Reads text lent r lent′ → n ≤ length lent
 words-inside text lent lent′ {r} {n} e h = subst (λ (r : Reading). Reads text lent r lent′) e h .inside

@@ -1,11 +1,10 @@
 // `read LISTING`: the program behind `./herringcart read`. Thin: it reads and writes; the listing is read by `listing`, its words are laid as a file has
-// them by `raw`, and what is said of a bad line is laid by `complaint`.
+// them by `text`, and what is said of a bad line is laid by `complaint`.
 ghost use Prim.Native.Nat.{_≤_};
 ghost use lib.ListN.{length};
 ghost use Rattle.session.specs.Printed.{tableWords};
 
 mod complaint;
-mod raw;
 mod space;
 
 use libc::STDERR_FILENO;
@@ -16,7 +15,7 @@ fn print_words(t: &[u32])
     requires { ⌜ length (now t) ≤ tableWords ⌝ }
 {
     let mut out = files::space::table_bytes();
-    let n = raw::lay_words(&mut out, t);
+    let n = text::raw::lay_words(&mut out, t);
     files::print(&out[..n]);
 }
 

@@ -2,3 +2,5 @@
 pub mod Words
 pub mod Lines
 pub mod Puts
+pub mod Raw
+pub mod Window

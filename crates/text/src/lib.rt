@@ -2,3 +2,5 @@
 pub mod input;
 pub mod number;
 pub mod output;
+pub mod raw;
+pub mod window;

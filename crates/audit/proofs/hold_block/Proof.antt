@@ -4,7 +4,8 @@ use mathlib.Core.Path.{_≡_, refl, sym, _∙_}
 use native.Mathlib.Omega.{arith}
 use lib.ListN.{length}
 use borrow.Author.Needs.{needs}
-use Rattle.audit.specs.Kept.{Within, Going}
+use Rattle.text.specs.Window.{Within}
+use Rattle.audit.specs.Kept.{Going}
 use Rattle.audit.proofs.hold_block.Statement.{statement}
 use Rattle.audit.proofs.hold_block.Tie as tie
 

@@ -3,7 +3,8 @@ use mathlib.Core.Path.{_≡_, refl, _∙_}
 use native.Mathlib.Omega.{arith}
 use lib.ListN.{length}
 use Rattle.io.specs.Counts.{Counts}
-use Rattle.audit.specs.Kept.{Within, Going}
+use Rattle.text.specs.Window.{Within}
+use Rattle.audit.specs.Kept.{Going}
 use Rattle.audit.proofs.hold_file.Statement.{statement}
 use Rattle.audit.proofs.hold_file.Tie as tie
 

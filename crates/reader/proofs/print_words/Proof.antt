@@ -5,7 +5,7 @@ use native.Mathlib.Omega.{arith}
 use lib.ListN.{length}
 use lib.Seq.{length-take-le}
 use borrow.Author.Needs.{needs}
-use Rattle.reader.proofs.Bytes.{all-bytes}
+use Rattle.text.proofs.Bytes.{all-bytes}
 use Rattle.reader.proofs.print_words.Statement.{statement}
 use Rattle.reader.proofs.print_words.Tie as tie
 

@@ -7,11 +7,11 @@ use native.Mathlib.Numerals.{add-one}
 use native.Mathlib.Omega.{arith}
 use lib.ListN.{length, getD, set, take, length-append, length-set}
 use lib.Seq.{take-all, length-take-le}
 use Rattle.text.specs.Words.{wordOf, wordsOf}
 use Rattle.text.specs.Puts.{lay, PutAt}
 use Rattle.text.proofs.Lay.{lay-none, lay-back}
 use Rattle.text.proofs.Puts.{put-more}
-use Rattle.reader.specs.Raw.{bytesOf, bytesIn}
+use Rattle.text.specs.Raw.{bytesOf, bytesIn}
 
 four-bytes : (w : ℕ) → length (bytesOf w) ≡ 4
 unfolding bytesOf

@@ -1,12 +1,12 @@
--- `audit::slide` meets its contract. The loop's invariant: so many bytes stand at the front, and from there on the window is as it was. The measure
+-- `text::window::slide` meets its contract. The loop's invariant: so many bytes stand at the front, and from there on the window is as it was. The measure
 -- is how many are left. Assumes nothing.
 use Prim.Native.Nat.{_-_, _≤_}
 use mathlib.Core.Path.{_≡_, refl, ap, _∙_}
 use native.Mathlib.Omega.{arith}
 use lib.ListN.{length, take, drop, length-set, length-drop}
-use Rattle.audit.proofs.Window.{one-moved, rest-stays}
-use Rattle.audit.proofs.slide.Statement.{statement}
-use Rattle.audit.proofs.slide.Tie as tie
+use Rattle.text.proofs.Moved.{one-moved, rest-stays}
+use Rattle.text.proofs.window.slide.Statement.{statement}
+use Rattle.text.proofs.window.slide.Tie as tie
 
 abbrev Inv-loop : tie.InvT-loop
 Inv-loop window₀ at end n i₀ window i =

@@ -2,9 +2,9 @@
 use native.Mathlib.Omega.{arith}
 use lib.ListN.{length-set}
 use borrow.Author.Needs.{needs}
-use Rattle.reader.proofs.Bytes.{word-laid}
-use Rattle.reader.proofs.raw.lay_word.Statement.{statement}
-use Rattle.reader.proofs.raw.lay_word.Tie as tie
+use Rattle.text.proofs.Bytes.{word-laid}
+use Rattle.text.proofs.raw.lay_word.Statement.{statement}
+use Rattle.text.proofs.raw.lay_word.Tie as tie
 
 slice-write-out-2 : tie.Need-slice-write-out-2
 slice-write-out-2 c = simp length-set (omega arith)

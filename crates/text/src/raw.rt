@@ -1,8 +1,8 @@
 // Words laid as a file has them: four bytes each, high byte first.
 ghost use Prim.Native.Nat.{_+_, _*_, _≤_};
 ghost use lib.ListN.{length};
 ghost use Rattle.text.specs.Puts.{PutAt};
-ghost use Rattle.reader.specs.Raw.{bytesOf, bytesIn};
+ghost use Rattle.text.specs.Raw.{bytesOf, bytesIn};
 
 // Lays a word at a place, from its last byte to its first.
 fn lay_word(out: &mut [u8], at: usize, w: u32) -> usize

@@ -4,11 +4,11 @@ use mathlib.Core.Path.{_≡_, refl, _∙_}
 use native.Mathlib.Omega.{arith}
 use lib.ListN.{length, take}
 use borrow.Author.Needs.{needs}
-use Rattle.reader.specs.Raw.{bytesIn}
+use Rattle.text.specs.Raw.{bytesIn}
 use Rattle.text.specs.Puts.{PutAt}
-use Rattle.reader.proofs.Bytes.{none-laid, turn, all-laid, room-for}
-use Rattle.reader.proofs.raw.lay_words.Statement.{statement}
-use Rattle.reader.proofs.raw.lay_words.Tie as tie
+use Rattle.text.proofs.Bytes.{none-laid, turn, all-laid, room-for}
+use Rattle.text.proofs.raw.lay_words.Statement.{statement}
+use Rattle.text.proofs.raw.lay_words.Tie as tie
 
 abbrev Inv-loop : tie.InvT-loop
 Inv-loop out₀ words next₀ i₀ out next i = (i ≤ length words) × (length out ≡ length out₀) × PutAt (bytesIn (take i words)) out₀ 0 next out

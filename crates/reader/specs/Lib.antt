@@ -1,2 +1,0 @@
--- How words stand in a file.
-pub mod Raw
