@@ -7,9 +7,9 @@ ghost use Rattle.rulebook.specs.BusLog.{nextLine as lineBehind};
 ghost use Rattle.words.specs.Sections.{Laid};
 ghost use Rattle.buslog.specs.Promises.{cursorAs, endNumber, lineOf, ReadsLog};
 ghost use Rattle.buslog.specs.Inside.{GivesTicks, Stops, NoRoomAt, Gives, ReadsTo, reading};
+use crate::interfaces;
 use crate::lines::Line;
 use crate::lines::read_line;
-use crate::names;
 use tables::Checked;
 use words::sections::Layout;
 use words::sections::network_at;
@@ -266,7 +266,7 @@ fn take_line(
         return stopped(Ending::GoesBack, c, n, at);
     }
     let count = h.networks as usize;
-    let network = names::number_of(names, 0, count, log, line.name, line.name_end);
+    let network = interfaces::number_of(names, 0, count, log, line.name, line.name_end);
     if network == count {
         return stopped(Ending::Unlisted, c, n, at);
     }
@@ -306,7 +306,7 @@ pub fn read_log(t: &[u32], names: &[u8], log: &[u8], from: Cursor, out: &mut [u3
         return stopped(Ending::BadTable, from, 0, 0);
     };
     let h = read_accepted(t);
-    if !names::stand(names, h.networks as usize) {
+    if !interfaces::stand(names, h.networks as usize) {
         return stopped(Ending::BadNames, from, 0, 0);
     }
     read_lines(t, h, names, log, from, out)

@@ -1,10 +1,10 @@
--- `buslog::names::stand` meets its contract. The loop's invariant: `StandTo`. The measure is how many names are left. Assumes nothing.
+-- `buslog::interfaces::stand` meets its contract. The loop's invariant: `StandTo`. The measure is how many names are left. Assumes nothing.
 use native.Mathlib.Omega.{arith}
 use borrow.Author.Needs.{needs}
 use borrow.Author.Tests.{not-true, not-false}
 use Rattle.buslog.proofs.Called.{StandTo, stand-begin, stand-end, misspelt, stands-again, stand-more}
-use Rattle.buslog.proofs.names.stand.Statement.{statement}
-use Rattle.buslog.proofs.names.stand.Tie as tie
+use Rattle.buslog.proofs.interfaces.stand.Statement.{statement}
+use Rattle.buslog.proofs.interfaces.stand.Tie as tie
 
 abbrev Inv-loop : tie.InvT-loop
 Inv-loop names k p₀ left₀ p left = StandTo names k p left

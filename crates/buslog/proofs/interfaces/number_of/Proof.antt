@@ -1,11 +1,11 @@
--- `buslog::names::number_of` meets its contract. The loop's invariant: `SoughtTo`. The measure is how many names are left. Assumes nothing.
+-- `buslog::interfaces::number_of` meets its contract. The loop's invariant: `SoughtTo`. The measure is how many names are left. Assumes nothing.
 use Prim.Native.Nat.{_-_}
 use native.Mathlib.Omega.{arith}
 use borrow.Author.Needs.{needs}
 use Rattle.buslog.specs.Inside.{part}
 use Rattle.buslog.proofs.Called.{SoughtTo, sought-begin, sought-all, sought-found, sought-more}
-use Rattle.buslog.proofs.names.number_of.Statement.{statement}
-use Rattle.buslog.proofs.names.number_of.Tie as tie
+use Rattle.buslog.proofs.interfaces.number_of.Statement.{statement}
+use Rattle.buslog.proofs.interfaces.number_of.Tie as tie
 
 abbrev Inv-loop : tie.InvT-loop
 Inv-loop names at k text from to p₀ i₀ p i = SoughtTo (part text from to) names at k p i
