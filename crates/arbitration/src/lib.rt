@@ -1,5 +1,7 @@
 // Arbitration: the marks of the arbitrated ports are cleared, every rule that is to be evaluated is evaluated before any list runs,
 // and the chosen lists run once each, larger priority first, then lower number.
+#![tactic(auto)]
+
 ghost use Rattle.std.specs.Prelude.{◌≡◌, drop};
 ghost use Rattle.rulebook.specs.Words.{any, each};
 ghost use Rattle.rulebook.specs.Table.{ports as ports_of, rules as rules_of, lists as lists_of};

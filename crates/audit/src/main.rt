@@ -1,5 +1,7 @@
 // `audit TABLE EVENTS LOG [all]`: the program behind `./herringcart hold`. Thin: it opens, reads and writes; a log's lines are read by `recording`, and
 // what is said of an event is judged and laid by `telling`.
+#![tactic(auto)]
+
 ghost use Rattle.std.specs.Prelude.{◌≡◌, ◌≤◌, length};
 ghost use Rattle.io.specs.Counts.{IsPrefixLen};
 ghost use Rattle.telling.specs.Promises.{Room, Tells};

@@ -1,5 +1,7 @@
 // `canlog TABLE INTERFACES LOG`: the program behind `./herringcart canlog`. Thin: it opens, reads and writes; the log's lines are read by `buslog`, their
 // events are laid as a file has them by `text`, and what is said of a refusal stands in `complaint`.
+#![tactic(auto)]
+
 ghost use Rattle.std.specs.Prelude.{◌≡◌, true, ◌*◌, ◌≤◌, length};
 ghost use Rattle.text.specs.Window.{Within};
 ghost use Rattle.buslog.specs.Promises.{cursor_as};

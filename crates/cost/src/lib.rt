@@ -1,5 +1,7 @@
 // Rule 9: what lists cost, found by rising depth in a local array, each list once, and not by walking every path. No number grows past
 // 4,098.
+#![tactic(auto)]
+
 ghost use Rattle.std.specs.Prelude.{cond, ◌≡◌, ◌+◌, eqb};
 ghost use Rattle.rulebook.specs.Table.{no_list};
 ghost use Rattle.rulebook.specs.Expressions.{deepest};

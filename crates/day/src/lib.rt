@@ -1,5 +1,7 @@
 // A day: what `play TABLE EVENTS` prints, laid into lent bytes: a line for each trace word as the day goes, a line for each word of the
 // state after it, then how many events were taken and what answered the next. Files and their blocks are the program's.
+#![tactic(auto)]
+
 ghost use Rattle.std.specs.Prelude.{◌+◌, ◌*◌, ◌≤◌, ◌<◌, length, take, ◌++◌};
 ghost use Rattle.rulebook.specs.State.{thing, state_length};
 ghost use Rattle.text.specs.Lines.{decimal};

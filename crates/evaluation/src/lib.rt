@@ -1,5 +1,7 @@
 // Evaluation of expressions and of rules, by the port words of a state. Evaluation and the test for undefined
 // ports go down into the left and then the right argument, with one level less each time.
+#![tactic(auto)]
+
 ghost use Rattle.std.specs.Prelude.{◌≡◌, ◌≤◌};
 ghost use Rattle.rulebook.specs.Words.{any};
 ghost use Rattle.rulebook.specs.Table.{expressions_from};

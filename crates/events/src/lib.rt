@@ -1,5 +1,7 @@
 // One event on a lent state and trace, for a table and a state that have been checked: refused, or done with the count of words
 // written and of expression words visited. A run of many events may check table and state once and call `handle` for each.
+#![tactic(auto)]
+
 ghost use Rattle.std.specs.Prelude.{◌≡◌, drop};
 ghost use Rattle.rulebook.specs.Events.{request as request_of, tick as tick_of, happen as happen_of};
 ghost use Rattle.rulebook.specs.Step.{heeded, handle as handle_of};

@@ -1,5 +1,7 @@
 // Expressions: how deep one nests, and whether it mentions a port of a set. Both go down into the left and then the right argument,
 // with one level less each time.
+#![tactic(auto)]
+
 ghost use Rattle.std.specs.Prelude.{◌≡◌};
 ghost use Rattle.rulebook.specs.Table.{expressions_from};
 ghost use Rattle.rulebook.specs.Expressions.{expression_within, mentions as mentions_of};

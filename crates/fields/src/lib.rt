@@ -1,4 +1,6 @@
 // Rule 5: each word of the table keeps its own field rules.
+#![tactic(auto)]
+
 ghost use Rattle.std.specs.Prelude.{◌≡◌};
 ghost use Rattle.rulebook.specs.Table.{at_port, at_network, at_waits, at_source, at_expression, at_rule, at_list, at_item};
 ghost use Rattle.rulebook.specs.Reasons.{own_fields, lowest};

@@ -1,5 +1,7 @@
 // Files, as every program here meets them: named by an argument, read in blocks or as a table, and standard output. What goes wrong is
 // told on standard error by the function that meets it, so a caller only ends.
+#![tactic(auto)]
+
 ghost use Rattle.std.specs.Prelude.{◌≡◌, ◌+◌, ◌≤◌, length, take};
 ghost use Rattle.io.specs.Counts.{IsPrefixLen};
 ghost use Rattle.files.specs.Holds.{Holds, Fills};

@@ -1,5 +1,7 @@
 // What a gateway's C or Rust code links: `manager`'s entries under C's calling convention, their answers in document 01's numbers.
 // library/herringcart.h says what each call needs of its pointers.
+#![tactic(auto)]
+
 ghost use Rattle.std.specs.Prelude.{◌≡◌};
 ghost use Rattle.states.specs.Made.{number_of as made_number};
 ghost use Rattle.manager.specs.Answers.{state_number};

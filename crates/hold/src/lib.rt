@@ -1,6 +1,8 @@
 // Q-7: a supplier's recording of one event held against ours. `hold` takes the event by the manager's own call and gives the verdict; `part`
 // hands back the words for it, a tail of one of two lent traces and never a copy. They are two functions, for a `&'a mut` trace whose words are
 // handed back is spent, and its owner could be told nothing of them any more (docs/DECISIONS.md).
+#![tactic(auto)]
+
 ghost use Rattle.std.specs.Prelude.{◌≡◌, ◌≤◌, length, take, drop};
 ghost use Rattle.rulebook.specs.Hold.{parting as parting_of, beside};
 ghost use Rattle.hold.specs.Promises.{number_of, given_by, TellsVerdict, TellsStates, Holds, HandsBack};

@@ -1,5 +1,7 @@
 // `inspect TABLE`: the program behind `./herringcart check`. Thin: it reads and writes; what is printed is laid by `verdict`. It reads
 // its file as `run` does, and no further.
+#![tactic(auto)]
+
 mod space;
 
 // Prints what the check says of a table, or says on standard error that it cannot.

@@ -181,6 +181,7 @@ no_place_lem t z = place_of (all_pass t (all_of t reasons refl z))
 -- What a reason that is given says: its number is some rule's, and what stands before its rule holds.
 
 given-number : (t : List ℕ) (k p : ℕ) (q : ℕ → Bool) (links : List Link) → numbers_pass q links ≡ true → GivenBy t k p links → q k ≡ true
+given-number t k p q [] h x = elim x [ ]
 given-number t k p q (link ∷ links) h (here r b low) = rw r at (and_left (q (reason_of link)) (numbers_pass q links) h)
 given-number t k p q (link ∷ links) h (later u g) = given-number t k p q links (and_right (q (reason_of link)) (numbers_pass q links) h) g
 

@@ -68,6 +68,7 @@ to-owners t k p h g =
 ten-broken : (t : List ℕ) (p : ℕ) → GivenBy t 10 p (of_words 10 reached ∷ of_table 9 affordable ∷ [])
     → (broken (of_words 10 reached) t p ≡ true) × ((j : ℕ) → j < p → broken (of_words 10 reached) t j ≡ false)
 ten-broken t p (here r b low) = (b, low)
+ten-broken t p (later u (later v x)) = elim x [ ]
 ten-broken t p (later u (here r b low)) = absurd (let z : ◌≡◌ {A = ℕ} 9 10 = r in omega arith)
 
 -- So Q-6's sentence, of what the check says.

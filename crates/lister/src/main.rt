@@ -1,4 +1,6 @@
 // `list TABLE`: the program behind `./herringcart list`. Thin: it reads and writes; the listing is laid by `listing`.
+#![tactic(auto)]
+
 mod space;
 
 use libc::STDERR_FILENO;

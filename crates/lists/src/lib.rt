@@ -1,4 +1,6 @@
 // Lists: what each item does, the trace words, and a list run with the lists and rules that it names.
+#![tactic(auto)]
+
 ghost use Rattle.std.specs.Prelude.{◌≡◌, true, [], drop};
 ghost use Rattle.rulebook.specs.Lists.{start, trace_word, effect as effect_of, network_in, asking, set_network, choice_in, act as act_of, judge as judge_of};
 ghost use Rattle.rulebook.specs.Lists.{run_list, run_item, run_rule};

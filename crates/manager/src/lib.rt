@@ -1,4 +1,6 @@
 // The public entries. Each takes anything and checks for itself.
+#![tactic(auto)]
+
 ghost use Rattle.std.specs.Prelude.{◌≡◌, ◌≢◌};
 ghost use Rattle.states.specs.Admission.{number_of as admission_number};
 ghost use Rattle.events.specs.Answers.{number_of, count_of, visits_of};

@@ -1,4 +1,6 @@
 // Rule 6: each name is of a thing that is there, and of the right kind.
+#![tactic(auto)]
+
 ghost use Rattle.std.specs.Prelude.{◌≡◌};
 ghost use Rattle.rulebook.specs.Words.{any};
 ghost use Rattle.rulebook.specs.Table.{at_network, at_source, at_expression, at_rule, at_list, at_item};

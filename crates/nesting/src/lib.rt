@@ -1,5 +1,7 @@
 // Rule 7: how deep expressions and lists nest. The depths of lists are found level by level in an array and not by walking every path:
 // round d + 1 finds the lists that name only lists found before it, and passes over those.
+#![tactic(auto)]
+
 ghost use Rattle.std.specs.Prelude.{◌≡◌};
 ghost use Rattle.rulebook.specs.Expressions.{deepest};
 ghost use Rattle.rulebook.specs.Reasons.{rule_nests, item_nests, list_nests, nesting, lowest};

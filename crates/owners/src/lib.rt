@@ -1,4 +1,6 @@
 // Rule 8: owners do not clash.
+#![tactic(auto)]
+
 ghost use Rattle.std.specs.Prelude.{◌≡◌};
 ghost use Rattle.rulebook.specs.Words.{first};
 ghost use Rattle.rulebook.specs.Table.{at_network, at_source, at_rule, part, expressions_from, lists_from, lists};

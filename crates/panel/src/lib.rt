@@ -1,5 +1,7 @@
 // A panel for one operator: a line for each of its ports, networks, sources and trace words, laid into lent bytes. Of the manager it
 // knows the answer of the state check and nothing else: what it must know of the table's layout it reads from the words by itself.
+#![tactic(auto)]
+
 ghost use Rattle.std.specs.Prelude.{◌≡◌, [], ◌∷◌, ◌++◌, ◌+◌, ◌<◌, ◌≤◌, eqb, length};
 ghost use Rattle.rulebook.specs.Words.{word as word_of};
 ghost use Rattle.text.specs.Lines.{decimal};

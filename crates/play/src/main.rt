@@ -1,5 +1,7 @@
 // `play TABLE EVENTS`: a whole file of events, played from the fresh state. Thin: it opens, reads and writes; what is printed is laid by
 // `day`.
+#![tactic(auto)]
+
 ghost use Rattle.std.specs.Prelude.{◌≤◌, length, take};
 ghost use Rattle.rulebook.specs.State.{fresh};
 ghost use Rattle.text.specs.Words.{words_of};

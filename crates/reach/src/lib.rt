@@ -2,6 +2,8 @@
 // rules start; then, by falling depth, those of the lists that each list with its flag up names. A list is deeper than every list that
 // it names, so its own flag is settled when its depth comes, and its items are looked at once, however many paths lead to it. Flag 255
 // means nothing: no list has that number.
+#![tactic(auto)]
+
 ghost use Rattle.std.specs.Prelude.{◌≡◌};
 ghost use Rattle.rulebook.specs.Reasons.{reached, lowest};
 ghost use Rattle.reach.specs.Raised.{rule_has, item_has, list_has, starts, passes_on, Gained, Lent, Turn, Down, Started, Closed, Level, Rooted, Judged};

@@ -1,5 +1,7 @@
 // `read LISTING`: the program behind `./herringcart read`. Thin: it reads and writes; the listing is read by `listing`, its words are laid as a file has
 // them by `text`, and what is said of a bad line is laid by `complaint`.
+#![tactic(auto)]
+
 ghost use Rattle.std.specs.Prelude.{◌≤◌, length};
 ghost use Rattle.session.specs.Printed.{table_words};
 

@@ -1,4 +1,6 @@
 // A supplier's log, as document 01's program would print it, read back: an event's recording at a time, with a cursor by value.
+#![tactic(auto)]
+
 ghost use Rattle.std.specs.Prelude.{◌≡◌, ◌≤◌, length};
 ghost use Rattle.recording.specs.Log.{hex_value, is_answer as is_answer_at, found_behind};
 ghost use Rattle.recording.specs.Promises.{found_number, ReadsHex, ReadsWord, ReadsWords, ReadsRecording};

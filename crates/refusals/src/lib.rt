@@ -1,4 +1,6 @@
 // Answers 4, 8, 5 and 6, in this order: an event that is refused, by its word, the outcome words lent with it and the table alone.
+#![tactic(auto)]
+
 ghost use Rattle.std.specs.Prelude.{◌≡◌};
 ghost use Rattle.rulebook.specs.State.{owner_of};
 ghost use Rattle.rulebook.specs.Step.{well_formed, named as named_of, present as present_of, suited as suited_of};

@@ -1,4 +1,6 @@
 // `run TABLE EVENTS`: document 01's program. Thin: it opens, reads and writes; what is printed is laid by `session`.
+#![tactic(auto)]
+
 ghost use Rattle.std.specs.Prelude.{◌≤◌, length, take};
 ghost use Rattle.rulebook.specs.State.{fresh};
 ghost use Rattle.text.specs.Words.{words_of};

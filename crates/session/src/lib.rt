@@ -1,4 +1,6 @@
 // A session: what the program prints for a table and for events, laid into lent bytes. Files and their blocks are the program's.
+#![tactic(auto)]
+
 ghost use Rattle.std.specs.Prelude.{◌≡◌, ◌+◌, ◌*◌, ◌≤◌, ◌<◌, length, take, eqb};
 ghost use Rattle.rulebook.specs.Reasons.{verdict};
 ghost use Rattle.rulebook.specs.Step.{refused_call};

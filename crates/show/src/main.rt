@@ -1,5 +1,7 @@
 // `panel OPERATOR TABLE EVENTS [--follow]`, its words in the order TABLE EVENTS OPERATOR [follow]. Thin: it opens, reads and writes; what is
 // printed is laid by `follow`.
+#![tactic(auto)]
+
 ghost use Rattle.std.specs.Prelude.{◌≡◌, ◌≤◌, true, [], length, take};
 ghost use Rattle.rulebook.specs.State.{fresh};
 ghost use Rattle.text.specs.Words.{words_of};

@@ -1,4 +1,6 @@
 // The state: whether one fits a table, table and state checked together, and a fresh one.
+#![tactic(auto)]
+
 ghost use Rattle.std.specs.Prelude.{◌≡◌};
 ghost use Rattle.rulebook.specs.State.{port_fits, rule_fits, network_fits, source_fits, thing_fits, fits as fits_of, fresh_port, pack_rule, fresh_thing};
 ghost use Rattle.rulebook.specs.State.{fresh as fresh_of};

@@ -236,8 +236,10 @@ module _ (t : List ℕ) (h : accepted t ≡ true) (o : ℕ) where
       (rw (k, shared) at e) (λ two. rw (k, shared) at (a two))))
 
 pub each-pair : {P Q : Sending → Sending → Type 0} → ((x y : Sending) → P x y → Q x y) → (xs ys : List Sending) → EachPair P xs ys → EachPair Q xs ys
-each-pair f [] [] h = tt
-each-pair f (x ∷ xs) (y ∷ ys) h = (f x y h.0, each-pair f xs ys h.1)
+each-pair {P = P} {Q = Q} f [] [] h = tt
+each-pair {P = P} {Q = Q} f [] (y ∷ ys) h = elim h [ ]
+each-pair {P = P} {Q = Q} f (x ∷ xs) [] h = elim h [ ]
+each-pair {P = P} {Q = Q} f (x ∷ xs) (y ∷ ys) h = (f x y h.0, each-pair {P = P} {Q = Q} f xs ys h.1)
 
 -- Two runs from the fresh state, of whatever is shown to be one.
 module _ (t : List ℕ) (h : accepted t ≡ true) (Went : ℕ → List Sending → Type 0) (ran : (o : ℕ) (xs : List Sending) → Went o xs → Ran t o (fresh t) xs) where

@@ -352,7 +352,7 @@ none-in-first t h (x ∷ xs) = (rw h, none-in-first t h xs)
 none-in-play : (t s es : List ℕ) → NoneRead t (log_from t s es)
 unfolding log_from
 none-in-play t s [] = tt
-none-in-play t s (e ∷ es) = (none-heeded t, none-in-play t _ es)
+none-in-play t s (e ∷ es) = (none-heeded t, none-in-play t (happen t e [] s).state es)
 
 -- The partner. Its entries are the kept ones of the log, each with its event and outcomes fed by what it met.
 

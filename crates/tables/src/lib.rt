@@ -1,4 +1,6 @@
 // The table check: any words, of any number. Accepted with B, or the first reason that holds and its place.
+#![tactic(auto)]
+
 ghost use Rattle.std.specs.Prelude.{◌≡◌, ◌&&◌};
 ghost use Rattle.rulebook.specs.Reasons.{known_edition, counts_inside};
 ghost use Rattle.words.specs.Sections.{Laid};

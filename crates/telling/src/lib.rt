@@ -1,4 +1,6 @@
 // What the program behind `./herringcart hold` says of an event of a supplier's log: our step, the verdict, and its lines laid where the verdict is.
+#![tactic(auto)]
+
 ghost use Rattle.std.specs.Prelude.{◌≡◌, true, ◌++◌, ◌+◌, ◌≤◌, min, length, take, drop};
 ghost use Rattle.text.specs.Lines.{hex_line};
 ghost use Rattle.text.specs.Puts.{PutAt};

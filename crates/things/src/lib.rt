@@ -1,4 +1,6 @@
 // What requests, wakeups, bus-offs, traffic heard and ticks do to the lent state: everything but arbitration.
+#![tactic(auto)]
+
 ghost use Rattle.std.specs.Prelude.{◌≡◌};
 ghost use Rattle.rulebook.specs.Words.{each};
 ghost use Rattle.rulebook.specs.Table.{ports as ports_of, networks as networks_of, sources as sources_of};

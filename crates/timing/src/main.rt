@@ -1,4 +1,6 @@
 // `cost TABLE EVENTS`: what each event costs. Thin: it opens, reads and writes; what is printed is laid by `visits`.
+#![tactic(auto)]
+
 ghost use Rattle.std.specs.Prelude.{◌≤◌, length, take};
 ghost use Rattle.rulebook.specs.State.{fresh};
 ghost use Rattle.text.specs.Words.{words_of};

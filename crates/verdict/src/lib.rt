@@ -1,4 +1,6 @@
 // What `./herringcart check` prints for a table: its reason, its place and B, three decimal lines, laid into lent bytes.
+#![tactic(auto)]
+
 ghost use Rattle.verdict.specs.Verdict.{LaysVerdict};
 
 use text::output::put_decimal_line;

@@ -1,5 +1,7 @@
 // What events cost: what `cost TABLE EVENTS` prints, laid into lent bytes: a line for each event with its trace words and its visits,
 // and at the end the largest counts beside what they are never above. Files and their blocks are the program's.
+#![tactic(auto)]
+
 ghost use Rattle.std.specs.Prelude.{◌≡◌, ◌+◌, ◌≤◌, ◌<◌, length};
 ghost use Rattle.words.specs.Sections.{Laid as LaidOut};
 ghost use Rattle.session.specs.Promises.{Ready, offered};

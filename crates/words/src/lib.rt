@@ -1,4 +1,6 @@
 // Words: the fields of one, and reading and writing of lent words that never fails.
+#![tactic(auto)]
+
 ghost use Rattle.std.specs.Prelude.{cond, ◌≡◌, max, set};
 ghost use Rattle.rulebook.specs.Words.{digit, word as word_of};
 ghost use Rattle.words.specs.Field.{Field, Sized};
