@@ -23,7 +23,7 @@ const WIDEST: usize = 73739;
 
 // Where a log is read: its bytes from `at` up to `end` stand in the window, and `ended` says that the file has no more. `failed` is a read that failed,
 // which has been told.
-#[derive(Drop)]
+#[derive(Clone, Copy)]
 struct Place {
     failed: bool,
     ended: bool,
@@ -78,7 +78,7 @@ fn complain_of(line: u64, what: &[u8], event: u64) {
 }
 
 // What came of an event: whether to go on, whether the supplier's recording parted from ours, and where the log is read next.
-#[derive(Drop)]
+#[derive(Clone, Copy)]
 struct Turn {
     going: bool,
     parted: bool,
@@ -145,7 +145,7 @@ fn tell_step(
 }
 
 // Whether to go on, and whether the supplier's recording parted from ours.
-#[derive(Drop)]
+#[derive(Clone, Copy)]
 struct Told {
     going: bool,
     parted: bool,
@@ -243,7 +243,7 @@ fn hold_event(
 }
 
 // What came of the events so far: whether to go on, how many were taken and how many of them parted, and where the log is read.
-#[derive(Drop)]
+#[derive(Clone, Copy)]
 struct Day {
     going: bool,
     events: u64,
@@ -352,7 +352,7 @@ fn hold_block(
 }
 
 // What came of a block, `going` if the next one was read; and the bytes that it has, 0 to end.
-#[derive(Drop)]
+#[derive(Clone, Copy)]
 struct Block {
     going: bool,
     day: Day,
@@ -397,7 +397,7 @@ fn next_block(
 }
 
 // The whole file: whether it came to its end, and what came of its events.
-#[derive(Drop)]
+#[derive(Clone, Copy)]
 struct Ended {
     whole: bool,
     day: Day,

@@ -6,7 +6,7 @@ ghost use Rattle.buslog.specs.Inside.{StampAt, FrameAt, ReadsLine};
 use crate::pieces::{Piece, read_number, read_piece};
 
 // The front of a line: whether it stands, its time in microseconds, and where its name begins.
-#[derive(Drop)]
+#[derive(Clone, Copy)]
 struct Stamp {
     stands: bool,
     time: u64,
@@ -43,7 +43,7 @@ fn read_stamp(text: &[u8], at: usize) -> Stamp
 }
 
 // The end of a line, from its identifier on: whether it stands, whether it tells of a bus-off, and where the next line begins.
-#[derive(Drop)]
+#[derive(Clone, Copy)]
 struct Frame {
     stands: bool,
     bus_off: bool,
@@ -81,7 +81,7 @@ fn read_frame(text: &[u8], at: usize) -> Frame
 }
 
 // A line: whether it is spelt right, and then its time, where its interface's name stands, whether it tells of a bus-off, and where the next line begins.
-#[derive(Drop)]
+#[derive(Clone, Copy)]
 pub struct Line {
     pub spelt: bool,
     pub time: u64,

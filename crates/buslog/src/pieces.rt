@@ -8,7 +8,7 @@ ghost use Rattle.buslog.specs.Inside.{part, Finds, Fits, Numbers, Parts};
 use text::input::byte;
 
 // The pieces of a log's line in their order, and a name's line in the list of the interfaces.
-#[derive(Drop)]
+#[derive(Clone, Copy)]
 pub enum Piece {
     Opening,
     Seconds,
@@ -110,7 +110,7 @@ fn step_over(at: usize, end: usize) -> usize
 }
 
 // Whether a piece stands at a place, where its bytes end, and where what is behind it begins: at the text's end where nothing ends the piece.
-#[derive(Drop)]
+#[derive(Clone, Copy)]
 pub struct Found {
     pub stands: bool,
     pub end: usize,

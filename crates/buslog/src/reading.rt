@@ -15,7 +15,7 @@ use words::sections::{Layout, network_at, read_accepted};
 const MOST: u64 = 18446744073709551615;
 
 // Where reading stands: lines read, the times of the first and of the last of them, and ticks given. Before a log's first line all are 0.
-#[derive(Drop)]
+#[derive(Clone, Copy)]
 pub struct Cursor {
     pub lines: u64,
     pub first: u64,
@@ -24,7 +24,7 @@ pub struct Cursor {
 }
 
 // What reading ended with: every line is read, or what refused the table, the list or the line behind those read.
-#[derive(Drop)]
+#[derive(Clone, Copy)]
 pub enum Ending {
     Read,
     BadTable,
@@ -51,7 +51,7 @@ pub fn number(end: Ending) -> u32
 }
 
 // What reading came to: its ending, the cursor, how many events are written, and how many bytes of the log are read.
-#[derive(Drop)]
+#[derive(Clone, Copy)]
 pub struct Step {
     pub end: Ending,
     pub cursor: Cursor,

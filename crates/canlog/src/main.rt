@@ -26,7 +26,7 @@ fn print_events(events: &[u32], raw: &mut [u8]) -> bool
 }
 
 // What came of a part of the log: whether every line of it was read and every event written, and the cursor behind them.
-#[derive(Drop)]
+#[derive(Clone, Copy)]
 struct Turn {
     going: bool,
     cursor: Cursor,
@@ -109,7 +109,7 @@ fn whole_lines(window: &[u8], ended: bool) -> usize
 
 // Where a log is read: so many of its bytes stand at the window's front, and `ended` says that the file has no more. `failed` is a read that failed, which
 // has been told.
-#[derive(Drop)]
+#[derive(Clone, Copy)]
 struct Place {
     failed: bool,
     ended: bool,

@@ -51,7 +51,7 @@ fn lay_trace(out: &mut [u8], trace: &[u32], count: usize) -> usize
 
 // How many events were taken, how many expression words they visited, in 64 bits, how many bytes their trace lines are, and the number of
 // what ended the part.
-#[derive(Drop)]
+#[derive(Clone, Copy)]
 pub struct Part {
     pub taken: usize,
     pub visits: u64,

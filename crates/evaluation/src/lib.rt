@@ -254,7 +254,7 @@ pub fn unready(t: &[u32], h: Layout, s: &[u32], r: u32) -> bool
 }
 
 // A rule's result, 0 false, 1 true, and the visits that finding it makes.
-#[derive(Drop)]
+#[derive(Clone, Copy)]
 pub struct Found {
     pub result: u32,
     pub visits: u32,

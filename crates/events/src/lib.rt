@@ -89,14 +89,14 @@ fn happen(
 }
 
 // What a call that is done reports: how many trace words it has written, and how many expression words its evaluations have visited.
-#[derive(Drop)]
+#[derive(Clone, Copy)]
 pub struct Report {
     pub count: usize,
     pub visits: u32,
 }
 
 // A case for each answer of an event call.
-#[derive(Drop)]
+#[derive(Clone, Copy)]
 pub enum Answer {
     Done(Report),
     BadTable,

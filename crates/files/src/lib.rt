@@ -26,7 +26,7 @@ pub fn missing(name: &[u8], usage: &[u8]) {
 }
 
 // How many bytes were read into a block, and whether a read failed, which is told apart from the end of the file.
-#[derive(Drop)]
+#[derive(Clone, Copy)]
 pub struct Filled {
     pub failed: bool,
     pub bytes: usize,
@@ -71,7 +71,7 @@ fn fill(fd: i32, block: &mut [u8], from: usize) -> Filled
 
 // A file, how many bytes of the lent path name it, and how many of its own stand in the lent block; a descriptor below 0 where it
 // cannot be opened or read.
-#[derive(Drop)]
+#[derive(Clone, Copy)]
 pub struct File {
     pub fd: i32,
     pub named: usize,
@@ -152,7 +152,7 @@ pub fn print(out: &[u8]) -> bool {
 }
 
 // Whether a table's file could be read, and how many words of it were.
-#[derive(Drop)]
+#[derive(Clone, Copy)]
 pub struct Table {
     pub read: bool,
     pub words: usize,

@@ -11,7 +11,7 @@ use events::Answer;
 use text::number::least;
 
 // What is said of a supplier's recording: a refused event has our answer's number, the others the number of a word.
-#[derive(Drop)]
+#[derive(Clone, Copy)]
 pub enum Verdict {
     AsOrdered,
     Refused(u32),
@@ -98,7 +98,7 @@ pub fn compare(ours: &[u32], state: &[u32], theirs: &[u32], their_state: &[u32])
 }
 
 // The verdict on a supplier's recording, and what our own step reports: its count, which says how much of the trace is ours, and its visits.
-#[derive(Drop)]
+#[derive(Clone, Copy)]
 pub struct Held {
     pub verdict: Verdict,
     pub count: usize,

@@ -25,7 +25,7 @@ fn digit(text: &[u8], at: usize) -> u32
 }
 
 // What stands at a place: a number, and the place behind the byte that ends it; or none that may stand there.
-#[derive(Drop)]
+#[derive(Clone, Copy)]
 enum Numeral {
     Value(u32, usize),
     NoNumber,
@@ -65,7 +65,7 @@ fn read_number(text: &[u8], at: usize, size: u32, end: u8) -> Numeral
 }
 
 // What stands at a place: a line of a form, with its word and the place behind it; or none.
-#[derive(Drop)]
+#[derive(Clone, Copy)]
 pub enum Line {
     Word(u32, usize),
     Misspelt,
@@ -143,7 +143,7 @@ pub fn read_line(text: &[u8], at: usize, f: usize) -> Line
 }
 
 // The header's three lines: the place behind them, or the number of the first bad one.
-#[derive(Drop)]
+#[derive(Clone, Copy)]
 enum Opening {
     Behind(usize),
     BadLine(usize),
@@ -182,7 +182,7 @@ fn opened_bad(opening: Opening) -> usize
 }
 
 // What a text is: a listing of so many words, or bad from a line on.
-#[derive(Drop)]
+#[derive(Clone, Copy)]
 enum Scanned {
     Whole(usize),
     Bad(usize),
@@ -242,7 +242,7 @@ fn read_words(text: &[u8], header: &[u32], n: usize, words: &mut [u32]) -> usize
 }
 
 // What `read` answers: so many words are read; the number of the first bad line; or that the lent words are too few.
-#[derive(Drop)]
+#[derive(Clone, Copy)]
 pub enum Reading {
     Words(usize),
     Line(usize),

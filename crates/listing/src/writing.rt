@@ -56,7 +56,7 @@ fn lay_line(out: &mut [u8], at: usize, t: &[u32], h: Layout, i: usize) -> usize
 }
 
 // What lines leave of a room, or that they do not fit.
-#[derive(Drop)]
+#[derive(Clone, Copy)]
 enum Room {
     Left(usize),
     Short,
@@ -98,7 +98,7 @@ fn lay_listing(out: &mut [u8], t: &[u32], h: Layout) -> usize
 }
 
 // What `list` answers: the listing is laid, so many bytes; or what refused it.
-#[derive(Drop)]
+#[derive(Clone, Copy)]
 pub enum Listed {
     Bytes(usize),
     TooShort,

@@ -19,7 +19,7 @@ use words::{put, sections, state};
 
 // What a run has written, counted from nothing, by one word, and by what one run writes after another; how many of the lent outcome words
 // are read by then; and how many expression words its evaluations have visited.
-#[derive(Drop)]
+#[derive(Clone, Copy)]
 pub struct Written {
     pub count: usize,
     pub read: usize,
@@ -156,7 +156,7 @@ fn stops(t: &[u32], h: Layout, i: u32, outcomes: &[u32], read: usize) -> bool
 }
 
 // What comes of judging a rule: the list that it starts, 255 for none, and the visits of its evaluation.
-#[derive(Drop)]
+#[derive(Clone, Copy)]
 struct Judged {
     list: u32,
     visits: u32,

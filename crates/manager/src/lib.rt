@@ -35,7 +35,7 @@ pub fn make_fresh(t: &[u32], s: &mut [u32]) -> Made
 }
 
 // What a state check answers.
-#[derive(Drop)]
+#[derive(Clone, Copy)]
 pub enum Fit {
     Fits,
     BadTable,
@@ -107,7 +107,7 @@ pub fn take_event(t: &[u32], s: &mut [u32], trace: &mut [u32], outcomes: &[u32],
 }
 
 // What ended a play: all its events are taken, or which answer stood before the next. A trace that is full is answer 3's.
-#[derive(Drop)]
+#[derive(Clone, Copy)]
 pub enum End {
     Done,
     BadTable,
@@ -152,7 +152,7 @@ fn end_of(answer: Answer) -> End
 
 // How many events were taken, how many trace words they wrote, how many expression words they visited, and what ended the play. The
 // visits are the lowest 64 bits of their sum, which is the sum itself in any play of up to 33 million million events.
-#[derive(Drop)]
+#[derive(Clone, Copy)]
 pub struct Played {
     pub taken: usize,
     pub count: usize,

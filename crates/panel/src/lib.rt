@@ -32,7 +32,7 @@ fn word(ws: &[u32], i: usize) -> u32
 }
 
 // The counts of a table's header that the panel goes by.
-#[derive(Drop)]
+#[derive(Clone, Copy)]
 struct Counts {
     ports: usize,
     networks: usize,
@@ -150,7 +150,7 @@ fn length_at(part: u32, o: u32, t: &[u32], c: Counts, s: &[u32], ws: &[u32], i: 
 }
 
 // What lines leave of a room, or that they do not fit.
-#[derive(Drop)]
+#[derive(Clone, Copy)]
 enum Room {
     Left(usize),
     Short,
@@ -286,7 +286,7 @@ fn lay_panel(out: &mut [u8], o: u32, t: &[u32], c: Counts, s: &[u32], ws: &[u32]
 }
 
 // What a panel answers: its lines are laid, so many bytes; or what refused it.
-#[derive(Drop)]
+#[derive(Clone, Copy)]
 pub enum Shown {
     Laid(usize),
     NoOperator,
@@ -322,7 +322,7 @@ pub fn bytes(shown: Shown) -> usize
 }
 
 // Whether a number is an operator's: 0 is the platform, and an owner has four bits.
-#[derive(Drop)]
+#[derive(Clone, Copy)]
 enum Who {
     Operator,
     Other,

@@ -18,7 +18,7 @@ const TRACE_FULL: u32 = 3;
 
 // How many of a block's events were taken, their visits in 64 bits, and the number that ended its play, 0 behind its last event. After a
 // failed write all speak of the events taken so far.
-#[derive(Drop)]
+#[derive(Clone, Copy)]
 struct Block {
     written: bool,
     taken: usize,
@@ -70,7 +70,7 @@ fn play_block(t: &[u32], s: &mut [u32], trace: &mut [u32], block: &[u8], out: &m
 }
 
 // What came of a block, as `Block` says it, `going` if no write and no read failed; and the bytes that the next block has, 0 to end.
-#[derive(Drop)]
+#[derive(Clone, Copy)]
 struct Turn {
     going: bool,
     taken: usize,
@@ -120,7 +120,7 @@ fn next_block(
 }
 
 // The whole play: whether it came to its end, and then how many events were taken, their visits in 64 bits, and the number that ended it.
-#[derive(Drop)]
+#[derive(Clone, Copy)]
 struct Day {
     whole: bool,
     taken: u64,

@@ -27,7 +27,7 @@ fn hex_value(b: u8) -> u32
 }
 
 // What eight bytes, or a line, are: a word, or none.
-#[derive(Drop)]
+#[derive(Clone, Copy)]
 enum Spelt {
     Word(u32),
     NoWord,
@@ -97,7 +97,7 @@ fn read_words(bytes: &[u8], at: usize, words: &mut [u32]) -> usize
 
 // What was found where a recording has to stand: a whole one, or the log's last; no line any more; a line that is no answer; or,
 // behind its words, a line that is neither an answer nor a word, or a word that has no room.
-#[derive(Drop)]
+#[derive(Clone, Copy)]
 pub enum Found {
     Whole,
     Last,
@@ -108,7 +108,7 @@ pub enum Found {
 }
 
 // What was found, the answer, how many words stand in the front of those lent, and the place behind them.
-#[derive(Drop)]
+#[derive(Clone, Copy)]
 pub struct Recording {
     pub found: Found,
     pub answer: u32,

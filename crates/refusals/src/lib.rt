@@ -83,7 +83,7 @@ fn suited(t: &[u32], h: Layout, e: u32) -> bool
 }
 
 // What one of the checks says.
-#[derive(Drop)]
+#[derive(Clone, Copy)]
 pub enum Check {
     Passed,
     Failed,
@@ -145,7 +145,7 @@ fn sent_by_owner(t: &[u32], h: Layout, e: u32) -> Check
 }
 
 // What the checks of an event come to: it is taken, or refused, with a case for each answer.
-#[derive(Drop)]
+#[derive(Clone, Copy)]
 pub enum EventCheck {
     Taken,
     Malformed,

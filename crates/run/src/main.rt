@@ -33,7 +33,7 @@ fn run_block(t: &[u32], s: &mut [u32], trace: &mut [u32], block: &[u8], out: &mu
 }
 
 // Whether a block's lines could be written, and the bytes that the next block has, 0 to end.
-#[derive(Drop)]
+#[derive(Clone, Copy)]
 struct Turn {
     written: bool,
     bytes: usize,

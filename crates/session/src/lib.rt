@@ -20,7 +20,7 @@ use words::sections::{Layout, read_accepted};
 pub const MOST: usize = 40106;
 
 // The check of a table, and what a session with it asks for: state words and trace words, none for a table with a reason.
-#[derive(Drop)]
+#[derive(Clone, Copy)]
 pub struct Opening {
     pub reason: u32,
     pub place: u32,
@@ -114,7 +114,7 @@ pub fn ready(t: &[u32], s: &[u32], room: usize) -> bool
 }
 
 // How many events were taken, and how many bytes their lines are.
-#[derive(Drop)]
+#[derive(Clone, Copy)]
 pub struct Taken {
     pub events: usize,
     pub bytes: usize,

@@ -56,7 +56,7 @@ pub fn lay_left(o: u32, t: &[u32], s: &[u32], ws: &[u32], out: &mut [u8]) -> usi
 }
 
 // Whether a line has changed, and how many bytes the panel now has.
-#[derive(Drop)]
+#[derive(Clone, Copy)]
 pub struct Changed {
     pub changed: bool,
     pub kept: usize,

@@ -22,7 +22,7 @@ use words::sections::{Layout, read_accepted};
 
 // The next event's number in 64 bits, how many trace words the newest step wrote, and how many bytes the panel has that the next event
 // finds.
-#[derive(Drop)]
+#[derive(Clone, Copy)]
 struct Seen {
     events: u64,
     count: usize,
@@ -30,7 +30,7 @@ struct Seen {
 }
 
 // Whether what is printed could be written, and what was seen.
-#[derive(Drop)]
+#[derive(Clone, Copy)]
 struct Watched {
     written: bool,
     seen: Seen,
@@ -132,7 +132,7 @@ fn watch_block(
 }
 
 // What came of a block, `going` if no write and no read failed; and the bytes that the next block has, 0 to end.
-#[derive(Drop)]
+#[derive(Clone, Copy)]
 struct Turn {
     going: bool,
     seen: Seen,
@@ -179,7 +179,7 @@ fn next_block(
 }
 
 // The whole file: whether it came to its end, and what was seen.
-#[derive(Drop)]
+#[derive(Clone, Copy)]
 struct Ended {
     whole: bool,
     seen: Seen,

@@ -110,7 +110,7 @@ pub fn fits(t: &[u32], s: &[u32]) -> bool
 }
 
 // What the check of a table and a state answers: both stand, with B, or which does not.
-#[derive(Drop)]
+#[derive(Clone, Copy)]
 pub enum Admission {
     Stands(u32),
     BadTable,
@@ -180,7 +180,7 @@ fn write_fresh(t: &[u32], h: Layout, s: &mut [u32])
 }
 
 // What making a fresh state answers.
-#[derive(Drop)]
+#[derive(Clone, Copy)]
 pub enum Made {
     Done,
     BadTable,

@@ -18,7 +18,7 @@ use words::word;
 
 // A case for each answer: accepted, with B, and the ten reasons in their order, 10 before 9, with the place where there is
 // one.
-#[derive(Drop)]
+#[derive(Clone, Copy)]
 pub enum Checked {
     Accepted(u32),
     TooShort,
@@ -34,7 +34,7 @@ pub enum Checked {
 }
 
 // A check's answer in numbers: the reason, the place and B.
-#[derive(Drop)]
+#[derive(Clone, Copy)]
 pub struct InNumbers {
     pub reason: u32,
     pub place: usize,
@@ -132,7 +132,7 @@ fn counts_inside(t: &[u32], h: Layout) -> bool
 }
 
 // Reasons 1 to 4, which go by the header and the length alone: the layout, or a case for each of them.
-#[derive(Drop)]
+#[derive(Clone, Copy)]
 pub enum Shape {
     Shaped(Layout),
     TooShort,

@@ -28,7 +28,7 @@ const STATES_PART: u32 = 5;
 const ANSWERS_PART: u32 = 6;
 
 // Our step: its answer's number, and how many trace words it wrote.
-#[derive(Drop)]
+#[derive(Clone, Copy)]
 pub struct Step {
     pub answer: u32,
     pub count: usize,
@@ -48,7 +48,7 @@ pub fn take_one(t: &[u32], h: Layout, e: u32, s: &mut [u32], trace: &mut [u32]) 
 }
 
 // A verdict's number, the number that it gives, and how many of the recording's words are the supplier's state.
-#[derive(Drop)]
+#[derive(Clone, Copy)]
 pub struct Judged {
     pub verdict: u32,
     pub number: usize,

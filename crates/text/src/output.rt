@@ -85,7 +85,7 @@ pub fn put_label(out: &mut [u8], at: usize, label: &[u8]) -> usize
 }
 
 // How many words were laid, and the place after their lines.
-#[derive(Drop)]
+#[derive(Clone, Copy)]
 pub struct Laid {
     pub words: usize,
     pub next: usize,

@@ -16,7 +16,7 @@ use text::input::word_count;
 use visits::Most;
 
 // Whether the lines of a block's events could be written, and the largest counts with its events.
-#[derive(Drop)]
+#[derive(Clone, Copy)]
 struct Block {
     written: bool,
     most: Most,
@@ -56,7 +56,7 @@ fn time_block(
 }
 
 // What came of a block, `going` if no write and no read failed; and the bytes that the next block has, 0 to end.
-#[derive(Drop)]
+#[derive(Clone, Copy)]
 struct Turn {
     going: bool,
     most: Most,
@@ -98,7 +98,7 @@ fn next_block(
 }
 
 // The whole file: whether it came to its end, and the largest counts of its events.
-#[derive(Drop)]
+#[derive(Clone, Copy)]
 struct Timed {
     whole: bool,
     most: Most,

@@ -40,14 +40,14 @@ fn lay_event(out: &mut [u8], at: usize, number: u64, answer: u32, trace: u64, vi
 }
 
 // A largest count, and the number of the first event that has it.
-#[derive(Drop)]
+#[derive(Clone, Copy)]
 pub struct Largest {
     pub count: u64,
     pub event: u64,
 }
 
 // How many events there were, and the largest counts of trace words and of visits among them.
-#[derive(Drop)]
+#[derive(Clone, Copy)]
 pub struct Most {
     pub events: u64,
     pub trace: Largest,
@@ -95,7 +95,7 @@ fn counted(most: Most, trace: u64, visits: u64) -> Most
 }
 
 // What one event cost, and the place behind its line.
-#[derive(Drop)]
+#[derive(Clone, Copy)]
 struct Cost {
     trace: u64,
     visits: u64,
@@ -129,7 +129,7 @@ fn take_one(
 }
 
 // How many events were taken, how many bytes their lines are, and the largest counts with them.
-#[derive(Drop)]
+#[derive(Clone, Copy)]
 pub struct Taken {
     pub events: usize,
     pub bytes: usize,

@@ -6,7 +6,7 @@ ghost use Rattle.words.specs.Sections.{Inside};
 
 use crate::sections::Layout;
 
-#[derive(Drop)]
+#[derive(Clone, Copy)]
 pub enum Part {
     Header,
     Port(u32),

@@ -8,7 +8,7 @@ use crate::{table, word};
 
 // The counts; whether the edition is 2, and whether the table is known to be accepted; the place of each section's first word, `port0` being 3 always; the length that
 // the header asks for.
-#[derive(Drop)]
+#[derive(Clone, Copy)]
 pub struct Layout {
     pub ports: u32,
     pub networks: u32,
@@ -142,7 +142,7 @@ pub fn item_word(t: &[u32], h: Layout, i: u32) -> u32
 // The things themselves, by number and by value: each with all fields of its word, in document 01's order.
 
 // A port's word.
-#[derive(Drop)]
+#[derive(Clone, Copy)]
 pub struct Port {
     pub kind: u32,
     pub deferred: u32,
@@ -173,7 +173,7 @@ pub fn port_at(t: &[u32], p: u32) -> Port
 }
 
 // A network's first word.
-#[derive(Drop)]
+#[derive(Clone, Copy)]
 pub struct Network {
     pub owner: u32,
     pub port: u32,
@@ -199,7 +199,7 @@ pub fn network_at(t: &[u32], h: Layout, n: u32) -> Network
 }
 
 // A network's second word.
-#[derive(Drop)]
+#[derive(Clone, Copy)]
 pub struct Waits {
     pub l1: u32,
     pub l2: u32,
@@ -218,7 +218,7 @@ pub fn waits_at(t: &[u32], h: Layout, n: u32) -> Waits
 }
 
 // A source's word.
-#[derive(Drop)]
+#[derive(Clone, Copy)]
 pub struct Source {
     pub owner: u32,
     pub port: u32,
@@ -244,7 +244,7 @@ pub fn source_at(t: &[u32], h: Layout, k: u32) -> Source
 }
 
 // An expression's word: `port`, `value` and `zero` are a condition's, `left` and `right` an operator's.
-#[derive(Drop)]
+#[derive(Clone, Copy)]
 pub struct Expression {
     pub kind: u32,
     pub port: u32,
@@ -276,7 +276,7 @@ pub fn expression_at(t: &[u32], from: usize, e: u32) -> Expression
 }
 
 // A rule's word.
-#[derive(Drop)]
+#[derive(Clone, Copy)]
 pub struct Rule {
     pub owner: u32,
     pub first_result: u32,
@@ -308,7 +308,7 @@ pub fn rule_at(t: &[u32], h: Layout, r: u32) -> Rule
 }
 
 // A list's word.
-#[derive(Drop)]
+#[derive(Clone, Copy)]
 pub struct List {
     pub owner: u32,
     pub triggered: u32,
@@ -337,7 +337,7 @@ pub fn list_at(t: &[u32], h: Layout, l: u32) -> List
 }
 
 // An item's word.
-#[derive(Drop)]
+#[derive(Clone, Copy)]
 pub struct Item {
     pub kind: u32,
     pub abort: u32,

@@ -12,7 +12,7 @@ use crate::sections::Layout;
 use crate::{put, word};
 
 // What has a word in the state.
-#[derive(Drop)]
+#[derive(Clone, Copy)]
 pub enum Thing {
     Port(u32),
     Rule(u32),
@@ -174,7 +174,7 @@ pub fn pack_source(status: u32, remaining: u32) -> u32
 }
 
 // A port: its word's fields together, by the word and by the port's number.
-#[derive(Drop)]
+#[derive(Clone, Copy)]
 pub struct Port {
     pub defined: u32,
     pub marked: u32,
@@ -235,7 +235,7 @@ pub fn set_result(t: &[u32], h: Layout, s: &mut [u32], r: u32, res: u32)
     put(s, h.ports as usize + r as usize, w);
 }
 
-#[derive(Drop)]
+#[derive(Clone, Copy)]
 pub struct Network {
     pub asked: u32,
     pub state: u32,
@@ -285,7 +285,7 @@ pub fn set_network(t: &[u32], h: Layout, s: &mut [u32], n: u32, c: Network)
     put(s, i, w);
 }
 
-#[derive(Drop)]
+#[derive(Clone, Copy)]
 pub struct Source {
     pub status: u32,
     pub remaining: u32,

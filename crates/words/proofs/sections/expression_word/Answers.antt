@@ -1,0 +1,8 @@
+-- `words::sections::expression_word` meets its contract: the place handed in is the table's. Assumes nothing.
+use native.Mathlib.Omega.{arith}
+use Rattle.words.proofs.Places.{expressions-near}
+use borrow.Author.Rules.{rules}
+use Rattle.words.proofs.sections.expression_word.Goals as goal
+
+pub returns : goal.returns
+returns c = rw (← c.requires) c.word.ensures

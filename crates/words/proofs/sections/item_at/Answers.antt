@@ -1,0 +1,17 @@
+-- `words::sections::item_at` meets its contract: each field is that of the word at the item's place, by the table's edition. Assumes nothing.
+use borrow.Author.Rules.{rules}
+use Rattle.rulebook.specs.Table.{abort, a_size}
+use Rattle.words.proofs.sections.item_at.Goals as goal
+
+pub returns : goal.returns
+unfolding abort a_size
+returns c =
+    let at-kind = c in
+    let word = at-kind.item-word.ensures in
+    let second = at-kind.requires.second in
+    record {
+      kind = rw word at at-kind.item-kind.ensures;
+      abort = rw (word, second) at c.item_abort-abort.ensures;
+      a = rw (word, second) at c.item_a-a.ensures;
+      b = rw word at c.item_b-b.ensures;
+    }

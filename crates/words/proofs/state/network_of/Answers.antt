@@ -1,0 +1,14 @@
+-- `words::state::network_of` meets its contract: the five fields read are the rulebook's. Assumes nothing.
+use borrow.Author.Rules.{rules}
+use Rattle.words.proofs.state.network_of.Goals as goal
+
+pub returns : goal.returns
+returns c =
+    let at-network-state = c in
+    rw (
+      ← at-network-state.asked.ensures.value,
+      ← at-network-state.network-state.ensures.value,
+      ← c.counter-counter.ensures.value,
+      ← c.heard-heard.ensures.value,
+      ← c.remaining-remaining.ensures.value,
+    )

@@ -1,0 +1,8 @@
+-- `words::state::result_in` meets its contract: the word read is the rule's. Assumes nothing.
+use borrow.Author.Rules.{rules}
+use Rattle.words.proofs.state.result_in.Goals as goal
+
+pub returns : goal.returns
+returns c =
+    let at-struct-known = c in
+    rw (← at-struct-known.requires.ports.value, ← c.word.ensures) c.result.ensures.value

@@ -1,0 +1,20 @@
+-- `words::state::set_network` meets its contract: the word packed is the one that the rulebook sets. Assumes nothing.
+use Rattle.rulebook.specs.Lists.{set_network}
+use borrow.Author.Rules.{rules}
+use Rattle.words.proofs.state.set_network.Goals as goal
+
+pub returns : goal.returns
+unfolding set_network
+returns c =
+    let at-pack-network = c in
+    rw (
+      ← at-pack-network.network-index.ensures,
+      ← at-pack-network.pack-network.ensures,
+    )
+    c.put.ensures
+
+pub pack_network-w-requires : goal.pack_network-w-requires
+pack_network-w-requires c = tt
+
+pub put-requires : goal.put-requires
+put-requires c = tt

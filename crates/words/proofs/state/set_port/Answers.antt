@@ -1,0 +1,16 @@
+-- `words::state::set_port` meets its contract: the word packed is the one that the rulebook sets. Assumes nothing.
+use Rattle.rulebook.specs.Lists.{set_port}
+use borrow.Author.Rules.{rules}
+use Rattle.words.proofs.state.set_port.Goals as goal
+
+pub returns : goal.returns
+unfolding set_port
+returns c =
+    let at-put = c in
+    rw (at-put.put.ensures, at-put.pack-port.ensures)
+
+pub pack_port-w-requires : goal.pack_port-w-requires
+pack_port-w-requires c = tt
+
+pub put-requires : goal.put-requires
+put-requires c = tt

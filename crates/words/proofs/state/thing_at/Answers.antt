@@ -1,0 +1,16 @@
+-- `words::state::thing_at` meets its contract: each exit by the law of its thing. Assumes nothing.
+use Rattle.words.proofs.Things.{port-thing, rule-thing, network-thing, source-thing}
+use borrow.Author.Rules.{rules}
+use Rattle.words.proofs.state.thing_at.Goals as goal
+
+pub returns-then-i-rule0 : goal.returns-then-i-rule0
+returns-then-i-rule0 c = port-thing _ _ c.requires.laid _ c.if-i-rule0.true
+
+pub returns-then-i-network0 : goal.returns-then-i-network0
+returns-then-i-network0 c = rule-thing _ _ c.requires.laid _ c.if-i-rule0.false c.if-i-network0.true
+
+pub returns-then-i-source0 : goal.returns-then-i-source0
+returns-then-i-source0 c = network-thing _ _ c.requires.laid _ c.if-i-network0.false c.if-i-source0.true
+
+pub returns : goal.returns
+returns c = source-thing _ _ c.requires.laid _ c.if-i-source0.false
