@@ -20,13 +20,11 @@ returns-then-source0-i c = source-part _ _ c.requires.laid _ c.if-source0-i.true
 
 pub returns-then-j-eq0 : goal.returns-then-j-eq0
 returns-then-j-eq0 c =
-    let at = c in
-    network-part _ _ at.requires.laid _ c.if-network0-i.true at.if-source0-i.false c.if-j-eq0.true
+    network-part _ _ c.requires.laid _ c.if-network0-i.true c.if-source0-i.false c.if-j-eq0.true
 
 pub returns-then-network0-i : goal.returns-then-network0-i
 returns-then-network0-i c =
-    let at = c in
-    waits-part _ _ at.requires.laid _ c.if-network0-i.true at.if-source0-i.false c.if-j-eq0.false
+    waits-part _ _ c.requires.laid _ c.if-network0-i.true c.if-source0-i.false c.if-j-eq0.false
 
 pub returns-then-i-ge3 : goal.returns-then-i-ge3
 returns-then-i-ge3 c = port-part _ _ c.requires.laid _ c.if-i-ge3.true c.if-network0-i.false

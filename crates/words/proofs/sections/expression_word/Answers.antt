@@ -4,5 +4,8 @@ use Rattle.words.proofs.Places.{expressions-near}
 use borrow.Author.Rules.{rules}
 use Rattle.words.proofs.sections.expression_word.Goals as goal
 
+pub overflow_add-from : goal.overflow_add-from
+overflow_add-from c = let near = expressions-near c.args.t.now in omega (arith, c.requires)
+
 pub returns : goal.returns
 returns c = rw (← c.requires) c.word.ensures

@@ -6,11 +6,10 @@ use Rattle.words.proofs.sections.item_at.Goals as goal
 pub returns : goal.returns
 unfolding abort a_size
 returns c =
-    let at-kind = c in
-    let word = at-kind.item-word.ensures in
-    let second = at-kind.requires.second in
+    let word = c.item_word-w.ensures in
+    let second = c.requires.second in
     record {
-      kind = rw word at at-kind.item-kind.ensures;
+      kind = rw word at c.item_kind-kind.ensures;
       abort = rw (word, second) at c.item_abort-abort.ensures;
       a = rw (word, second) at c.item_a-a.ensures;
       b = rw word at c.item_b-b.ensures;

@@ -4,11 +4,10 @@ use Rattle.words.proofs.sections.network_at.Goals as goal
 
 pub returns : goal.returns
 returns c =
-    let at-network-port = c in
     let word = c.network_word-w.ensures in
     record {
-      owner = rw word at at-network-port.network-owner.ensures;
-      port = rw word at at-network-port.network-port.ensures;
+      owner = rw word at c.network_owner-owner.ensures;
+      port = rw word at c.network_port-port.ensures;
       threshold = rw word at c.network_threshold-threshold.ensures;
       zero = rw word at c.network_zero-zero.ensures;
     }

@@ -25,4 +25,4 @@ returns c =
       length = read.length;
       accepted = λ h. c.requires;
     } in
-    (laid, refl)
+    record { laid = laid; accepted_value = refl }

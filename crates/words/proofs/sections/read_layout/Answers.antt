@@ -54,12 +54,10 @@ laid t hp hn hk he hr hl ha hd =
 
 pub returns : goal.returns
 returns c =
-    let at-rules = c in
-    let at-sources = at-rules in
     let first = c.word-first.ensures in
     let second = c.word-second.ensures in
     let third = c.word-third.ensures in
-    laid c.args.t.now (rw first at at-sources.ports.ensures)
-    (rw first at at-sources.networks.ensures) (rw first at at-sources.sources.ensures)
-    (rw second at at-rules.expressions.ensures) (rw second at at-rules.rules.ensures)
+    laid c.args.t.now (rw first at c.ports-ports.ensures)
+    (rw first at c.networks-networks.ensures) (rw first at c.sources-sources.ensures)
+    (rw second at c.expressions-expressions.ensures) (rw second at c.rules-rules.ensures)
     (rw third at c.lists-lists.ensures) (rw third at c.items-items.ensures) (rw first at c.edition-edition.ensures)

@@ -4,11 +4,10 @@ use Rattle.words.proofs.sections.source_at.Goals as goal
 
 pub returns : goal.returns
 returns c =
-    let at-source-port = c in
     let word = c.source_word-w.ensures in
     record {
-      owner = rw word at at-source-port.source-owner.ensures;
-      port = rw word at at-source-port.source-port.ensures;
+      owner = rw word at c.source_owner-owner.ensures;
+      port = rw word at c.source_port-port.ensures;
       timeout = rw word at c.source_timeout-timeout.ensures;
       zero = rw word at c.source_zero-zero.ensures;
     }

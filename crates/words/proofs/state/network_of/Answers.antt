@@ -4,10 +4,9 @@ use Rattle.words.proofs.state.network_of.Goals as goal
 
 pub returns : goal.returns
 returns c =
-    let at-network-state = c in
     rw (
-      ← at-network-state.asked.ensures.value,
-      ← at-network-state.network-state.ensures.value,
+      ← c.asked-asked.ensures.value,
+      ← c.network_state-state.ensures.value,
       ← c.counter-counter.ensures.value,
       ← c.heard-heard.ensures.value,
       ← c.remaining-remaining.ensures.value,

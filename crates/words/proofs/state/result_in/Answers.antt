@@ -4,5 +4,4 @@ use Rattle.words.proofs.state.result_in.Goals as goal
 
 pub returns : goal.returns
 returns c =
-    let at-struct-known = c in
-    rw (← at-struct-known.requires.ports.value, ← c.word.ensures) c.result.ensures.value
+    rw (← c.requires.ports.value, ← c.word.ensures) c.result.ensures.value

@@ -6,10 +6,9 @@ use Rattle.words.proofs.state.set_network.Goals as goal
 pub returns : goal.returns
 unfolding set_network
 returns c =
-    let at-pack-network = c in
     rw (
-      ← at-pack-network.network-index.ensures,
-      ← at-pack-network.pack-network.ensures,
+      ← c.network_index-i.ensures,
+      ← c.pack_network-w.ensures,
     )
     c.put.ensures
 

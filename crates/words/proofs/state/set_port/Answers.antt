@@ -6,8 +6,7 @@ use Rattle.words.proofs.state.set_port.Goals as goal
 pub returns : goal.returns
 unfolding set_port
 returns c =
-    let at-put = c in
-    rw (at-put.put.ensures, at-put.pack-port.ensures)
+    rw (c.put.ensures, c.pack_port-w.ensures)
 
 pub pack_port-w-requires : goal.pack_port-w-requires
 pack_port-w-requires c = tt

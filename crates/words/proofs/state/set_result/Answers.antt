@@ -6,5 +6,4 @@ use Rattle.words.proofs.state.set_result.Goals as goal
 pub returns : goal.returns
 unfolding set_result
 returns c =
-    let at-put = c in
-    rw (← c.requires.ports.value, ← at-put.pack-rule.ensures) c.put.ensures
+    rw (← c.requires.ports.value, ← c.pack_rule-w.ensures) c.put.ensures

@@ -6,10 +6,9 @@ use Rattle.words.proofs.state.set_source.Goals as goal
 pub returns : goal.returns
 unfolding set_source
 returns c =
-    let at-pack-source = c in
     rw (
-      ← at-pack-source.source-index.ensures,
-      ← at-pack-source.pack-source.ensures,
+      ← c.source_index-i.ensures,
+      ← c.pack_source-w.ensures,
     )
     c.put.ensures
 
