@@ -10,112 +10,33 @@ use Rattle.expression.proofs.Level.{mention-condition, mention-left, mention-not
 use Rattle.owners.proofs.Judged.{strange}
 use Rattle.owners.proofs.+mentions_stranger.Goals as goal
 
-module _ (t : ℕ) where
-  abbrev at : In 1 kinds.ps
-  at = and 1 kinds.ps (is 1 kinds.ps μ-levels t) own.Pre
+pub returns-then-levels-eq0 : goal.returns-then-levels-eq0
+unfolding mentions
+returns-then-levels-eq0 t c = rw c.if-levels-eq0.true
 
-  abbrev below : In 1 kinds.ps
-  below = and 1 kinds.ps (falls 1 kinds.ps ◌<◌ μ-levels t) own.Pre
+pub returns-then-not-is_operator : goal.returns-then-not-is_operator
+returns-then-not-is_operator t c =
+    strange _ _ _ _ _ c.port_word-named.ensures c.port_owner-owner.ensures.value
+    ∙ ap ((strangers_port c.args.t.now c.args.o)) c.condition_port.ensures.value
+    ∙ sym (mention-condition _ _ _ _ _ _ c.if-levels-eq0.false c.expression_word-w.ensures c.expression_kind-kind.ensures.value
+    c.is_operator.ensures ((strangers_port c.args.t.now c.args.o)) c.if-not-is_operator.true-raw)
 
--- HELPER with old types
---   abbrev calls : lts.Claims
---   calls = (
---     expression-word-reads.Asked,
---     expression-word-reads.Learnt,
---     expression-kind-reads.Asked,
---     expression-kind-reads.Learnt,
---     is-operator-reads.Asked,
---     is-operator-reads.Learnt,
---     condition-port-reads.Asked,
---     condition-port-reads.Learnt,
---     port-word-reads.Asked,
---     port-word-reads.Learnt,
---     port-owner-reads.Asked,
---     port-owner-reads.Learnt,
---     left-reads.Asked,
---     left-reads.Learnt,
---     below,
---     own.Post,
---     right-reads.Asked,
---     right-reads.Learnt,
---   )
+pub returns-then-mentions_stranger : goal.returns-then-mentions_stranger
+returns-then-mentions_stranger t c =
+    mention-left _ _ _ _ _ _ c.if-levels-eq0.false c.expression_word-w.ensures c.expression_kind-kind.ensures.value
+    c.is_operator.ensures ((strangers_port c.args.t.now c.args.o)) _ 0 _
+    c.if-not-is_operator.false-raw c.left.ensures.value c.mentions_stranger.ensures c.if-mentions_stranger.true
 
--- HELPER with old types
---   -- The places that the answers cite, each seen from a later one.
---   abbrev after-is-operator : lts.After-left calls at own.Post → lts.After-is-operator calls at own.Post
---   after-is-operator c = c.before.before
+pub returns-then-kind-eq-OPERATOR_NOT : goal.returns-then-kind-eq-OPERATOR_NOT
+returns-then-kind-eq-OPERATOR_NOT t c =
+    mention-not _ _ _ _ _ _ c.if-levels-eq0.false c.expression_word-w.ensures c.expression_kind-kind.ensures.value
+    c.is_operator.ensures ((strangers_port c.args.t.now c.args.o)) _ 0 _
+    c.if-not-is_operator.false-raw c.left.ensures.value c.mentions_stranger.ensures c.if-mentions_stranger.false c.if-kind-eq-OPERATOR_NOT.true
 
--- HELPER with old types
---   abbrev after-condition-port : lts.After-port-owner calls at own.Post → lts.After-condition-port calls at own.Post
---   after-condition-port c = c.before.before
-
--- HELPER with old types
---   -- the word was read, and its kind; the expression's strangers' ports
---   abbrev word : lts.After-is-operator calls at own.Post → lts.After-expression-word calls at own.Post
---   word c = c.before.before
-
--- HELPER with old types
---   abbrev start : lts.After-is-operator calls at own.Post → lts.Start calls at own.Post
---   start c = (word c).before.before.before
-
--- HELPER with old types
---   abbrev strangers : lts.After-is-operator calls at own.Post → ℕ → Bool
---   strangers c = strangers_port (start c).args.t.now (start c).args.o
-
--- HELPER with old types
---   returns : lts.Need-returns calls at own.Post
---   unfolding mentions
---   returns c = rw c.if1.true
-
--- HELPER with old types
---   returns-2 : lts.Need-returns-2 calls at own.Post
---   returns-2 c =
---       let test = (after-condition-port c).before.before in
---       strange _ _ _ _ _ c.before.port-word.ensures c.port-owner.ensures.value
---       ∙ ap (strangers test) (after-condition-port c).condition-port.ensures.value
---       ∙ sym (mention-condition _ _ _ _ _ _ (word test).before.if1.left (word test).expression-word.ensures test.before.expression-kind.ensures.value
---       test.is-operator.ensures (strangers test) (after-condition-port c).before.if2.true)
-
--- HELPER with old types
---   mentions-stranger-requires : lts.Need-mentions-stranger-requires calls at own.Post
---   mentions-stranger-requires c κs =
---       let test = after-is-operator c in
---       let pre = (start test).pre in
---       (omega (arith, pre.0, (word test).before.if1.left), pre.1)
-
--- HELPER with old types
---   returns-3 : lts.Need-returns-3 calls at own.Post
---   returns-3 c =
---       let named = c.before.before in
---       let test = named.before.before in
---       mention-left _ _ _ _ _ _ (word test).before.if1.false (word test).expression-word.ensures test.before.expression-kind.ensures.value
---       test.is-operator.ensures (strangers test) _ 0 _
---       named.before.if2.false named.left.ensures.value c.before.mentions-stranger.ensures c.if3.true
-
--- HELPER with old types
---   returns-4 : lts.Need-returns-4 calls at own.Post
---   returns-4 c =
---       let named = c.before.before.before in
---       let test = named.before.before in
---       mention-not _ _ _ _ _ _ (word test).before.if1.false (word test).expression-word.ensures test.before.expression-kind.ensures.value
---       test.is-operator.ensures (strangers test) _ 0 _
---       named.before.if2.false named.left.ensures.value c.before.before.mentions-stranger.ensures c.before.if3.false c.if4.true
-
--- HELPER with old types
---   mentions-stranger-requires-2 : lts.Need-mentions-stranger-requires-2 calls at own.Post
---   mentions-stranger-requires-2 c κs =
---       let test = after-is-operator c.before.before.before.before in
---       let pre = (start test).pre in
---       (omega (arith, pre.0, (word test).before.if1.left), pre.1)
-
--- HELPER with old types
---   returns-5 : lts.Need-returns-5 calls at own.Post
---   returns-5 c =
---       let right = c.before in
---       let named = right.before.before.before.before in
---       let test = named.before.before in
---       c.mentions-stranger2.ensures
---       ∙ mention-right _ _ _ _ _ _ (word test).before.if1.false (word test).expression-word.ensures test.before.expression-kind.ensures.value
---       test.is-operator.ensures (strangers test)
---       _ _ _ named.before.if2.false named.left.ensures.value right.before.before.before.mentions-stranger.ensures
---       right.before.before.if3.false right.before.if4.false right.right.ensures.value
+pub returns : goal.returns
+returns t c =
+    c.mentions_stranger-2.ensures
+    ∙ mention-right _ _ _ _ _ _ c.if-levels-eq0.false c.expression_word-w.ensures c.expression_kind-kind.ensures.value
+    c.is_operator.ensures ((strangers_port c.args.t.now c.args.o))
+    _ _ _ c.if-not-is_operator.false-raw c.left.ensures.value c.mentions_stranger.ensures
+    c.if-mentions_stranger.false c.if-kind-eq-OPERATOR_NOT.false c.right.ensures.value

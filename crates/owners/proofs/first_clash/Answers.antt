@@ -7,12 +7,12 @@ returns-then-early-list0 c = clash-early _ _ c.requires _ c.clash_before_lists-e
 
 pub returns-then-at-item0 : goal.returns-then-at-item0
 returns-then-at-item0 c =
-    clash-in-lists _ _ c.requires _ c.clash_before_lists-early.ensures _ c.List-clash.ensures c.if-early-list0.false
+    clash-in-lists _ _ c.requires _ c.clash_before_lists-early.ensures _ c.list_clash-at.ensures c.if-early-list0.false
     c.if-at-item0.true
 
 pub returns : goal.returns
 returns c =
-    clash-nowhere _ _ c.requires _ c.clash_before_lists-early.ensures _ c.List-clash.ensures c.if-early-list0.false
+    clash-nowhere _ _ c.requires _ c.clash_before_lists-early.ensures _ c.list_clash-at.ensures c.if-early-list0.false
     c.if-at-item0.false
 
 pub clash_before_lists-early-requires : goal.clash_before_lists-early-requires

@@ -8,27 +8,27 @@ use Rattle.refusals.proofs.check_event.Goals as goal
 
 pub returns-in_default : goal.returns-in_default
 unfolding event_checked
-returns-in_default c = rw (sym c.well-formed-2.ensures ∙ ap passes c.in_default.is)
+returns-in_default c = rw (sym c.well_formed-form.ensures ∙ ap passes c.in_default.is)
 
 pub returns-in_default-lent : goal.returns-in_default-lent
 unfolding event_checked
 returns-in_default-lent c =
-    rw ((sym c.well-formed-2.ensures ∙ ap passes c.in-Passed.is), sym c.outcomes_known-lent.ensures ∙ ap passes c.in_default-lent.is)
+    rw ((sym c.well_formed-form.ensures ∙ ap passes c.in-Passed.is), sym c.outcomes_known-lent.ensures ∙ ap passes c.in_default-lent.is)
 
 pub returns-in_default-thing : goal.returns-in_default-thing
 unfolding event_checked
 returns-in_default-thing c =
-    rw ((sym c.well-formed-2.ensures ∙ ap passes c.in-Passed.is), (sym c.outcomes_known-lent.ensures ∙ ap passes c.in-Passed-lent.is), sym c.known-thing.ensures ∙ ap passes c.in_default-thing.is)
+    rw ((sym c.well_formed-form.ensures ∙ ap passes c.in-Passed.is), (sym c.outcomes_known-lent.ensures ∙ ap passes c.in-Passed-lent.is), sym c.known-thing.ensures ∙ ap passes c.in_default-thing.is)
 
 pub returns-in_default-sender : goal.returns-in_default-sender
 unfolding event_checked
 returns-in_default-sender c =
-    rw ((sym c.well-formed-2.ensures ∙ ap passes c.in-Passed.is), (sym c.outcomes_known-lent.ensures ∙ ap passes c.in-Passed-lent.is), (sym c.known-thing.ensures ∙ ap passes c.in-Passed-thing.is), sym c.sent_by_owner-sender.ensures ∙ ap passes c.in_default-sender.is)
+    rw ((sym c.well_formed-form.ensures ∙ ap passes c.in-Passed.is), (sym c.outcomes_known-lent.ensures ∙ ap passes c.in-Passed-lent.is), (sym c.known-thing.ensures ∙ ap passes c.in-Passed-thing.is), sym c.sent_by_owner-sender.ensures ∙ ap passes c.in_default-sender.is)
 
 pub returns : goal.returns
 unfolding event_checked
 returns c =
-    rw ((sym c.well-formed-2.ensures ∙ ap passes c.in-Passed.is), (sym c.outcomes_known-lent.ensures ∙ ap passes c.in-Passed-lent.is), (sym c.known-thing.ensures ∙ ap passes c.in-Passed-thing.is), sym c.sent_by_owner-sender.ensures ∙ ap passes c.in-Passed-sender.is)
+    rw ((sym c.well_formed-form.ensures ∙ ap passes c.in-Passed.is), (sym c.outcomes_known-lent.ensures ∙ ap passes c.in-Passed-lent.is), (sym c.known-thing.ensures ∙ ap passes c.in-Passed-thing.is), sym c.sent_by_owner-sender.ensures ∙ ap passes c.in-Passed-sender.is)
 
 pub well_formed-form-requires : goal.well_formed-form-requires
 well_formed-form-requires c = tt
