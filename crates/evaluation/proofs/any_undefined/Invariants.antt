@@ -1,0 +1,16 @@
+-- `evaluation::any_undefined` meets its contract. The loop's invariant: what the whole walk gives is what the rest of it gives. Assumes nothing.
+use Prim.Native.Nat.{◌-◌}
+use mathlib.Core.Path.{◌≡◌, sym, ◌∙◌}
+use native.Mathlib.Nat.{sub-zero}
+use Rattle.rulebook.specs.Words.{any}
+use Rattle.rulebook.specs.Lists.{undefined_in}
+use Rattle.walks.proofs.Walks.{any-turn, any_here, any-end}
+use native.Mathlib.Omega.{arith}
+use borrow.Author.Rules.{rules}
+use Rattle.evaluation.proofs.any_undefined.Given as goal
+
+abbrev pub invariant-loop-p : goal.invariant-loop-p
+invariant-loop-p l = any 0 l.ports (undefined_in l.s) ≡ any l.p (l.ports - l.p) (undefined_in l.s)
+
+abbrev pub decreases-loop-p : goal.decreases-loop-p
+decreases-loop-p l = l.ports - l.p
