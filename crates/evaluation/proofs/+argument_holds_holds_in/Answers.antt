@@ -31,10 +31,10 @@ holds_in-returns-then-is_condition n c t section =
     (sym c.is_condition.ensures ∙ c.if-is_condition.true) c.word_met.ensures _ c.in_word.ensures
 
 pub holds_in-overflow_add-visits : goal.holds_in-overflow_add-visits
-holds_in-overflow_add-visits n c = omega (arith, (few-visits _ _ _ _ _ ((let it-levels-left : c.args.levels - 1 ≤ 7 = omega (arith, c.requires.1) in it-levels-left)) c.argument_holds-a.ensures))
+holds_in-overflow_add-visits n c = omega (arith, (few-visits _ _ _ _ _ ((let it-levels-left : c.args.levels - 1 ≤ 7 = omega (arith, c.requires) in it-levels-left)) c.argument_holds-a.ensures))
 
 pub holds_in-in_word-requires-then-kind-eq-OPERATOR_NOT : goal.holds_in-in_word-requires-then-kind-eq-OPERATOR_NOT
-holds_in-in_word-requires-then-kind-eq-OPERATOR_NOT n c = omega (arith, (few-visits _ _ _ _ _ ((let it-levels-left : c.args.levels - 1 ≤ 7 = omega (arith, c.requires.1) in it-levels-left)) c.argument_holds-a.ensures))
+holds_in-in_word-requires-then-kind-eq-OPERATOR_NOT n c = omega (arith, (few-visits _ _ _ _ _ ((let it-levels-left : c.args.levels - 1 ≤ 7 = omega (arith, c.requires) in it-levels-left)) c.argument_holds-a.ensures))
 
 pub holds_in-returns-then-kind-eq-OPERATOR_NOT : goal.holds_in-returns-then-kind-eq-OPERATOR_NOT
 holds_in-returns-then-kind-eq-OPERATOR_NOT n c t section =
@@ -43,7 +43,7 @@ holds_in-returns-then-kind-eq-OPERATOR_NOT n c t section =
     c.left.ensures.value (c.argument_holds-a.ensures t section) c.if-kind-eq-OPERATOR_NOT.true _ c.in_word-then-kind-eq-OPERATOR_NOT.ensures
 
 pub holds_in-in_word-requires-then-settled : goal.holds_in-in_word-requires-then-settled
-holds_in-in_word-requires-then-settled n c = omega (arith, (few-visits _ _ _ _ _ ((let it-levels-left : c.args.levels - 1 ≤ 7 = omega (arith, c.requires.1) in it-levels-left)) c.argument_holds-a.ensures))
+holds_in-in_word-requires-then-settled n c = omega (arith, (few-visits _ _ _ _ _ ((let it-levels-left : c.args.levels - 1 ≤ 7 = omega (arith, c.requires) in it-levels-left)) c.argument_holds-a.ensures))
 
 pub holds_in-returns-then-settled : goal.holds_in-returns-then-settled
 holds_in-returns-then-settled n c t section =
@@ -51,6 +51,9 @@ holds_in-returns-then-settled n c t section =
     (sym c.is_condition.ensures ∙ c.if-is_condition.false) c.expression_kind-kind.ensures.value
     c.left.ensures.value (c.argument_holds-a.ensures t section) _
     (sym c.settled.ensures ∙ c.if-settled.true) c.joined.ensures _ c.in_word-then-settled.ensures
+
+pub holds_in-in_word-requires-2 : goal.holds_in-in_word-requires-2
+holds_in-in_word-requires-2 n c = omega (arith, (few-visits _ _ _ _ _ ((let it-levels-left : c.args.levels - 1 ≤ 7 = omega (arith, c.requires) in it-levels-left)) c.argument_holds-a.ensures), (few-visits _ _ _ _ _ ((let it-levels-left : c.args.levels - 1 ≤ 7 = omega (arith, c.requires) in it-levels-left)) c.argument_holds-b.ensures))
 
 pub holds_in-returns : goal.holds_in-returns
 holds_in-returns n c t section =

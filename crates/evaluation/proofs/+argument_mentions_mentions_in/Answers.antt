@@ -49,10 +49,8 @@ mentions_in-returns-then-kind-eq-OPERATOR_NOT n c t section =
 
 pub mentions_in-returns : goal.mentions_in-returns
 mentions_in-returns n c t section =
-    let at_left = (c) in
-    let at-word = at_left in
     c.argument_mentions-2.ensures t section
-    ∙ mention-right t _ _ _ _ _ at-word.if1.left (section-word t _ _ _ section at-word.word.ensures) refl refl
-    (undefined_in (at-word).args.s.now) _ _ _ (sym at_left.is-condition.ensures ∙ at_left.if2.left)
-    at_left.left.ensures.value (c.argument_mentions.ensures t section) c.if-argument_mentions.false
+    ∙ mention-right t _ _ _ _ _ c.if-levels-eq0.false (section-word t _ _ _ section c.word-w.ensures) refl refl
+    (undefined_in (c).args.s.now) _ _ _ (sym c.is_condition.ensures ∙ c.if-is_condition.false)
+    c.left.ensures.value (c.argument_mentions.ensures t section) c.if-argument_mentions.false
     (λ e. c.if-kind-eq-OPERATOR_NOT.false (c.expression_kind-kind.ensures.value ∙ e)) c.right.ensures.value

@@ -6,7 +6,7 @@ use borrow.Author.Rules.{rules}
 use Rattle.evaluation.proofs.result.Goals as goal
 
 pub holds-found-requires : goal.holds-found-requires
-holds-found-requires c = (c.requires.expression0, omega arith)
+holds-found-requires c = record { from_value = c.requires.expression0; levels_bound = omega arith }
 
 pub returns : goal.returns
 unfolding result_in visits_in
