@@ -111,15 +111,8 @@ some_of shape.WrongEdition other z = omega arith
 some_of shape.WrongCounts other z = omega arith
 some_of shape.WrongLength other z = omega arith
 
--- what `let .. else` knows of such a shape: its variant is one of the others
-abbrev others : List ℕ
-others = 1 ∷ 2 ∷ 3 ∷ 4 ∷ []
-
-pub not-shaped : (r : Shape) → OneOf others (tag_of the_type r) → shape_number r ≡ 0 → ⊥
-not-shaped r other = some_of r (λ h e. miss others 0 tt (subst (λ (x : Shape). OneOf others (tag_of the_type x)) e other))
-
 -- the check's answer is then the shape's
-pub misshapes : (t : List ℕ) (r : Shape) → OneOf others (tag_of the_type r) → shape_number r ≡ shape_reason t → refused (shape_number r) 0 ≡ promised t
+pub misshapes : (t : List ℕ) (r : Shape) → ((h : Layout) → r ≡ shape.Shaped h → ⊥) → shape_number r ≡ shape_reason t → refused (shape_number r) 0 ≡ promised t
 misshapes t r other said =
-    let some : (shape_reason t ≡ 0 → ⊥) = λ z. not-shaped r other (said ∙ z) in
+    let some : (shape_reason t ≡ 0 → ⊥) = λ z. some_of r other (said ∙ z) in
     rw said (refuses t (shape_reason t) 0 (ne_eqb (shape_reason t) 0 some) (stops t some))

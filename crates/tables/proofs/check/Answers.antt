@@ -26,7 +26,7 @@ Left t links = Reasons.check t ≡ first_of t links
 
 pub returns-in_default : goal.returns-in_default
 returns-in_default c =
-    c.misshapen.ensures ∙ misshapes _ c.check_shape-shape.result c.in_default.in_default-own.keys2 c.check_shape-shape.ensures.reason
+    c.misshapen.ensures ∙ misshapes _ c.check_shape-shape.result c.in_default.not-Shaped c.check_shape-shape.ensures.reason
 
 pub returns-then-misfit-length : goal.returns-then-misfit-length
 unfolding exact_length
@@ -50,7 +50,7 @@ find_depths-requires c =
 pub first_deep-deep-requires : goal.first_deep-deep-requires
 unfolding exact_length
 first_deep-deep-requires c =
-    record { laid = (laid_of _ c.in-Shaped.is c.check_shape-shape.ensures.layout); whole = (eqb-true _ _ (kept_of _ ((none_of _ c.in-Shaped.is c.check_shape-shape.ensures.reason))).exact ∙ sym ((laid_of _ c.in-Shaped.is c.check_shape-shape.ensures.layout)).length); c = c.find_depths.ensures }
+    record { laid = (laid_of _ c.in-Shaped.is c.check_shape-shape.ensures.layout); whole = (eqb-true _ _ (kept_of _ ((none_of _ c.in-Shaped.is c.check_shape-shape.ensures.reason))).exact ∙ sym ((laid_of _ c.in-Shaped.is c.check_shape-shape.ensures.layout)).length); found = c.find_depths.ensures }
 
 pub first_clash-clash-requires : goal.first_clash-clash-requires
 unfolding exact_length
@@ -77,7 +77,7 @@ returns-then-clash-length c =
 
 pub first_unreached-unreached-requires : goal.first_unreached-unreached-requires
 unfolding exact_length
-first_unreached-unreached-requires c = (let it-judged : Judged ((c.args.t.now)) ((c.in-Shaped.h)) c.find_depths.last.1.1.0 = record {
+first_unreached-unreached-requires c = (let it-judged : Judged ((c.args.t.now)) ((c.in-Shaped.h)) c.find_depths.new.depths = record {
   sorted = record { laid = (laid_of _ c.in-Shaped.is c.check_shape-shape.ensures.layout); few = (let it-few : ((c.in-Shaped.h)).lists ≤ no_list = let some = (counts_of _ (kept_of _ ((none_of _ c.in-Shaped.is c.check_shape-shape.ensures.reason))).counts).lists in omega (arith, ((laid_of _ c.in-Shaped.is c.check_shape-shape.ensures.layout)).lists.value) in it-few); found = c.find_depths.ensures };
   whole = (eqb-true _ _ (kept_of _ ((none_of _ c.in-Shaped.is c.check_shape-shape.ensures.reason))).exact ∙ sym ((laid_of _ c.in-Shaped.is c.check_shape-shape.ensures.layout)).length);
   named = kept-everywhere names _ _ _ ((eqb-true _ _ (kept_of _ ((none_of _ c.in-Shaped.is c.check_shape-shape.ensures.reason))).exact ∙ sym ((laid_of _ c.in-Shaped.is c.check_shape-shape.ensures.layout)).length)) c.first_misnamed-misnamed.ensures c.if-misnamed-length.false;
@@ -100,7 +100,7 @@ returns-then-unreached-length c =
 pub bound-b-requires : goal.bound-b-requires
 unfolding exact_length
 bound-b-requires c =
-    let known = (let it-judged : Judged ((c.args.t.now)) ((c.in-Shaped.h)) c.find_depths.last.1.1.0 = record {
+    let known = (let it-judged : Judged ((c.args.t.now)) ((c.in-Shaped.h)) c.find_depths.new.depths = record {
       sorted = record { laid = (laid_of _ c.in-Shaped.is c.check_shape-shape.ensures.layout); few = (let it-few : ((c.in-Shaped.h)).lists ≤ no_list = let some = (counts_of _ (kept_of _ ((none_of _ c.in-Shaped.is c.check_shape-shape.ensures.reason))).counts).lists in omega (arith, ((laid_of _ c.in-Shaped.is c.check_shape-shape.ensures.layout)).lists.value) in it-few); found = c.find_depths.ensures };
       whole = (eqb-true _ _ (kept_of _ ((none_of _ c.in-Shaped.is c.check_shape-shape.ensures.reason))).exact ∙ sym ((laid_of _ c.in-Shaped.is c.check_shape-shape.ensures.layout)).length);
       named = kept-everywhere names _ _ _ ((eqb-true _ _ (kept_of _ ((none_of _ c.in-Shaped.is c.check_shape-shape.ensures.reason))).exact ∙ sym ((laid_of _ c.in-Shaped.is c.check_shape-shape.ensures.layout)).length)) c.first_misnamed-misnamed.ensures c.if-misnamed-length.false;
