@@ -1,0 +1,17 @@
+-- `listing::writing::lay_fields` meets its contract. The loop's invariant: `LaidOf`. The measure is how many fields are left. Assumes nothing.
+use Prim.Native.Nat.{ℕ, ◌+◌, ◌-◌, ◌/◌, ◌^◌, ◌<◌, ◌≤◌}
+use mathlib.Core.Path.{◌≡◌, refl, ◌∙◌}
+use native.Mathlib.Omega.{arith}
+use lib.ListN.{length, get_or}
+use lib.Pow.{pow_pos}
+use borrow.Author.Rules.{rules}
+use Rattle.rulebook.specs.Listing.{form}
+use Rattle.listing.proofs.Widths.{bits, width-there, size-there, size-some, size-most, ends-field}
+use Rattle.listing.proofs.Laying.{LaidOf, laid-begin, laid_next, laid_end, next-unit}
+use Rattle.listing.proofs.writing.lay_fields.Given as goal
+
+abbrev pub invariant-loop-k : goal.invariant-loop-k
+invariant-loop-k l = (l.k ≤ l.n) × LaidOf l.f l.w l.initial.out l.at l.next l.out l.k l.unit
+
+abbrev pub decreases-loop-k : goal.decreases-loop-k
+decreases-loop-k l = l.n - l.k
