@@ -8,8 +8,6 @@ use native.Mathlib.Omega.{arith}
 use lib.Dec.{eqb}
 use lib.ListN.{length, get_or}
 use lib.Seq.{ext_get_or}
-use types.Run.{OneOf, miss}
-use denote.Enum.Declared.{tag_of}
 use borrow.Author.Tests.{eq-eqb, ne_eqb}
 use Rattle.rulebook.specs.Reasons.{check, accepted}
 use Rattle.rulebook.specs.State.{Thing, thing, fresh_thing, fresh_at, fresh, fresh_answer, fresh_state, state_length}
@@ -17,7 +15,6 @@ use Rattle.laws.proofs.Walks.{listed-length, listed_at}
 use Rattle.tables.specs.declared.Checked.{Checked}
 use Rattle.tables.specs.declared.Checked.TheVariants.{Accepted, TooShort, WrongEdition, WrongCounts, WrongLength as LengthDiffers, Misfit, Misnamed}
 use Rattle.tables.specs.declared.Checked.TheVariants.{TooDeep, OwnersClash, Unreached, TooDear}
-use Rattle.tables.specs.contracts.Checked.{the_type}
 use Rattle.tables.specs.Finding.{Finding, finding, promised}
 use Rattle.states.specs.declared.Made.{Made}
 use Rattle.states.specs.declared.Made.TheVariants.{Done, BadTable, WrongLength}
@@ -54,15 +51,11 @@ reason-of (OwnersClash i) f = refl
 reason-of (Unreached i) f = refl
 reason-of TooDear f = refl
 
--- what `let .. else` knows of such an answer: its variant is one of the others
-abbrev others : List ℕ
-others = 1 ∷ 2 ∷ 3 ∷ 4 ∷ 5 ∷ 6 ∷ 7 ∷ 8 ∷ 9 ∷ 10 ∷ []
-
-pub is-refused : (t : List ℕ) (r : Checked) → OneOf others (tag_of the_type r) → finding r ≡ promised t → accepted t ≡ false
+pub is-refused : (t : List ℕ) (r : Checked) → ((b : ℕ) → r ≡ Accepted b → ⊥) → finding r ≡ promised t → accepted t ≡ false
 unfolding promised
 is-refused t r other h =
     rw (ap (λ (x : Finding). x.reason) (sym h))
-    (reason-of r (λ b e. miss others 0 tt (subst (λ (x : Checked). OneOf others (tag_of the_type x)) e other)))
+    (reason-of r other)
 
 module _ (t s : List ℕ) where
   pub bad-table : accepted t ≡ false → Fresh t s BadTable s

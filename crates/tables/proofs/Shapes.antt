@@ -4,8 +4,6 @@ use mathlib.Core.Path.{◌≡◌, refl, sym, ap, subst, ◌∙◌}
 use mathlib.Core.Bool.{true, false}
 use mathlib.Core.List.{List, [], ◌∷◌}
 use native.Mathlib.Omega.{arith}
-use types.Run.{OneOf, miss}
-use denote.Enum.Declared.{tag_of}
 use borrow.Author.Tests.{ne_eqb}
 use Rattle.laws.proofs.Tests.{split}
 use Rattle.rulebook.specs.Reasons.{has_header, known_edition, counts_inside, exact_length, Verdict, verdict, Link, of_table, first_of, check}
@@ -14,7 +12,6 @@ use Rattle.words.specs.Sections.{Laid}
 use Rattle.words.specs.declared.sections.Layout.{Layout}
 use Rattle.tables.specs.declared.Shape.{Shape}
 use Rattle.tables.specs.declared.Shape.TheVariants as shape
-use Rattle.tables.specs.contracts.Shape.{the_type}
 use Rattle.tables.specs.Finding.{refused, promised, shape_number, IsLayoutOf}
 use Rattle.tables.proofs.Chain.{from-header, from_fields, none_left, kept, broken, refuses}
 
@@ -104,7 +101,7 @@ pub none_of : (t : List ℕ) {r : Shape} {h : Layout} → r ≡ shape.Shaped h �
 none_of t e n = sym n ∙ ap shape_number e
 
 -- a shape that is none of the first case has a reason
-some_of : (r : Shape) → ((h : Layout) → r ≡ shape.Shaped h → ⊥) → shape_number r ≡ 0 → ⊥
+pub some_of : (r : Shape) → ((h : Layout) → r ≡ shape.Shaped h → ⊥) → shape_number r ≡ 0 → ⊥
 some_of (shape.Shaped h) other z = other h refl
 some_of shape.TooShort other z = omega arith
 some_of shape.WrongEdition other z = omega arith

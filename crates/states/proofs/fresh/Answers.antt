@@ -4,7 +4,7 @@ use borrow.Author.Rules.{rules}
 use Rattle.states.proofs.fresh.Goals as goal
 
 pub returns-in_default : goal.returns-in_default
-returns-in_default c = bad-table _ _ (is-refused _ c.check-checked.result c.in_default.in_default-own.keys2 c.check-checked.ensures)
+returns-in_default c = bad-table _ _ (is-refused _ c.check-checked.result c.in_default.not-Accepted c.check-checked.ensures)
 
 pub returns-then-s-end : goal.returns-then-s-end
 returns-then-s-end c =
