@@ -5,8 +5,6 @@ use mathlib.Core.Bool.{Bool, true, false}
 use mathlib.Core.List.{List, [], ◌∷◌}
 use lib.ListN.{length, drop, drop_of_length-le}
 use lib.Dec.{eqb}
-use types.Run.{OneOf, miss}
-use denote.Enum.Declared.{tag_of}
 use native.Mathlib.Omega.{arith}
 use borrow.Author.Tests.{ne_eqb}
 use Rattle.rulebook.specs.Table as Table
@@ -22,7 +20,6 @@ use Rattle.refusals.specs.Answers.{answer_of, event_checked}
 use Rattle.refusals.proofs.Answers.{handle-taken, handle-refused}
 use Rattle.refusals.specs.declared.EventCheck.{EventCheck}
 use Rattle.refusals.specs.declared.EventCheck.TheVariants.{Taken, Malformed, BadOutcome, NoSuchThing, NotItsOwner}
-use Rattle.refusals.specs.contracts.EventCheck.{the_type}
 use Rattle.events.specs.declared.Answer.{Answer}
 use Rattle.events.specs.declared.Answer.TheVariants.{Done}
 use Rattle.events.specs.Answers.{number_of, count_of, visits_of, Reports}
@@ -84,12 +81,9 @@ module _ (t s trace os : List ℕ) (e : ℕ) (h : EventCheck) (is : h ≡ event_
         let x : Ran os (happen t e (heeded t os) s) s' trace trace' w = rw rest at r in
         rw (handle-taken t os e s h is z) (record { answer = refl; count = x.count; visits = x.visits; state = x.state; words = x.words })
 
--- what `let .. else` knows of an answer that is not `Taken`: its variant is one of the others
-abbrev others : List ℕ
-others = 1 ∷ 2 ∷ 3 ∷ 4 ∷ []
-
-pub not_taken : (h : EventCheck) → OneOf others (tag_of the_type h) → eqb (answer_of h) 0 ≡ false
-not_taken Taken other = absurd (miss others 0 tt other)
+-- what `let .. else` knows of an answer that is not `Taken`
+pub not_taken : (h : EventCheck) → (h ≡ Taken → ⊥) → eqb (answer_of h) 0 ≡ false
+not_taken Taken other = absurd (other refl)
 not_taken Malformed other = refl
 not_taken BadOutcome other = refl
 not_taken NoSuchThing other = refl

@@ -2,8 +2,6 @@
 -- of it. Assumes nothing.
 use Rattle.std.proofs.Common.{◌≡◌, ℕ, suc, ◌+◌, ◌-◌, ◌%◌, ◌<◌, ◌≤◌, true, cond, eqb, List, [], ◌∷◌, ◌++◌, length, get_or, take, drop, sym, refl, ap, ◌∙◌, subst, append_assoc, append-nil, add-zero, add-one, arith, length-append, length-drop, take-append-drop, drop_of_length-le, length-take-le, take_all, drop-cons, drop-drop, take_at, drop_at, eqb-true}
 use native.Mathlib.Nat.{sub-zero, mod-add-mod}
-use types.Run.{OneOf, miss}
-use denote.Enum.Declared.{tag_of}
 use borrow.Rule.Slice.PartMut.{mid_of, put_mid, put_same}
 use Rattle.rulebook.specs.Step.{refused_state, heeded, step}
 use Rattle.rulebook.specs.Play.{Play, ending, onto, play_on}
@@ -14,30 +12,23 @@ use Rattle.laws.proofs.Steps.{small-answer, step-cases, happen-paid, step_fits, 
 use Rattle.laws.proofs.Play.{stood-table, stood-state, play-stands, play-unadmitted, onto-none, onto-onto}
 use Rattle.events.specs.declared.Answer.{Answer}
 use Rattle.events.specs.declared.Answer.TheVariants.{Done, BadTable, UnfitState, ShortTrace, Malformed, NoSuchThing, NotItsOwner, BadOutcome}
-use Rattle.events.specs.contracts.Answer.{the_type}
+use Rattle.events.specs.declared.Report.{Report}
 use Rattle.events.specs.Answers.{number_of, count_of, visits_of, Reports}
 use Rattle.manager.specs.declared.End.{End}
 use Rattle.manager.specs.declared.End.TheVariants as ends
 use Rattle.manager.specs.Answers.{end_number}
 use Rattle.manager.specs.Promises.{PlaysIn}
 
--- what `let .. else` knows of an answer that is not `Done`: its variant is one of the others
-
-abbrev others : List ℕ
-others = 1 ∷ 2 ∷ 3 ∷ 4 ∷ 5 ∷ 6 ∷ 7 ∷ []
-
-done-alone : (r : Answer) → number_of r ≡ 0 → eqb (tag_of the_type r) 0 ≡ true
-done-alone (Done report) z = refl
-done-alone BadTable z = absurd (omega arith)
-done-alone UnfitState z = absurd (omega arith)
-done-alone ShortTrace z = absurd (omega arith)
-done-alone Malformed z = absurd (omega arith)
-done-alone NoSuchThing z = absurd (omega arith)
-done-alone NotItsOwner z = absurd (omega arith)
-done-alone BadOutcome z = absurd (omega arith)
-
-pub not_done : (r : Answer) → OneOf others (tag_of the_type r) → number_of r ≡ 0 → ⊥
-not_done r other z = miss others 0 tt (subst (OneOf others) (eqb-true _ _ (done-alone r z)) other)
+-- what `let .. else` knows of an answer that is not `Done`
+pub not_done : (r : Answer) → ((report : Report) → r ≡ Done report → ⊥) → number_of r ≡ 0 → ⊥
+not_done (Done report) other z = other report refl
+not_done BadTable other z = omega arith
+not_done UnfitState other z = omega arith
+not_done ShortTrace other z = omega arith
+not_done Malformed other z = omega arith
+not_done NoSuchThing other z = omega arith
+not_done NotItsOwner other z = omega arith
+not_done BadOutcome other z = omega arith
 
 -- the words behind the last event are none
 pub none-behind : (es : List ℕ) → mid_of (length es) (length es - length es) es ≡ []
