@@ -4,8 +4,6 @@ use mathlib.Core.Path.{◌≡◌, refl, sym, ap, subst, ◌∙◌}
 use mathlib.Core.Bool.{Bool, true, false, cond, not, ◌||◌, or-true}
 use mathlib.Core.List.{List, [], ◌∷◌, ◌++◌}
 use native.Mathlib.Omega.{arith}
-use types.Run.{OneOf, miss}
-use denote.Enum.Declared.{tag_of}
 use borrow.Author.Tests.{eq-eqb, ne_eqb, eqb-true, eqb-false}
 use lib.ListN.{length, take, drop, replicate, length-drop}
 use lib.Seq.{length-take-le, drop-drop}
@@ -213,20 +211,14 @@ module _ (t names : List ℕ) (words : ℕ) where
 
 -- an ending of another case has another number than 0
 
-abbrev others : List ℕ
-others = 1 ∷ 2 ∷ 3 ∷ 4 ∷ 5 ∷ 6 ∷ []
-
-not-zero : (r : Ending) → (r ≡ Read → ⊥) → end_number r ≡ 0 → ⊥
-not-zero Read f z = f refl
-not-zero BadTable f z = omega arith
-not-zero BadNames f z = omega arith
-not-zero Misspelt f z = omega arith
-not-zero GoesBack f z = omega arith
-not-zero Unlisted f z = omega arith
-not-zero NoRoom f z = omega arith
-
-pub not-read : (r : Ending) → OneOf others (tag_of the_type r) → end_number r ≡ 0 → ⊥
-not-read r other = not-zero r (λ e. miss others 0 tt (subst (λ (x : Ending). OneOf others (tag_of the_type x)) e other))
+pub not-read : (r : Ending) → (r ≡ Read → ⊥) → end_number r ≡ 0 → ⊥
+not-read Read f z = f refl
+not-read BadTable f z = omega arith
+not-read BadNames f z = omega arith
+not-read Misspelt f z = omega arith
+not-read GoesBack f z = omega arith
+not-read Unlisted f z = omega arith
+not-read NoRoom f z = omega arith
 
 -- reading stands at a place of the log, n events being written, and what is to come makes the whole
 

@@ -5,15 +5,12 @@ use mathlib.Core.Bool.{true, false}
 use mathlib.Core.List.{List, [], ◌∷◌}
 use native.Mathlib.Nat.{zero-add}
 use native.Mathlib.Omega.{arith}
-use types.Run.{OneOf, miss}
-use denote.Enum.Declared.{tag_of}
 use lib.ListN.{length}
 use borrow.Author.Tests.{eq-eqb, ne_eqb, lt-ltb, le-ltb}
 use Rattle.rulebook.specs.Step.{refused_state}
 use Rattle.text.specs.Puts.{PutAt}
 use Rattle.manager.specs.declared.Fit.{Fit}
 use Rattle.manager.specs.declared.Fit.TheVariants.{Fits, BadTable, Unfit}
-use Rattle.manager.specs.contracts.Fit.{the_type}
 use Rattle.manager.specs.Answers.{state_number}
 use Rattle.panel.specs.Printed.{operator, panel, answer}
 use Rattle.panel.specs.declared.Who.{Who}
@@ -21,18 +18,12 @@ use Rattle.panel.specs.declared.Who.TheVariants.{Operator, Other}
 use Rattle.panel.specs.Inside.{Judges}
 use Rattle.panel.specs.Promises.{ShowsIn}
 
--- a state check's answer that is not `Fits` is 1 or 2; what `let .. else` knows of it: its variant is one of the others
+-- a state check's answer that is not `Fits` is 1 or 2
 
-abbrev others : List ℕ
-others = 1 ∷ 2 ∷ []
-
-not-zero : (r : Fit) → (r ≡ Fits → ⊥) → state_number r ≡ 0 → ⊥
-not-zero Fits f z = f refl
-not-zero BadTable f z = omega arith
-not-zero Unfit f z = omega arith
-
-pub not-fitting : (r : Fit) → OneOf others (tag_of the_type r) → state_number r ≡ 0 → ⊥
-not-fitting r other = not-zero r (λ e. miss others 0 tt (subst (λ (x : Fit). OneOf others (tag_of the_type x)) e other))
+pub not-fitting : (r : Fit) → (r ≡ Fits → ⊥) → state_number r ≡ 0 → ⊥
+not-fitting Fits f z = f refl
+not-fitting BadTable f z = omega arith
+not-fitting Unfit f z = omega arith
 
 -- whose number it is, by the answer
 

@@ -4,8 +4,6 @@ use mathlib.Core.Path.{◌≡◌, refl, sym, ap, subst, ◌∙◌}
 use mathlib.Core.Bool.{true, false}
 use mathlib.Core.List.{List, [], ◌∷◌}
 use native.Mathlib.Omega.{arith}
-use types.Run.{OneOf, miss}
-use denote.Enum.Declared.{tag_of}
 use Rattle.rulebook.specs.Reasons.{accepted, bound}
 use Rattle.rulebook.specs.State.{fits}
 use Rattle.rulebook.specs.Step.{refused_state}
@@ -14,7 +12,6 @@ use Rattle.tables.specs.declared.Checked.TheVariants.{Accepted}
 use Rattle.tables.specs.Finding.{Finding, finding, promised}
 use Rattle.states.specs.declared.Admission.{Admission}
 use Rattle.states.specs.declared.Admission.TheVariants.{Stands, BadTable, Unfit}
-use Rattle.states.specs.contracts.Admission.{the_type}
 use Rattle.states.specs.Admission.{number_of, bound_of, Admits}
 
 -- B, as the table check's answer tells it
@@ -37,18 +34,12 @@ module _ (t s : List ℕ) where
   unfolding refused_state
   stands b is h k = record { number = rw (h, k); bound = rw (h, k) is }
 
--- an answer that is not `Stands` tells 1 or 2; what `let .. else` knows of it: its variant is one of the others
+-- an answer that is not `Stands` tells 1 or 2
 
-abbrev others : List ℕ
-others = 1 ∷ 2 ∷ []
-
-not-zero : (r : Admission) → ((b : ℕ) → r ≡ Stands b → ⊥) → number_of r ≡ 0 → ⊥
-not-zero (Stands b) f z = f b refl
-not-zero BadTable f z = omega arith
-not-zero Unfit f z = omega arith
-
-pub not-standing : (r : Admission) → OneOf others (tag_of the_type r) → number_of r ≡ 0 → ⊥
-not-standing r other = not-zero r (λ b e. miss others 0 tt (subst (λ (x : Admission). OneOf others (tag_of the_type x)) e other))
+pub not-standing : (r : Admission) → ((b : ℕ) → r ≡ Stands b → ⊥) → number_of r ≡ 0 → ⊥
+not-standing (Stands b) f z = f b refl
+not-standing BadTable f z = omega arith
+not-standing Unfit f z = omega arith
 
 -- what an answer `Stands` says
 module _ {t s : List ℕ} {r : Admission} {b : ℕ} (is : r ≡ Stands b) (h : Admits t s r) where
