@@ -6,28 +6,23 @@ use native.Mathlib.Omega.{arith}
 use lib.ListN.{length}
 use Rattle.rulebook.specs.Listing.{form, forms, of}
 
--- a number that is none of the forms', as a `match` tells it
-abbrev pub None : ℕ → Type 0
-None f =
-    (((((((((((((Unit {0} × (f ≡ 0 → ⊥)) × (f ≡ 1 → ⊥)) × (f ≡ 2 → ⊥)) × (f ≡ 3 → ⊥)) × (f ≡ 4 → ⊥)) × (f ≡ 5 → ⊥))
-    × (f ≡ 6 → ⊥)) × (f ≡ 7 → ⊥)) × (f ≡ 8 → ⊥)) × (f ≡ 9 → ⊥)) × (f ≡ 10 → ⊥)) × (f ≡ 11 → ⊥)) × (f ≡ 12 → ⊥))
-
-pub beyond : (f : ℕ) → None f → form f ≡ of [] []
+-- a number past the forms
+pub beyond : (f : ℕ) → 13 ≤ f → form f ≡ of [] []
 unfolding form forms
-beyond zero n = absurd (n.0.0.0.0.0.0.0.0.0.0.0.0.1 refl)
-beyond (suc zero) n = absurd (n.0.0.0.0.0.0.0.0.0.0.0.1 refl)
-beyond (suc (suc zero)) n = absurd (n.0.0.0.0.0.0.0.0.0.0.1 refl)
-beyond (suc (suc (suc zero))) n = absurd (n.0.0.0.0.0.0.0.0.0.1 refl)
-beyond (suc (suc (suc (suc zero)))) n = absurd (n.0.0.0.0.0.0.0.0.1 refl)
-beyond (suc (suc (suc (suc (suc zero))))) n = absurd (n.0.0.0.0.0.0.0.1 refl)
-beyond (suc (suc (suc (suc (suc (suc zero)))))) n = absurd (n.0.0.0.0.0.0.1 refl)
-beyond (suc (suc (suc (suc (suc (suc (suc zero))))))) n = absurd (n.0.0.0.0.0.1 refl)
-beyond (suc (suc (suc (suc (suc (suc (suc (suc zero)))))))) n = absurd (n.0.0.0.0.1 refl)
-beyond (suc (suc (suc (suc (suc (suc (suc (suc (suc zero))))))))) n = absurd (n.0.0.0.1 refl)
-beyond (suc (suc (suc (suc (suc (suc (suc (suc (suc (suc zero)))))))))) n = absurd (n.0.0.1 refl)
-beyond (suc (suc (suc (suc (suc (suc (suc (suc (suc (suc (suc zero))))))))))) n = absurd (n.0.1 refl)
-beyond (suc (suc (suc (suc (suc (suc (suc (suc (suc (suc (suc (suc zero)))))))))))) n = absurd (n.1 refl)
-beyond (suc (suc (suc (suc (suc (suc (suc (suc (suc (suc (suc (suc (suc n))))))))))))) r = refl
+beyond zero h = absurd (omega arith)
+beyond (suc zero) h = absurd (omega arith)
+beyond (suc (suc zero)) h = absurd (omega arith)
+beyond (suc (suc (suc zero))) h = absurd (omega arith)
+beyond (suc (suc (suc (suc zero)))) h = absurd (omega arith)
+beyond (suc (suc (suc (suc (suc zero))))) h = absurd (omega arith)
+beyond (suc (suc (suc (suc (suc (suc zero)))))) h = absurd (omega arith)
+beyond (suc (suc (suc (suc (suc (suc (suc zero))))))) h = absurd (omega arith)
+beyond (suc (suc (suc (suc (suc (suc (suc (suc zero)))))))) h = absurd (omega arith)
+beyond (suc (suc (suc (suc (suc (suc (suc (suc (suc zero))))))))) h = absurd (omega arith)
+beyond (suc (suc (suc (suc (suc (suc (suc (suc (suc (suc zero)))))))))) h = absurd (omega arith)
+beyond (suc (suc (suc (suc (suc (suc (suc (suc (suc (suc (suc zero))))))))))) h = absurd (omega arith)
+beyond (suc (suc (suc (suc (suc (suc (suc (suc (suc (suc (suc (suc zero)))))))))))) h = absurd (omega arith)
+beyond (suc (suc (suc (suc (suc (suc (suc (suc (suc (suc (suc (suc (suc n))))))))))))) h = refl
 
 -- each of the forms has fields
 pub has-fields : (f : ℕ) → f < 13 → 1 ≤ length (form f).widths

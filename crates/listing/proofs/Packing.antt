@@ -7,7 +7,7 @@ use mathlib.Core.Logic.{⊎_elim}
 use native.Mathlib.Omega.{arith}
 use lib.ListN.{length, get_or, drop}
 use lib.Pow.{pow_pos, pow-add, pow_mono, shr-shr, split, high, low}
-use Rattle.rulebook.specs.Words.{digit, field}
+use Rattle.rulebook.specs.Words.{digit}
 use Rattle.rulebook.specs.Listing.{form, fields_from, fields_of}
 use Rattle.text.specs.Lines.{decimal}
 use Rattle.listing.specs.Lines.{ending, spelt}

@@ -11,7 +11,7 @@ use Rattle.text.proofs.Digits.{below}
 use Rattle.rulebook.specs.Words.{word}
 use Rattle.rulebook.specs.Table.{table_length}
 use Rattle.rulebook.specs.Listing.{form_at, by_kind}
-use Rattle.listing.specs.Lines.{line, first_lines, listing, ListingOf, BeginsAs, BadLine}
+use Rattle.listing.specs.Lines.{line, first_lines, ListingOf, BeginsAs, BadLine}
 use Rattle.listing.specs.Inside.{HasLine, Opened, Whole}
 use Rattle.listing.proofs.Headers.{sound}
 use Rattle.listing.proofs.Lists.{all_lines}

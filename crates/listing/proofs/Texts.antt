@@ -14,7 +14,7 @@ use Rattle.rulebook.specs.Words.{word}
 use Rattle.rulebook.specs.Table.{table_length}
 use Rattle.rulebook.specs.Reasons.{has_header, known_edition, counts_inside, exact_length}
 use Rattle.tables.proofs.Shapes.{Kept, kept_of, reason-none}
-use Rattle.listing.specs.Lines.{line, line_at, first_lines, listing, Listable, ListingOf, BeginsAs}
+use Rattle.listing.specs.Lines.{line_at, first_lines, Listable, ListingOf, BeginsAs}
 use Rattle.listing.proofs.Lists.{all_lines}
 use Rattle.listing.proofs.Headers.{sound}
 use Rattle.listing.proofs.Places.{Heads, Agree, long_same, edition-same, counts_same, heads-of, lines-agree, agree-longer, agree_less}

@@ -7,7 +7,7 @@ use lib.ListN.{length, take, drop, take-append-drop}
 use lib.Seq.{length-take-le, take-append-add}
 use Rattle.laws.proofs.Facts.{counts_of}
 use Rattle.tables.proofs.Shapes.{kept_of}
-use Rattle.listing.specs.Lines.{first_lines, listing, Listable, ListingOf, BeginsAs, BadLine}
+use Rattle.listing.specs.Lines.{first_lines, Listable, ListingOf, BeginsAs, BadLine}
 use Rattle.listing.specs.Back.{longest, Window}
 use Rattle.listing.proofs.Lists.{all_lines, length-lines}
 use Rattle.listing.proofs.Texts.{long}

@@ -1,5 +1,4 @@
 -- `listing::forms::ending` meets its contract. Assumes nothing.
-use borrow.Author.Rules.{rules}
 use borrow.Author.Tests.{lt-ltb, le-ltb}
 use Rattle.listing.proofs.forms.ending.Goals as goal
 

@@ -1,5 +1,4 @@
 -- `listing::forms::form_at` meets its contract: the form goes by the part. Assumes nothing.
-use borrow.Author.Rules.{rules}
 use Rattle.rulebook.specs.Listing.{form_at}
 use Rattle.listing.proofs.forms.form_at.Goals as goal
 

@@ -1,6 +1,5 @@
 -- `listing::forms::of_kind` meets its contract: only an expression's kind is looked at. Assumes nothing.
 use mathlib.Core.Path.{sym, ◌∙◌}
-use borrow.Author.Rules.{rules}
 use borrow.Author.Tests.{ne_eqb}
 use Rattle.rulebook.specs.Listing.{kind_form}
 use Rattle.listing.proofs.forms.of_kind.Goals as goal

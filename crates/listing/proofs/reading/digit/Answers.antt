@@ -1,5 +1,4 @@
 -- `listing::reading::digit` meets its contract, by the byte. Assumes nothing.
-use borrow.Author.Rules.{rules}
 use Rattle.listing.proofs.Digits.{no-digit-below, no-digit-above, digit_value}
 use Rattle.listing.proofs.reading.digit.Goals as goal
 

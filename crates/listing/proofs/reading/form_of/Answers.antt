@@ -1,6 +1,5 @@
 -- `listing::reading::form_of` meets its contract: the kind decides. Assumes nothing.
 use native.Mathlib.Omega.{arith}
-use borrow.Author.Rules.{rules}
 use Rattle.listing.proofs.Cases.{number_of, none_of}
 use Rattle.listing.proofs.ByKind.{other-form, no_kind, by-kind}
 use Rattle.listing.proofs.reading.form_of.Goals as goal

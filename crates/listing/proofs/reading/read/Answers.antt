@@ -1,8 +1,6 @@
 -- `listing::reading::read` meets its promise: what refuses it, one after the other, or the words. Assumes nothing.
 use mathlib.Core.Path.{refl}
 use native.Mathlib.Omega.{arith}
-use borrow.Author.Rules.{rules}
-use Rattle.listing.specs.Inside.{Whole}
 use Rattle.listing.proofs.Cases.{opened_of, opened-bad, whole_of, scanned-bad}
 use Rattle.listing.proofs.reading.read.Goals as goal
 

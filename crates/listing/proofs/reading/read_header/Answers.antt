@@ -1,12 +1,10 @@
 -- `listing::reading::read_header` meets its contract. The loop's invariant: `Heading`. The measure is how many lines are left. Assumes nothing.
-use Prim.Native.Nat.{◌-◌, ◌≤◌}
-use mathlib.Core.Path.{◌≡◌, sym, ◌∙◌}
+use mathlib.Core.Path.{sym, ◌∙◌}
 use native.Mathlib.Omega.{arith}
-use lib.ListN.{length, length-set}
-use borrow.Author.Rules.{rules}
+use lib.ListN.{length-set}
 use borrow.Author.Tests.{not-true, not-false}
 use Rattle.listing.proofs.Cases.{line_of, misspelt-of}
-use Rattle.listing.proofs.Heading.{Heading, begin, misspelt, step, unsound, opened}
+use Rattle.listing.proofs.Heading.{begin, misspelt, step, unsound, opened}
 use Rattle.listing.proofs.reading.read_header.Goals as goal
 
 pub loop-i-init : goal.loop-i-init
@@ -39,7 +37,7 @@ pub bounds-header-i : goal.bounds-header-i
 bounds-header-i c = omega (arith, c.loop-i.invariant.2.long)
 
 pub shape_of-header-then-not-sound_header : goal.shape_of-header-then-not-sound_header
-shape_of-header-then-not-sound_header c = simp length-set ((c.loop-i.invariant.2.long ∙ sym c.loop-i.invariant.1))
+shape_of-header-then-not-sound_header c = simp length-set (c.loop-i.invariant.2.long ∙ sym c.loop-i.invariant.1)
 
 pub shape_of-header : goal.shape_of-header
 shape_of-header c = (c.loop-i.invariant.2.long ∙ sym c.loop-i.invariant.1)

@@ -1,12 +1,8 @@
 -- `listing::reading::read_header` meets its contract. The loop's invariant: `Heading`. The measure is how many lines are left. Assumes nothing.
 use Prim.Native.Nat.{◌-◌, ◌≤◌}
-use mathlib.Core.Path.{◌≡◌, sym, ◌∙◌}
-use native.Mathlib.Omega.{arith}
-use lib.ListN.{length, length-set}
-use borrow.Author.Rules.{rules}
-use borrow.Author.Tests.{not-true, not-false}
-use Rattle.listing.proofs.Cases.{line_of, misspelt-of}
-use Rattle.listing.proofs.Heading.{Heading, begin, misspelt, step, unsound, opened}
+use mathlib.Core.Path.{◌≡◌}
+use lib.ListN.{length}
+use Rattle.listing.proofs.Heading.{Heading}
 use Rattle.listing.proofs.reading.read_header.Given as goal
 
 abbrev pub invariant-loop-i : goal.invariant-loop-i

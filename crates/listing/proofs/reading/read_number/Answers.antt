@@ -1,31 +1,28 @@
 -- `listing::reading::read_number` meets its contract. The loop's invariant: `Begun`. The measure is what is left of the text. Assumes nothing.
-use Prim.Native.Nat.{◌-◌, ◌<◌}
+use Prim.Native.Nat.{ℕ}
 use mathlib.Core.Path.{◌≡◌, sym, ◌∙◌}
 use native.Mathlib.Omega.{arith}
-use lib.ListN.{length}
-use borrow.Author.Rules.{rules}
-use Rattle.listing.specs.Inside.{digit_at}
-use Rattle.listing.proofs.Numbers.{Begun, begin, step, too_large, nothing-told, wrong-end, number-ends, zero-alone, zero-spoilt, digit-inside}
+use Rattle.listing.proofs.Numbers.{begin, step, too_large, nothing-told, wrong-end, number-ends, zero-alone, zero-spoilt, digit-inside}
 use Rattle.listing.proofs.reading.read_number.Goals as goal
 
--- HELPER with old types
--- not-zero : (c : tie.Else1 invariant-loop decreases-loop) → digit_at c.args.text.now c.args.at ≡ 0 → ⊥
--- not-zero c z = c.if-first-eq0.false (c.digit-first.ensures ∙ z)
+-- the digit that stands first is not 0
+not-zero : {d e : ℕ} → d ≡ e → (d ≡ 0 → ⊥) → e ≡ 0 → ⊥
+not-zero is some z = some (is ∙ z)
 
 pub returns-then-byte-end : goal.returns-then-byte-end
 returns-then-byte-end c =
-    zero-alone _ _ _ _ c.requires ((sym c.digit-first.ensures ∙ c.if-first-eq0.true)) (sym c.byte.ensures ∙ c.if-byte-end.true)
+    zero-alone _ _ _ _ c.requires (sym c.digit-first.ensures ∙ c.if-first-eq0.true) (sym c.byte.ensures ∙ c.if-byte-end.true)
 
 pub returns-then-first-eq0 : goal.returns-then-first-eq0
 returns-then-first-eq0 c =
-    zero-spoilt _ _ _ _ c.requires ((sym c.digit-first.ensures ∙ c.if-first-eq0.true)) (λ e. c.if-byte-end.false (c.byte.ensures ∙ e))
+    zero-spoilt _ _ _ _ c.requires (sym c.digit-first.ensures ∙ c.if-first-eq0.true) (λ e. c.if-byte-end.false (c.byte.ensures ∙ e))
 
 pub loop-d-init : goal.loop-d-init
 loop-d-init c = begin _ _ _ _ c.requires _ c.digit-first.ensures
 
 pub returns-then-size-value : goal.returns-then-size-value
 returns-then-size-value c =
-    too_large _ _ _ _ c.requires (not-zero c) _ _ _ c.loop-d.invariant c.loop-d-test.true c.if-size-value.true
+    too_large _ _ _ _ c.requires (not-zero c.digit-first.ensures c.if-first-eq0.false) _ _ _ c.loop-d.invariant c.loop-d-test.true c.if-size-value.true
 
 pub loop-d-smaller : goal.loop-d-smaller
 loop-d-smaller c =
@@ -34,20 +31,20 @@ loop-d-smaller c =
 pub loop-d-preserved : goal.loop-d-preserved
 loop-d-preserved c =
     rw c.digit-d.ensures
-    (step _ _ _ _ c.requires (not-zero c) _ _ _ c.loop-d.invariant c.loop-d-test.true c.if-size-value.false)
+    (step _ _ _ _ c.requires (not-zero c.digit-first.ensures c.if-first-eq0.false) _ _ _ c.loop-d.invariant c.loop-d-test.true c.if-size-value.false)
 
 pub returns-then-value-eq0 : goal.returns-then-value-eq0
 returns-then-value-eq0 c =
-    nothing-told _ _ _ _ c.requires (not-zero c) _ _ _ c.loop-d.invariant c.loop-d-test.false c.if-value-eq0.true
+    nothing-told _ _ _ _ c.requires (not-zero c.digit-first.ensures c.if-first-eq0.false) _ _ _ c.loop-d.invariant c.loop-d-test.false c.if-value-eq0.true
 
 pub returns-then-byte-end-2 : goal.returns-then-byte-end-2
 returns-then-byte-end-2 c =
-    wrong-end _ _ _ _ c.requires (not-zero c) _ _ _ c.loop-d.invariant c.loop-d-test.false c.if-value-eq0.false
+    wrong-end _ _ _ _ c.requires (not-zero c.digit-first.ensures c.if-first-eq0.false) _ _ _ c.loop-d.invariant c.loop-d-test.false c.if-value-eq0.false
     (λ e. c.if-byte-end-2.true (c.byte-2.ensures ∙ e))
 
 pub returns : goal.returns
 returns c =
-    number-ends _ _ _ _ c.requires (not-zero c) _ _ _ c.loop-d.invariant c.loop-d-test.false c.if-value-eq0.false
+    number-ends _ _ _ _ c.requires (not-zero c.digit-first.ensures c.if-first-eq0.false) _ _ _ c.loop-d.invariant c.loop-d-test.false c.if-value-eq0.false
     (sym c.byte-2.ensures ∙ c.if-byte-end-2.false)
 
 pub overflow_mul-value : goal.overflow_mul-value

@@ -1,11 +1,7 @@
 -- `listing::reading::read_number` meets its contract. The loop's invariant: `Begun`. The measure is what is left of the text. Assumes nothing.
-use Prim.Native.Nat.{◌-◌, ◌<◌}
-use mathlib.Core.Path.{◌≡◌, sym, ◌∙◌}
-use native.Mathlib.Omega.{arith}
+use Prim.Native.Nat.{◌-◌}
 use lib.ListN.{length}
-use borrow.Author.Rules.{rules}
-use Rattle.listing.specs.Inside.{digit_at}
-use Rattle.listing.proofs.Numbers.{Begun, begin, step, too_large, nothing-told, wrong-end, number-ends, zero-alone, zero-spoilt, digit-inside}
+use Rattle.listing.proofs.Numbers.{Begun}
 use Rattle.listing.proofs.reading.read_number.Given as goal
 
 abbrev pub invariant-loop-d : goal.invariant-loop-d

@@ -1,12 +1,7 @@
 -- `listing::reading::read_words` meets its contract. The loop's invariant: `Written`. The measure is how many words are left. Assumes nothing.
-use Prim.Native.Nat.{◌-◌, ◌<◌, ◌≤◌}
-use mathlib.Core.Path.{◌≡◌}
-use native.Mathlib.Omega.{arith}
-use lib.ListN.{length}
-use borrow.Author.Rules.{rules}
+use Prim.Native.Nat.{◌-◌, ◌≤◌}
 use Rattle.listing.specs.Inside.{Told}
-use Rattle.listing.proofs.Cases.{line_as, misspelt-as}
-use Rattle.listing.proofs.Written.{Written, begin, step, never, long-header, length-after, finish}
+use Rattle.listing.proofs.Written.{Written}
 use Rattle.listing.proofs.reading.read_words.Given as goal
 
 abbrev pub invariant-loop-i : goal.invariant-loop-i

@@ -1,11 +1,6 @@
 -- `listing::reading::scan_lines` meets its contract. The loop's invariant: `Scanning`. The measure is how many words are left. Assumes nothing.
-use Prim.Native.Nat.{◌+◌, ◌-◌, ◌^◌, ◌<◌}
-use mir.Val.{Fits}
-use mir.Syntax.{w64}
-use native.Mathlib.Omega.{arith}
-use borrow.Author.Rules.{rules}
-use Rattle.listing.proofs.Cases.{line_as, misspelt-as, short-table}
-use Rattle.listing.proofs.Scanning.{Scanning, begin, misspelt, step, extra, whole}
+use Prim.Native.Nat.{◌-◌}
+use Rattle.listing.proofs.Scanning.{Scanning}
 use Rattle.listing.proofs.reading.scan_lines.Given as goal
 
 abbrev pub invariant-loop-i : goal.invariant-loop-i

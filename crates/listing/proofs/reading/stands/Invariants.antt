@@ -1,8 +1,7 @@
 -- `listing::reading::stands` meets its contract. The loop's invariant: `Same`. The measure is how many bytes are left. Assumes nothing.
 use Prim.Native.Nat.{◌+◌, ◌-◌, ◌≤◌}
-use native.Mathlib.Omega.{arith}
 use lib.ListN.{length}
-use Rattle.listing.proofs.Names.{Same, same_more, too_short, differs, all_same}
+use Rattle.listing.proofs.Names.{Same}
 use Rattle.listing.proofs.reading.stands.Given as goal
 
 abbrev pub invariant-loop-k : goal.invariant-loop-k

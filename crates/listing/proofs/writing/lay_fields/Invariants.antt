@@ -1,13 +1,6 @@
 -- `listing::writing::lay_fields` meets its contract. The loop's invariant: `LaidOf`. The measure is how many fields are left. Assumes nothing.
-use Prim.Native.Nat.{ℕ, ◌+◌, ◌-◌, ◌/◌, ◌^◌, ◌<◌, ◌≤◌}
-use mathlib.Core.Path.{◌≡◌, refl, ◌∙◌}
-use native.Mathlib.Omega.{arith}
-use lib.ListN.{length, get_or}
-use lib.Pow.{pow_pos}
-use borrow.Author.Rules.{rules}
-use Rattle.rulebook.specs.Listing.{form}
-use Rattle.listing.proofs.Widths.{bits, width-there, size-there, size-some, size-most, ends-field}
-use Rattle.listing.proofs.Laying.{LaidOf, laid-begin, laid_next, laid_end, next-unit}
+use Prim.Native.Nat.{◌-◌, ◌≤◌}
+use Rattle.listing.proofs.Laying.{LaidOf}
 use Rattle.listing.proofs.writing.lay_fields.Given as goal
 
 abbrev pub invariant-loop-k : goal.invariant-loop-k

@@ -1,8 +1,7 @@
 -- `listing::writing::lay_listing` meets its contract. The loop's invariant: `LaidTo`. The measure is how many words are left. Assumes nothing.
 use Prim.Native.Nat.{◌-◌, ◌≤◌}
-use native.Mathlib.Omega.{arith}
 use lib.ListN.{length}
-use Rattle.listing.proofs.Lists.{LaidTo, laid-begin, laid-room, laid_next, laid_end}
+use Rattle.listing.proofs.Lists.{LaidTo}
 use Rattle.listing.proofs.writing.lay_listing.Given as goal
 
 abbrev pub invariant-loop-i : goal.invariant-loop-i

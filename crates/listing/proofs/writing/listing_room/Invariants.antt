@@ -1,11 +1,7 @@
 -- `listing::writing::listing_room` meets its contract. The loop's invariant: `LeftOf`. The measure is how many words are left. Assumes nothing.
 use Prim.Native.Nat.{◌-◌, ◌≤◌}
-use mathlib.Core.Path.{◌≡◌}
-use native.Mathlib.Omega.{arith}
 use lib.ListN.{length}
-use borrow.Author.Rules.{rules}
-use Rattle.listing.specs.Lines.{line_at}
-use Rattle.listing.proofs.Lists.{LeftOf, left-begin, left-next, left-short, left_end, line-short}
+use Rattle.listing.proofs.Lists.{LeftOf}
 use Rattle.listing.proofs.writing.listing_room.Given as goal
 
 abbrev pub invariant-loop-i : goal.invariant-loop-i
