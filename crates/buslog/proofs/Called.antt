@@ -1,6 +1,6 @@
 -- The list of the interfaces: which of its names one is, and whether they are different. Assumes nothing.
 use Prim.Native.Nat.{ℕ, suc, ◌+◌, ◌-◌, ◌<◌, ◌≤◌}
-use mathlib.Core.Path.{◌≡◌, refl, sym, ap, ◌∙◌}
+use mathlib.Core.Path.{◌≡◌, refl, sym, ◌∙◌}
 use mathlib.Core.Bool.{Bool, true, false, ◌&&◌}
 use mathlib.Core.List.{List}
 use native.Mathlib.Omega.{arith}
@@ -9,7 +9,7 @@ use borrow.Author.Tests.{eq-eqb, ne_eqb, eqb-true, eqb-false}
 use Rattle.laws.proofs.Tests.{split}
 use lib.ListN.{length, drop, length-drop}
 use lib.Dec.{eqb}
-use Rattle.rulebook.specs.BusLog.{bytes_of, stands, behind, listed_name, same, number_of, names_stand}
+use Rattle.rulebook.specs.BusLog.{bytes_of, listed_name, same, number_of, names_stand}
 use Rattle.buslog.specs.declared.pieces.Found.{Found}
 use Rattle.buslog.specs.Inside.{part, Finds}
 

@@ -1,17 +1,17 @@
 -- Time is exact: between two lines the ticks given are the whole 10 milliseconds since the first line's time. Assumes nothing.
-use Prim.Native.Nat.{ℕ, zero, suc, ◌+◌, ◌-◌, ◌/◌, ◌<◌, ◌≤◌, min}
-use mathlib.Core.Path.{◌≡◌, refl, sym, ap, subst, ◌∙◌}
-use mathlib.Core.Bool.{Bool, true, false}
+use Prim.Native.Nat.{ℕ, zero, suc, ◌+◌, ◌-◌, ◌/◌, ◌≤◌}
+use mathlib.Core.Path.{◌≡◌, refl, ap, ◌∙◌}
+use mathlib.Core.Bool.{false}
 use mathlib.Core.List.{List}
 use native.Mathlib.Omega.{arith}
 use native.Mathlib.Nat.{zero-div}
-use borrow.Author.Tests.{eq-eqb, ne_eqb, eqb-true, eqb-false, ltb-false}
+use borrow.Author.Tests.{ne_eqb, eqb-true, eqb-false, ltb-false}
 use lib.ListN.{length}
-use lib.Dec.{eqb, ltb, leb}
+use lib.Dec.{eqb, leb}
 use Rattle.laws.proofs.Tests.{split}
 use Rattle.rulebook.specs.Table.{networks}
 use Rattle.rulebook.specs.Reasons.{accepted}
-use Rattle.rulebook.specs.BusLog.{Cursor, Reading, unread, spelt, time, zero_time, ticks_due, goes_back, line_read, next_line, network_of, line_events, fault, room}
+use Rattle.rulebook.specs.BusLog.{Cursor, Reading, unread, spelt, time, zero_time, ticks_due, goes_back, line_read, line_events, fault, room}
 use Rattle.rulebook.specs.BusLog.{read_line, read_lines, read_log, names_stand}
 use Rattle.buslog.specs.Promises.{WholeTicks}
 use Rattle.buslog.proofs.Taking.{refused-stays, read_stays, turn, more-than-none}

@@ -1,8 +1,8 @@
 -- A whole log: what refuses its table or its list, or its lines read; and that two results allowed are the same. Assumes nothing.
-use Prim.Native.Nat.{ℕ, ◌+◌, ◌-◌, ◌≤◌}
-use mathlib.Core.Path.{◌≡◌, refl, sym, ap, ◌∙◌}
+use Prim.Native.Nat.{ℕ, ◌≤◌}
+use mathlib.Core.Path.{◌≡◌, sym, ap, ◌∙◌}
 use mathlib.Core.Bool.{Bool, true, false}
-use mathlib.Core.List.{List, [], ◌++◌}
+use mathlib.Core.List.{List, ◌++◌}
 use native.Mathlib.Omega.{arith}
 use lib.ListN.{length, take, drop, length-drop, take-append-drop}
 use lib.Seq.{length-take-le}
@@ -13,7 +13,7 @@ use Rattle.rulebook.specs.BusLog.{Reading, unread, names_stand, read_lines, read
 use Rattle.buslog.specs.declared.reading.Cursor.{Cursor}
 use Rattle.buslog.specs.declared.reading.Ending.TheVariants.{BadTable, BadNames}
 use Rattle.buslog.specs.declared.reading.Step.{Step}
-use Rattle.buslog.specs.Promises.{cursor_as, end_number, ReadsLogIn, ReadsLog}
+use Rattle.buslog.specs.Promises.{cursor_as, ReadsLogIn, ReadsLog}
 use Rattle.buslog.specs.Inside.{Stops, ReadsTo, reading_of}
 
 -- the list was judged for as many names as the table has networks

@@ -1,19 +1,19 @@
 -- A log read in parts, each of which ends behind a line, comes to what the whole log comes to. Assumes nothing.
 use Prim.Native.Nat.{ℕ, zero, suc, ◌+◌, ◌-◌, ◌<◌, ◌≤◌}
 use mathlib.Core.Path.{◌≡◌, refl, sym, ap, ◌∙◌}
-use mathlib.Core.Bool.{Bool, true, false, ◌&&◌}
+use mathlib.Core.Bool.{Bool, true, ◌&&◌}
 use mathlib.Core.List.{List, [], ◌∷◌, ◌++◌, append-nil}
 use native.Mathlib.Omega.{arith}
-use borrow.Author.Tests.{eqb-true, eqb-false, eq-eqb, ltb-true, ltb-false}
-use lib.ListN.{length, get_or, drop, length-append, get_or-append, get_or-eq_default}
+use borrow.Author.Tests.{eqb-true, eqb-false, ltb-true, ltb-false}
+use lib.ListN.{length, get_or, length-append, get_or-append, get_or-eq_default}
 use lib.Seq.{drop-append-le}
 use lib.Dec.{eqb, ltb, leb}
 use Rattle.laws.proofs.Tests.{split, and_left, and_right}
 use Rattle.rulebook.specs.Table.{networks}
 use Rattle.rulebook.specs.Reasons.{accepted}
 use Rattle.rulebook.specs.BusLog.{Piece, run, bytes_of, stands, behind, opening, seconds, micros, gap, name, identifier, pairs}
-use Rattle.rulebook.specs.BusLog.{at_seconds, at_micros, at_gap, at_name, at_identifier, at_pairs, lines_behind, spelt, time, interface, is_bus_off, goes_back}
-use Rattle.rulebook.specs.BusLog.{Cursor, Reading, unread, network_of, line_events, fault, room, read_line, read_lines, read_log, names_stand, line_read}
+use Rattle.rulebook.specs.BusLog.{at_seconds, at_micros, at_gap, at_name, at_identifier, at_pairs, lines_behind, spelt, time, interface, is_bus_off}
+use Rattle.rulebook.specs.BusLog.{Cursor, Reading, unread, network_of, line_events, fault, room, read_line, read_lines, read_log, names_stand}
 use Rattle.buslog.specs.Promises.{behind_these}
 use Rattle.buslog.proofs.Taking.{refused-stays, read_stays, turn, enough, less-left, more-than-none}
 use Rattle.buslog.proofs.Resuming.{no-turn, lines-behind, lines-fill}

@@ -1,20 +1,19 @@
 -- Reading that stopped for want of room, taken up again in another output, comes to what one call with room for both comes to. Assumes nothing.
-use Prim.Native.Nat.{ℕ, zero, suc, ◌+◌, ◌-◌, ◌/◌, ◌<◌, ◌≤◌}
-use mathlib.Core.Path.{◌≡◌, refl, sym, ap, subst, ◌∙◌}
-use mathlib.Core.Bool.{Bool, true, false, cond, not}
+use Prim.Native.Nat.{ℕ, zero, suc, ◌+◌, ◌-◌, ◌<◌, ◌≤◌}
+use mathlib.Core.Path.{◌≡◌, refl, sym, ap, ◌∙◌}
+use mathlib.Core.Bool.{true, false, cond}
 use mathlib.Core.List.{List, [], ◌∷◌, ◌++◌, append_assoc, append-nil}
 use native.Mathlib.Omega.{arith}
-use borrow.Author.Tests.{eq-eqb, ne_eqb, eqb-true, eqb-false, le-leb, lt-leb, leb-true, leb-false}
-use lib.ListN.{length, take, drop, replicate, length-append, length-replicate, replicate-append-replicate}
-use lib.Seq.{take-append-le, take-append-add, take_at, length-take-le}
+use borrow.Author.Tests.{eqb-true, eqb-false, le-leb, lt-leb, leb-true, leb-false}
+use lib.ListN.{length, take, replicate, length-append, length-replicate, replicate-append-replicate}
+use lib.Seq.{take-append-add, take_at, length-take-le}
 use lib.Dec.{eqb, leb}
 use Rattle.laws.proofs.Tests.{split}
 use Rattle.rulebook.specs.Table.{networks}
 use Rattle.rulebook.specs.Reasons.{accepted}
 use Rattle.rulebook.specs.BusLog.{Cursor, Reading, answered, unread, spelt, time, zero_time, ticks_due, goes_back, more_given, line_read, is_bus_off, network_of, next_line}
-use Rattle.rulebook.specs.BusLog.{tick_word, bus_off_word, line_events, fault, room, read_line, read_lines, read_log, names_stand, lines_behind}
+use Rattle.rulebook.specs.BusLog.{tick_word, bus_off_word, line_events, fault, room, read_line, read_lines, read_log, names_stand}
 use Rattle.buslog.specs.Promises.{behind_these}
-use Rattle.buslog.proofs.Giving.{take-ticks}
 use Rattle.buslog.proofs.Taking.{refused-stays, read_stays, turn, enough, less-left, lines-shorter, more-than-none}
 
 pub no-turn : (t names : List ℕ) (words : ℕ) (r : Reading) → read_lines 0 t names words r ≡ r

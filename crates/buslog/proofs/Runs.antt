@@ -1,14 +1,14 @@
 -- Runs of bytes of one kind, and parts of a text. Assumes nothing.
 use Prim.Native.Nat.{ℕ, zero, suc, ◌+◌, ◌-◌, ◌<◌, ◌≤◌}
-use mathlib.Core.Path.{◌≡◌, refl, sym, ap, ◌∙◌}
+use mathlib.Core.Path.{◌≡◌, refl, ap, ◌∙◌}
 use mathlib.Core.Bool.{Bool, true, false}
-use mathlib.Core.List.{List, [], ◌∷◌, ◌++◌}
+use mathlib.Core.List.{List, [], ◌∷◌}
 use native.Mathlib.Omega.{arith}
 use native.Mathlib.Numerals.{add-one}
 use Rattle.laws.proofs.Tests.{split}
-use lib.ListN.{length, get_or, take, drop, length-drop}
+use lib.ListN.{length, get_or, take, drop}
 use lib.Seq.{drop-cons, drop-nil}
-use Rattle.rulebook.specs.BusLog.{run, Piece, bytes_of, stands, behind}
+use Rattle.rulebook.specs.BusLog.{run}
 use Rattle.buslog.specs.Inside.{part}
 
 -- nothing is left from the end on

@@ -1,24 +1,23 @@
 -- A piece at a place, and the pieces of a line one behind the other. Assumes nothing.
-use Prim.Native.Nat.{ℕ, ◌+◌, ◌-◌, ◌*◌, ◌^◌, ◌<◌, ◌≤◌, min}
+use Prim.Native.Nat.{ℕ, ◌+◌, ◌-◌, ◌*◌, ◌^◌, ◌≤◌, min}
 use mathlib.Core.Path.{◌≡◌, refl, sym, ap, ◌∙◌}
 use mathlib.Core.Bool.{Bool, true, false, ◌&&◌, and_assoc}
 use mathlib.Core.List.{List}
 use native.Mathlib.Omega.{arith}
-use native.Mathlib.Nat.{mul-le-mul_left, mul-le-mul_right, pow-le-pow_right}
+use native.Mathlib.Nat.{mul-le-mul_left, pow-le-pow_right}
 use borrow.Author.Tests.{ltb-true, ltb-false, leb-true, eqb-true}
-use lib.ListN.{length, get_or, take, drop, length-drop}
+use lib.ListN.{length, get_or, drop}
 use lib.Seq.{drop-drop, get_or-drop}
 use lib.Dec.{eqb, ltb, leb}
 use Rattle.laws.proofs.Tests.{split, clash, and_left, and_right}
-use Rattle.rulebook.specs.BusLog.{Piece, run, bytes_of, stands, behind, opening, seconds, micros, gap, name, identifier, pairs}
+use Rattle.rulebook.specs.BusLog.{Piece, bytes_of, stands, behind, opening, seconds, micros, gap, name, identifier, pairs}
 use Rattle.rulebook.specs.BusLog.{one_to_ten, six, three_or_eight, at_seconds, at_micros, at_gap, at_name, at_identifier, at_pairs}
-use Rattle.rulebook.specs.BusLog.{lines_behind, spelt, number, time, interface, tells_bus_off, is_bus_off, has_bit, error_bit, bus_off_bit}
+use Rattle.rulebook.specs.BusLog.{lines_behind, spelt, time, interface, tells_bus_off, is_bus_off, has_bit, error_bit, bus_off_bit}
 use Rattle.buslog.specs.declared.pieces.Found.{Found}
 use Rattle.buslog.specs.declared.lines.Stamp.{Stamp}
 use Rattle.buslog.specs.declared.lines.Frame.{Frame}
-use Rattle.buslog.specs.declared.lines.Line.{Line}
-use Rattle.buslog.specs.Inside.{part, Finds, Fits, Numbers, StampAt, FrameAt, Says, ReadsLine}
-use Rattle.buslog.proofs.Runs.{run-front, run-within, none_left}
+use Rattle.buslog.specs.Inside.{part, Finds, Fits, Numbers, StampAt, FrameAt, ReadsLine}
+use Rattle.buslog.proofs.Runs.{run-front, none_left}
 
 -- what is behind one byte more, or behind the end
 drop-next : (text : List ℕ) (end next : ℕ) → end ≤ length text → next ≡ min (end + 1) (length text) → drop next text ≡ drop (end + 1) text

@@ -1,24 +1,23 @@
 -- A line read from where reading stands, and lines one after the other. Assumes nothing.
 use Prim.Native.Nat.{ℕ, zero, suc, ◌+◌, ◌-◌, ◌<◌, ◌≤◌}
 use mathlib.Core.Path.{◌≡◌, refl, sym, ap, subst, ◌∙◌}
-use mathlib.Core.Bool.{Bool, true, false, cond, not, ◌||◌, or-true}
-use mathlib.Core.List.{List, [], ◌∷◌, ◌++◌}
+use mathlib.Core.Bool.{Bool, true, false, or-true}
+use mathlib.Core.List.{List}
 use native.Mathlib.Omega.{arith}
 use borrow.Author.Tests.{eq-eqb, ne_eqb, eqb-true, eqb-false}
-use lib.ListN.{length, take, drop, replicate, length-drop}
+use lib.ListN.{length, drop, length-drop}
 use lib.Seq.{length-take-le, drop-drop}
 use lib.Dec.{eqb, leb}
 use Rattle.laws.proofs.Tests.{split}
 use Rattle.rulebook.specs.Table.{networks}
-use Rattle.rulebook.specs.BusLog.{Cursor, Reading, answered, spelt, time, goes_back, network_of, interface, is_bus_off, number_of, fault, line_events, room, read_line}
-use Rattle.rulebook.specs.BusLog.{read_lines, unread, lines_behind, behind, line_read, more_given, ticks_due, tick_word, bus_off_word, Piece, bytes_of, at_pairs, pairs}
+use Rattle.rulebook.specs.BusLog.{Cursor, Reading, spelt, time, goes_back, network_of, number_of, fault, line_events, room, read_line}
+use Rattle.rulebook.specs.BusLog.{read_lines, unread, lines_behind, behind, Piece, bytes_of, at_pairs, pairs}
 use Rattle.rulebook.specs.BusLog.{opening, seconds, micros, gap, name, identifier, at_seconds, at_micros, at_gap, at_name, at_identifier, listed_name, same}
 use Rattle.buslog.specs.declared.lines.Line.{Line}
 use Rattle.buslog.specs.declared.reading.Cursor.{Cursor as CursorRead}
 use Rattle.buslog.specs.declared.reading.Ending.{Ending}
 use Rattle.buslog.specs.declared.reading.Ending.TheVariants.{Read, BadTable, BadNames, Misspelt, GoesBack, Unlisted, NoRoom}
 use Rattle.buslog.specs.declared.reading.Step.{Step}
-use Rattle.buslog.specs.contracts.reading.Ending.{the_type}
 use Rattle.buslog.specs.Promises.{cursor_as, end_number}
 use Rattle.buslog.specs.Inside.{part, Says, Stops, events_of, fits, Gives, reading, reading_of, ReadsTo}
 
@@ -210,7 +209,6 @@ module _ (t names : List ℕ) (words : ℕ) where
       (λ y. refused-stays (suc a) r (eqb-false _ _ y) ∙ sym (refused-stays (suc b) r (eqb-false _ _ y)))
 
 -- an ending of another case has another number than 0
-
 pub not-read : (r : Ending) → (r ≡ Read → ⊥) → end_number r ≡ 0 → ⊥
 not-read Read f z = f refl
 not-read BadTable f z = omega arith

@@ -1,7 +1,6 @@
 -- The cursor, and ticks laid into an output. Assumes nothing.
-use Prim.Native.Nat.{ℕ, suc, ◌+◌, ◌-◌, ◌*◌, ◌/◌, ◌%◌, ◌^◌, ◌<◌, ◌≤◌, min}
+use Prim.Native.Nat.{ℕ, ◌+◌, ◌-◌, ◌*◌, ◌/◌, ◌%◌, ◌^◌, ◌<◌, ◌≤◌, min}
 use mathlib.Core.Path.{◌≡◌, refl, sym, ap, ◌∙◌}
-use mathlib.Core.Bool.{true, false}
 use mathlib.Core.List.{List, [], ◌∷◌, ◌++◌}
 use native.Mathlib.Omega.{arith}
 use native.Mathlib.Nat.{div-le_self, zero-div, mod-eq_of_lt}
@@ -10,7 +9,7 @@ use lib.ListN.{length, take, drop, set, replicate, length-set, replicate-append-
 use lib.Seq.{take-suc-set, drop-set-lt, drop-drop}
 use mathlib.Core.List.{append_assoc, append-nil}
 use Rattle.rulebook.specs.Table.{network_owner}
-use Rattle.rulebook.specs.BusLog.{Cursor, zero_time, ticks_due, line_read, next_line, tick_word, bus_off_word}
+use Rattle.rulebook.specs.BusLog.{Cursor, zero_time, ticks_due, tick_word, bus_off_word}
 use Rattle.buslog.specs.Inside.{GivesTicks}
 
 module _ (c : Cursor) (time zero-at : ℕ) (z : zero-at ≡ zero_time c time) where

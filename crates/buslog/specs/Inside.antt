@@ -1,6 +1,6 @@
 -- What the functions inside promise each other. A place is a number of bytes; `drop at text` is the text from it on.
 use Rattle.std.specs.Prelude.{ℕ, ◌+◌, ◌-◌, ◌*◌, ◌^◌, ◌≤◌, ◌<◌, min, ◌≡◌, Bool, true, cond, ◌&&◌, List, [], ◌∷◌, ◌++◌, length, take, drop, replicate, leb}
-use Rattle.rulebook.specs.BusLog.{Piece, bytes_of, stands, behind, opening, seconds, micros, gap, name, identifier, pairs}
+use Rattle.rulebook.specs.BusLog.{Piece, bytes_of, stands, behind, opening, seconds, micros, gap, identifier, pairs}
 use Rattle.rulebook.specs.BusLog.{at_seconds, at_micros, at_gap, at_name, lines_behind, spelt, number, time, interface}
 use Rattle.rulebook.specs.BusLog.{tells_bus_off, is_bus_off, Cursor, ticks_due, line_read, more_given, tick_word, bus_off_word, Reading}
 use Rattle.buslog.specs.declared.pieces.Found.{Found}

@@ -1,0 +1,53 @@
+-- `telling::tell` meets its contract: nothing, or the head and both sides. Assumes nothing.
+use borrow.Author.Rules.{rules}
+use Prim.Native.Nat.{◌^◌, ◌<◌}
+use native.Mathlib.Omega.{arith}
+use mathlib.Core.Path.{sym}
+use lib.Seq.{length-take-le}
+use Rattle.telling.proofs.Telling.{nothing-told, head-room, cut-within, states-room, traces-room, states-told, traces-told}
+use Rattle.telling.proofs.tell.Goals as goal
+
+pub returns-then-j-eq-AS_ORDERED : goal.returns-then-j-eq-AS_ORDERED
+returns-then-j-eq-AS_ORDERED c = nothing-told _ _ _ _ _ _ _ _ c.requires.0 _ c.if-j-eq-AS_ORDERED.true
+
+pub lay_head-next-requires : goal.lay_head-next-requires
+lay_head-next-requires c =
+    let small : c.args.n < 2 ^ 64 = omega (arith, c.fits.n) in
+    let known : c.args.answer < 2 ^ 32 = omega (arith, c.fits.answer) in
+    let heard : c.args.said < 2 ^ 32 = omega (arith, c.fits.said) in
+    head-room _ _ _ _ _ _ _ _ c.requires.0 c.requires.1 small known heard
+
+pub slice_bounds-lay_sides-end : goal.slice_bounds-lay_sides-end
+slice_bounds-lay_sides-end c =
+    sym (length-take-le c.args.j.cut c.args.words.now
+    (cut-within 0 0 _ _ _ _ _ _ c.requires.0))
+
+pub lay_sides-requires : goal.lay_sides-requires
+lay_sides-requires c =
+    let small : c.args.n < 2 ^ 64 = omega (arith, c.fits.n) in
+    let known : c.args.answer < 2 ^ 32 = omega (arith, c.fits.answer) in
+    let heard : c.args.said < 2 ^ 32 = omega (arith, c.fits.said) in
+    states-room _ _ _ _ _ _ _ _ c.requires.0 c.requires.1 small known heard c.lay_head-next.ensures
+
+pub returns-then-j-eq-STATES_PART : goal.returns-then-j-eq-STATES_PART
+returns-then-j-eq-STATES_PART c =
+    let small : c.args.n < 2 ^ 64 = omega (arith, c.fits.n) in
+    let known : c.args.answer < 2 ^ 32 = omega (arith, c.fits.answer) in
+    let heard : c.args.said < 2 ^ 32 = omega (arith, c.fits.said) in
+    states-told _ _ _ _ _ _ _ _ c.requires.0 c.requires.1 small known heard c.lay_head-next.ensures
+    c.if-j-eq-AS_ORDERED.false c.if-j-eq-STATES_PART.true c.lay_sides.ensures
+
+pub lay_sides-requires-2 : goal.lay_sides-requires-2
+lay_sides-requires-2 c =
+    let small : c.args.n < 2 ^ 64 = omega (arith, c.fits.n) in
+    let known : c.args.answer < 2 ^ 32 = omega (arith, c.fits.answer) in
+    let heard : c.args.said < 2 ^ 32 = omega (arith, c.fits.said) in
+    traces-room _ _ _ _ _ _ _ _ c.requires.0 c.requires.1 small known heard c.lay_head-next.ensures
+
+pub returns : goal.returns
+returns c =
+    let small : c.args.n < 2 ^ 64 = omega (arith, c.fits.n) in
+    let known : c.args.answer < 2 ^ 32 = omega (arith, c.fits.answer) in
+    let heard : c.args.said < 2 ^ 32 = omega (arith, c.fits.said) in
+    traces-told _ _ _ _ _ _ _ _ c.requires.0 c.requires.1 small known heard c.lay_head-next.ensures
+    c.if-j-eq-AS_ORDERED.false c.if-j-eq-STATES_PART.false c.lay_sides-2.ensures
