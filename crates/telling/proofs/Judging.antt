@@ -4,8 +4,6 @@ use mathlib.Core.Path.{◌≡◌, refl, sym, ap, subst, ◌∙◌}
 use mathlib.Core.Bool.{true, false, ◌&&◌}
 use mathlib.Core.List.{List, [], ◌∷◌, ◌++◌, append-nil}
 use native.Mathlib.Omega.{arith}
-use types.Run.{OneOf, miss}
-use denote.Enum.Declared.{tag_of}
 use lib.ListN.{length, get_or, set, take, drop, length-drop, drop_of_length-le}
 use lib.Seq.{take_all, length-take-le}
 use lib.Dec.{eqb, leb}
@@ -14,7 +12,6 @@ use Rattle.rulebook.specs.Step.{refused_state}
 use Rattle.rulebook.specs.Hold.{beside}
 use Rattle.manager.specs.declared.Fit.{Fit}
 use Rattle.manager.specs.declared.Fit.TheVariants.{Fits, BadTable, Unfit}
-use Rattle.manager.specs.contracts.Fit.{the_type}
 use Rattle.manager.specs.Answers.{state_number}
 use Rattle.hold.specs.Promises.{TellsVerdictIn}
 use Rattle.hold.proofs.Verdicts.{front-least, tail-least}
@@ -66,15 +63,9 @@ module _ (t s ws : List ℕ) where
           state = e ∙ rw (all, drop_of_length-le s {i = length s} (omega arith)) (append-nil (take (length s) ws));
         }
 
--- a state check's answer that is not `Fits` is 1 or 2; what `let .. else` knows of it: its variant is one of the others
+-- a state check's answer that is not `Fits` is 1 or 2
 
-abbrev others : List ℕ
-others = 1 ∷ 2 ∷ []
-
-not-zero : (r : Fit) → (r ≡ Fits → ⊥) → state_number r ≡ 0 → ⊥
-not-zero Fits f z = f refl
-not-zero BadTable f z = omega arith
-not-zero Unfit f z = omega arith
-
-pub unfit-number : (r : Fit) → OneOf others (tag_of the_type r) → state_number r ≡ 0 → ⊥
-unfit-number r other = not-zero r (λ e. miss others 0 tt (subst (λ (x : Fit). OneOf others (tag_of the_type x)) e other))
+pub unfit-number : (r : Fit) → (r ≡ Fits → ⊥) → state_number r ≡ 0 → ⊥
+unfit-number Fits f z = f refl
+unfit-number BadTable f z = omega arith
+unfit-number Unfit f z = omega arith

@@ -30,3 +30,22 @@ pub returns : goal.returns
 unfolding owner digit
 returns c =
     rw (by-trace _ _ _ _ _ c.if-part-eq-PORTS.false c.if-part-eq-NETWORKS.false c.if-part-eq-SOURCES.false, c.word-2.ensures)
+
+pub overflow_add-i : goal.overflow_add-i
+overflow_add-i c = let small = port-small _ _ _ _ c.requires c.if-part-eq-PORTS.true in omega arith
+
+pub overflow_mul-i : goal.overflow_mul-i
+overflow_mul-i c = let small = network-small _ _ _ _ c.requires c.if-part-eq-NETWORKS.true in omega arith
+
+pub overflow_add-c-then-part-eq-NETWORKS : goal.overflow_add-c-then-part-eq-NETWORKS
+overflow_add-c-then-part-eq-NETWORKS c =
+    let small = network-small _ _ _ _ c.requires c.if-part-eq-NETWORKS.true in
+    let few = c.requires.counted.few_ports in
+    omega arith
+
+pub overflow_add-c-then-part-eq-SOURCES-3 : goal.overflow_add-c-then-part-eq-SOURCES-3
+overflow_add-c-then-part-eq-SOURCES-3 c =
+    let small = source-small _ _ _ _ c.requires c.if-part-eq-SOURCES.true in
+    let few = c.requires.counted.few_ports in
+    let few2 = c.requires.counted.few_networks in
+    omega arith

@@ -10,18 +10,18 @@ use Rattle.panel.proofs.show.Goals as goal
 
 pub returns-in_default : goal.returns-in_default
 returns-in_default c =
-    not-operator _ _ _ _ _ (other-of _ c.in_default.is c.judge-who.ensures)
+    not-operator _ _ _ _ _ (other-of c.args.o c.in_default.is c.judge-who.ensures)
 
 pub returns-in_default-fit : goal.returns-in_default-fit
 returns-in_default-fit c =
-    let is = operator-of _ c.in-Operator.is c.judge-who.ensures in
+    let is = operator-of c.args.o c.in-Operator.is c.judge-who.ensures in
     rw c.not_fit.ensures.1
     (unfit _ _ _ _ _ is _ (c.not_fit.ensures.0 ∙ c.check_state-fit.ensures)
     (λ z. not-fitting c.check_state-fit.result c.in_default-fit.not-Fits (sym c.not_fit.ensures.0 ∙ z)))
 
 pub returns-in_default-room : goal.returns-in_default-room
 returns-in_default-room c =
-    let is = operator-of _ c.in-Operator.is c.judge-who.ensures in
+    let is = operator-of c.args.o c.in-Operator.is c.judge-who.ensures in
     no_room _ _ _ _ _ is (sym c.check_state-fit.ensures ∙ ap state_number c.in-Fits.is)
     (short-of _ _ c.in_default-room.is c.panel_room-room.ensures)
 
@@ -32,6 +32,6 @@ lay_panel-requires c =
 
 pub returns : goal.returns
 returns c =
-    let is = operator-of _ c.in-Operator.is c.judge-who.ensures in
+    let is = operator-of c.args.o c.in-Operator.is c.judge-who.ensures in
     let enough = left-of _ _ c.in-Left.is c.panel_room-room.ensures in
     done _ _ _ _ _ is (sym c.check_state-fit.ensures ∙ ap state_number c.in-Fits.is) (omega arith) c.lay_panel.ensures

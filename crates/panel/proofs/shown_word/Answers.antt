@@ -34,3 +34,18 @@ pub returns : goal.returns
 unfolding shown_word
 returns c =
     rw (by-trace _ _ _ _ _ c.if-part-eq-PORTS.false c.if-part-eq-NETWORKS.false c.if-part-eq-SOURCES.false) c.word-2.ensures
+
+pub overflow_add-c-then-part-eq-NETWORKS : goal.overflow_add-c-then-part-eq-NETWORKS
+overflow_add-c-then-part-eq-NETWORKS c =
+    let small = network-small _ _ _ _ c.requires c.if-part-eq-NETWORKS.true in
+    let ports = c.requires.counted.few_ports in
+    let rules = c.requires.counted.few_rules in
+    omega arith
+
+pub overflow_add-c-then-part-eq-SOURCES-3 : goal.overflow_add-c-then-part-eq-SOURCES-3
+overflow_add-c-then-part-eq-SOURCES-3 c =
+    let small = source-small _ _ _ _ c.requires c.if-part-eq-SOURCES.true in
+    let ports = c.requires.counted.few_ports in
+    let rules = c.requires.counted.few_rules in
+    let networks = c.requires.counted.few_networks in
+    omega arith

@@ -13,13 +13,13 @@ returns-then-out-lt96 c = unlaid 96 _ _ (omega arith)
 pub returns-then-parted-eq0 : goal.returns-then-parted-eq0
 unfolding events_label all_label
 returns-then-parted-eq0 c =
-    let small : c.args.events < 2 ^ 64 = omega (arith, c.fits.events) in
+    let small : c.args.events < 2 ^ 64 = omega (arith, c.ranges.events.fits) in
     all-total _ _ small (omega arith) c.put_decimal-number.ensures c.put_label-next.ensures c.if-parted-eq0.true c.put_label.ensures
 
 pub returns : goal.returns
 unfolding events_label not_label
 returns c =
-    let small : c.args.events < 2 ^ 64 = omega (arith, c.fits.events) in
-    let few : c.args.parted < 2 ^ 64 = omega (arith, c.fits.parted) in
+    let small : c.args.events < 2 ^ 64 = omega (arith, c.ranges.events.fits) in
+    let few : c.args.parted < 2 ^ 64 = omega (arith, c.ranges.parted.fits) in
     some-total _ _ small (omega arith) c.put_decimal-number.ensures c.put_label-next.ensures few c.if-parted-eq0.false c.put_decimal-many.ensures
     c.put_label-2.ensures

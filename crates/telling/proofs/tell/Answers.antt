@@ -12,9 +12,9 @@ returns-then-j-eq-AS_ORDERED c = nothing-told _ _ _ _ _ _ _ _ c.requires.0 _ c.i
 
 pub lay_head-next-requires : goal.lay_head-next-requires
 lay_head-next-requires c =
-    let small : c.args.n < 2 ^ 64 = omega (arith, c.fits.n) in
-    let known : c.args.answer < 2 ^ 32 = omega (arith, c.fits.answer) in
-    let heard : c.args.said < 2 ^ 32 = omega (arith, c.fits.said) in
+    let small : c.args.n < 2 ^ 64 = omega (arith, c.ranges.n.fits) in
+    let known : c.args.answer < 2 ^ 32 = omega (arith, c.ranges.answer.fits) in
+    let heard : c.args.said < 2 ^ 32 = omega (arith, c.ranges.said.fits) in
     head-room _ _ _ _ _ _ _ _ c.requires.0 c.requires.1 small known heard
 
 pub slice_bounds-lay_sides-end : goal.slice_bounds-lay_sides-end
@@ -24,30 +24,30 @@ slice_bounds-lay_sides-end c =
 
 pub lay_sides-requires : goal.lay_sides-requires
 lay_sides-requires c =
-    let small : c.args.n < 2 ^ 64 = omega (arith, c.fits.n) in
-    let known : c.args.answer < 2 ^ 32 = omega (arith, c.fits.answer) in
-    let heard : c.args.said < 2 ^ 32 = omega (arith, c.fits.said) in
+    let small : c.args.n < 2 ^ 64 = omega (arith, c.ranges.n.fits) in
+    let known : c.args.answer < 2 ^ 32 = omega (arith, c.ranges.answer.fits) in
+    let heard : c.args.said < 2 ^ 32 = omega (arith, c.ranges.said.fits) in
     states-room _ _ _ _ _ _ _ _ c.requires.0 c.requires.1 small known heard c.lay_head-next.ensures
 
 pub returns-then-j-eq-STATES_PART : goal.returns-then-j-eq-STATES_PART
 returns-then-j-eq-STATES_PART c =
-    let small : c.args.n < 2 ^ 64 = omega (arith, c.fits.n) in
-    let known : c.args.answer < 2 ^ 32 = omega (arith, c.fits.answer) in
-    let heard : c.args.said < 2 ^ 32 = omega (arith, c.fits.said) in
+    let small : c.args.n < 2 ^ 64 = omega (arith, c.ranges.n.fits) in
+    let known : c.args.answer < 2 ^ 32 = omega (arith, c.ranges.answer.fits) in
+    let heard : c.args.said < 2 ^ 32 = omega (arith, c.ranges.said.fits) in
     states-told _ _ _ _ _ _ _ _ c.requires.0 c.requires.1 small known heard c.lay_head-next.ensures
     c.if-j-eq-AS_ORDERED.false c.if-j-eq-STATES_PART.true c.lay_sides.ensures
 
 pub lay_sides-requires-2 : goal.lay_sides-requires-2
 lay_sides-requires-2 c =
-    let small : c.args.n < 2 ^ 64 = omega (arith, c.fits.n) in
-    let known : c.args.answer < 2 ^ 32 = omega (arith, c.fits.answer) in
-    let heard : c.args.said < 2 ^ 32 = omega (arith, c.fits.said) in
+    let small : c.args.n < 2 ^ 64 = omega (arith, c.ranges.n.fits) in
+    let known : c.args.answer < 2 ^ 32 = omega (arith, c.ranges.answer.fits) in
+    let heard : c.args.said < 2 ^ 32 = omega (arith, c.ranges.said.fits) in
     traces-room _ _ _ _ _ _ _ _ c.requires.0 c.requires.1 small known heard c.lay_head-next.ensures
 
 pub returns : goal.returns
 returns c =
-    let small : c.args.n < 2 ^ 64 = omega (arith, c.fits.n) in
-    let known : c.args.answer < 2 ^ 32 = omega (arith, c.fits.answer) in
-    let heard : c.args.said < 2 ^ 32 = omega (arith, c.fits.said) in
+    let small : c.args.n < 2 ^ 64 = omega (arith, c.ranges.n.fits) in
+    let known : c.args.answer < 2 ^ 32 = omega (arith, c.ranges.answer.fits) in
+    let heard : c.args.said < 2 ^ 32 = omega (arith, c.ranges.said.fits) in
     traces-told _ _ _ _ _ _ _ _ c.requires.0 c.requires.1 small known heard c.lay_head-next.ensures
     c.if-j-eq-AS_ORDERED.false c.if-j-eq-STATES_PART.false c.lay_sides-2.ensures
