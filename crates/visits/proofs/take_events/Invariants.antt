@@ -1,0 +1,20 @@
+-- `visits::take_events` meets its promise. The loop's invariant: what `Along` says of the first i events. The measure is how many are
+-- left. Assumes nothing.
+use borrow.Author.Rules.{rules}
+use Prim.Native.Nat.{◌-◌}
+use mathlib.Core.Path.{refl, sym, ◌∙◌}
+use native.Mathlib.Omega.{arith}
+use lib.ListN.{length}
+use borrow.Author.Tests.{not-true, not-false, leb-true, leb-false}
+use Rattle.session.specs.Promises.{offered}
+use Rattle.session.proofs.Steps.{ready-from}
+use Rattle.session.proofs.Along.{offered-long, offered-at}
+use Rattle.visits.proofs.Along.{Along, begin, next, end, none-taken}
+use Rattle.visits.proofs.take_events.Given as goal
+
+abbrev pub invariant-loop-i : goal.invariant-loop-i
+invariant-loop-i l =
+    Along l.t l.initial.s l.initial.trace (offered l.t l.initial.s (length l.initial.trace) l.bytes l.from) l.initial.so_far l.initial.out l.i l.at l.so_far l.s l.trace l.out
+
+abbrev pub decreases-loop-i : goal.decreases-loop-i
+decreases-loop-i l = l.total - l.i
