@@ -85,7 +85,7 @@
  *     So the most that an event can take is measured, not reckoned from its visits alone.
  *
  * What a call costs: all but herringcart_state_words, herringcart_version, herringcart_list and herringcart_read check the whole table
- * each time, for nothing is kept. Measured on an Arm Neoverse N1 an event takes some 30 ns for each word of the table
+ * each time, for nothing is kept. Measured on an Arm Neoverse N1, with the older kit, an event takes some 30 ns for each word of the table
  * (docs/BENCHMARKS.md): 0.4 us with 12 words, 86 us with 2,892. Tables made to be slow to check take up to 1.4 ms a call. The slowest that
  * are known run 4,080 rule items in one event: 3.5 ms, and 5.2 ms while a port is undefined. herringcart_play checks table and state once
  * for all its events, and then an event costs what it does alone. herringcart_panel checks table and state as an event does, and then goes

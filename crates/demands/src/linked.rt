@@ -115,9 +115,9 @@ pub fn read_log(
     bytes: &mut usize,
 ) -> u32
     ensures { OfLog t.now names.now log.now
-        (record { lines = lines.entry.now; first = first.old; last = last.old; given = given.old })
+        (record { lines = lines.old; first = first.old; last = last.old; given = given.old })
         out.old result line.new events.new bytes.new
-        (record { lines = lines.exit.now; first = first.new; last = last.new; given = given.new }) out.new }
+        (record { lines = lines.new; first = first.new; last = last.new; given = given.new }) out.new }
 {
     gateway::herringcart_read_log(
         t, names, log, lines, first, last, given, out, line, events, bytes,

@@ -1,5 +1,5 @@
-// What a gateway's C or Rust code links: `manager`'s entries under C's calling convention, their answers in document 01's numbers.
-// library/herringcart.h says what each call needs of its pointers.
+// `manager`'s entries and those beside it, their answers in document 01's numbers, for code that calls them by number. The crate `gateway_c` exports each of
+// them to C under the same name.
 #![tactic(auto)]
 
 ghost use Rattle.std.specs.Prelude.{◌≡◌};
@@ -39,16 +39,14 @@ fn fit_number(fit: Fit) -> u32
 }
 
 // The version of the archive, its first number times 65,536 plus its second: a caller holds it against its header's.
-#[unsafe(no_mangle)]
-pub extern "C" fn herringcart_version() -> u32
+pub fn herringcart_version() -> u32
     ensures { result ≡ version }
 {
     5 * 65536 + 6
 }
 
 // Checks a table: gives its reason, 0 if it is accepted, and writes the place and B.
-#[unsafe(no_mangle)]
-pub extern "C" fn herringcart_check_table(table: &[u32], place: &mut usize, bound: &mut u32) -> u32
+pub fn herringcart_check_table(table: &[u32], place: &mut usize, bound: &mut u32) -> u32
     ensures { ChecksTableIn table.now result place.new bound.new }
 {
     let said = tables::numbers(manager::check_table(table));
@@ -58,24 +56,21 @@ pub extern "C" fn herringcart_check_table(table: &[u32], place: &mut usize, boun
 }
 
 // How many words a state of this table has, by its header alone.
-#[unsafe(no_mangle)]
-pub extern "C" fn herringcart_state_words(table: &[u32]) -> usize
+pub fn herringcart_state_words(table: &[u32]) -> usize
     ensures { CountsWords table.now result }
 {
     manager::state_words(table)
 }
 
 // Makes a fresh state in the lent words, 0; or refuses, 1 or 2, and writes nothing.
-#[unsafe(no_mangle)]
-pub extern "C" fn herringcart_make_fresh(table: &[u32], state: &mut [u32]) -> u32
+pub fn herringcart_make_fresh(table: &[u32], state: &mut [u32]) -> u32
     ensures { MakesFreshIn table.now state.old result state.new }
 {
     made_number(manager::make_fresh(table, state))
 }
 
 // Checks a state: 0 if it fits, 1 if the table has a reason, 2 if it does not fit.
-#[unsafe(no_mangle)]
-pub extern "C" fn herringcart_check_state(table: &[u32], state: &[u32]) -> u32
+pub fn herringcart_check_state(table: &[u32], state: &[u32]) -> u32
     ensures { ChecksStateIn table.now state.now result }
 {
     fit_number(manager::check_state(table, state))
@@ -83,8 +78,7 @@ pub extern "C" fn herringcart_check_state(table: &[u32], state: &[u32]) -> u32
 
 // Takes one event, with the outcomes of its outside calls: gives the answer, writes state and trace in place, the count of trace words
 // written and that of expression words visited.
-#[unsafe(no_mangle)]
-pub extern "C" fn herringcart_take_event(
+pub fn herringcart_take_event(
     table: &[u32],
     state: &mut [u32],
     trace: &mut [u32],
@@ -104,8 +98,7 @@ pub extern "C" fn herringcart_take_event(
 
 // Plays event words one after the other: gives the number of what ended it, 0 after the last event, writes state and trace in place, how
 // many events were taken, how many trace words written and how many expression words visited, this in 64 bits.
-#[unsafe(no_mangle)]
-pub extern "C" fn herringcart_play(
+pub fn herringcart_play(
     table: &[u32],
     state: &mut [u32],
     trace: &mut [u32],
@@ -127,8 +120,7 @@ pub extern "C" fn herringcart_play(
 
 // Shows an operator its panel: gives the answer, lays the lines at the front of the lent bytes and writes how many bytes they are, 0 in a
 // refusal.
-#[unsafe(no_mangle)]
-pub extern "C" fn herringcart_panel(
+pub fn herringcart_panel(
     operator: u32,
     table: &[u32],
     state: &[u32],
@@ -146,8 +138,7 @@ pub extern "C" fn herringcart_panel(
 
 // Holds a supplier's trace and state after one event against our step, with the outcomes given: gives the verdict, writes the number beside it,
 // how many words the part has, and our step's count and visits; writes state and trace in place, as an event call does.
-#[unsafe(no_mangle)]
-pub extern "C" fn herringcart_hold(
+pub fn herringcart_hold(
     table: &[u32],
     state: &mut [u32],
     trace: &mut [u32],
@@ -174,8 +165,7 @@ pub extern "C" fn herringcart_hold(
 }
 
 // Lists a table as text: gives the answer, lays the lines at the front of the lent bytes and writes how many bytes they are, 0 in a refusal.
-#[unsafe(no_mangle)]
-pub extern "C" fn herringcart_list(table: &[u32], lines: &mut [u8], bytes: &mut usize) -> u32
+pub fn herringcart_list(table: &[u32], lines: &mut [u8], bytes: &mut usize) -> u32
     ensures { ListsIn table.now lines.old result bytes.new lines.new }
 {
     let listed = writing::list(table, lines);
@@ -185,13 +175,7 @@ pub extern "C" fn herringcart_list(table: &[u32], lines: &mut [u8], bytes: &mut 
 
 // Reads a listing back: gives the answer, lays the table's words at the front of those lent, and writes how many there are, 0 in a refusal, and the
 // number of the first bad line, 0 where none is bad.
-#[unsafe(no_mangle)]
-pub extern "C" fn herringcart_read(
-    text: &[u8],
-    words: &mut [u32],
-    count: &mut usize,
-    line: &mut usize,
-) -> u32
+pub fn herringcart_read(text: &[u8], words: &mut [u32], count: &mut usize, line: &mut usize) -> u32
     ensures { ReadsIn text.now words.old result count.new line.new words.new }
 {
     let read = reading::read(text, words);
@@ -202,8 +186,7 @@ pub extern "C" fn herringcart_read(
 
 // Reads a bus log, or a part of one, from the cursor in the four lent numbers on: gives the answer, lays the events at the front of the lent words, moves
 // the cursor, and writes the number of the line that is refused, 0 where none is, how many events there are and how many bytes are read.
-#[unsafe(no_mangle)]
-pub extern "C" fn herringcart_read_log(
+pub fn herringcart_read_log(
     table: &[u32],
     interfaces: &[u8],
     log: &[u8],
@@ -217,9 +200,9 @@ pub extern "C" fn herringcart_read_log(
     bytes: &mut usize,
 ) -> u32
     ensures { ReadsLogIn table.now interfaces.now log.now
-        (record { lines = lines.entry.now; first = first.old; last = last.old; given = given.old })
+        (record { lines = lines.old; first = first.old; last = last.old; given = given.old })
         out.old result line.new events.new bytes.new
-        (record { lines = lines.exit.now; first = first.new; last = last.new; given = given.new })
+        (record { lines = lines.new; first = first.new; last = last.new; given = given.new })
         out.new }
 {
     let from = Cursor {
