@@ -1,0 +1,7 @@
+-- `demands::entries::hold`: what is concluded follows from what the entry promises. Assumes nothing.
+use borrow.Author.Rules.{rules}
+use Rattle.demands.proofs.Held.{of-hold}
+use Rattle.demands.proofs.entries.hold.Goals as goal
+
+pub returns : goal.returns
+returns c = of-hold _ _ _ _ _ _ _ _ _ _ _ _ _ c.hold.ensures

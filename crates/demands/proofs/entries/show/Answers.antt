@@ -1,0 +1,7 @@
+-- `demands::entries::show`: what is concluded follows from what the call promises. Assumes nothing.
+use borrow.Author.Rules.{rules}
+use Rattle.demands.proofs.Panel.{of-panel}
+use Rattle.demands.proofs.entries.show.Goals as goal
+
+pub returns : goal.returns
+returns c = of-panel _ _ _ _ _ _ _ _ c.show.ensures

@@ -1,0 +1,7 @@
+-- `demands::entries::take_event`: what the demands conclude follows from what the entry promises. Assumes nothing.
+use borrow.Author.Rules.{rules}
+use Rattle.demands.proofs.Conclusions.{of-event}
+use Rattle.demands.proofs.entries.take_event.Goals as goal
+
+pub returns : goal.returns
+returns c = of-event _ _ _ _ _ _ _ _ _ _ c.take_event.ensures
