@@ -1,7 +1,7 @@
 -- A play from a table and a state that stand: the four ways it can go, and by them what it takes, writes and leaves, when it is full,
 -- and how it goes on with more room. Assumes nothing.
 use mathlib.Core.Path.{◌≡◌, refl, sym, ap, ◌∙◌}
-use mathlib.Core.Bool.{true, false}
+use mathlib.Core.Bool.{true}
 use mathlib.Core.List.{List, [], ◌∷◌, ◌++◌, append_assoc}
 use Prim.Native.Nat.{ℕ, suc, ◌+◌, ◌-◌, ◌*◌, ◌≤◌, ◌<◌}
 use native.Mathlib.Nat.{sub-zero, suc-mul, zero-add, add_assoc, add_comm}

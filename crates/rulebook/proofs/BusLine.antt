@@ -1,10 +1,10 @@
 -- Q-12's laws of one line: whole ticks, a time that goes back, the two bits, and what a refused line gives. Assumes nothing.
-use Prim.Native.Nat.{ℕ, ◌<◌}
+use Prim.Native.Nat.{ℕ}
 use mathlib.Core.Path.{◌≡◌, refl}
 use mathlib.Core.Bool.{true, false}
 use mathlib.Core.List.{List, [], ◌∷◌}
 use borrow.Author.Tests.{ne_eqb}
-use Rattle.rulebook.specs.BusLog.{Cursor, Reading, digit, hex_digit, value, number, has_bit, tells_bus_off, zero_time, ticks_due, goes_back, fault, read_line}
+use Rattle.rulebook.specs.BusLog.{Cursor, Reading, value, number, has_bit, tells_bus_off, zero_time, ticks_due, goes_back, fault, read_line}
 
 -- behind a first line at 7 microseconds and one at 9, no tick being given
 abbrev begun : Cursor

@@ -2,7 +2,7 @@
 -- refused, or operator 1 sees nothing of operator 2's request. Computed on the definitions. Assumes nothing.
 use Prim.Native.Nat.{ℕ}
 use mathlib.Core.Path.{◌≡◌, refl}
-use mathlib.Core.Bool.{Bool, true, ◌||◌, not}
+use mathlib.Core.Bool.{true, ◌||◌, not}
 use mathlib.Core.List.{List, [], ◌∷◌}
 use Rattle.rulebook.specs.Words.{digit, first, all, any, sum, listed, each, until}
 use Rattle.rulebook.specs.Table.{part, abort, a_size, by_item, stranger}

@@ -1,6 +1,6 @@
 -- Q-7: "A supplier's manager writes the same trace words. We hold the table, the state before, one event, and the supplier's trace and state
 -- after." Of two recordings ours is named first, the supplier's second.
-use Rattle.std.specs.Prelude.{ℕ, zero, suc, Bool, ◌&&◌, ◌||◌, not, cond, List, [], ◌∷◌, length, drop, eqb, ltb}
+use Rattle.std.specs.Prelude.{ℕ, suc, ◌&&◌, ◌||◌, cond, List, [], ◌∷◌, length, drop, eqb, ltb}
 use Rattle.rulebook.specs.Step.{Result, step}
 
 -- "the first differing word", by its number from 0; where one merely stops early "the shorter length"

@@ -1,15 +1,15 @@
 -- What calls met, word by word, and agreeing as far as both go: it holds of every front, and of two that are equally long it is equality at
 -- the next. A run's unread outcomes are those that its words leave. Assumes nothing.
 use mathlib.Core.Path.{◌≡◌, refl, sym, ◌∙◌, ap}
-use mathlib.Core.Bool.{Bool, true, false, ◌&&◌, not, and-false}
+use mathlib.Core.Bool.{true, ◌&&◌, not, and-false}
 use mathlib.Core.List.{List, [], ◌∷◌, ◌++◌, append-nil, append_assoc}
-use Prim.Native.Nat.{ℕ, ◌%◌, ◌<◌}
+use Prim.Native.Nat.{ℕ, ◌<◌}
 use native.Mathlib.Omega.{arith}
 use native.Mathlib.Nat.{mod-eq_of_lt}
 use lib.Dec.{eqb}
 use borrow.Author.Tests.{ne_eqb}
 use Rattle.rulebook.specs.Table.{item_kind, item_call, item_rule, stranger}
-use Rattle.rulebook.specs.Lists.{Run, trace_word, trace_list_start, unread, act, judge, trace_kind, trace_owner}
+use Rattle.rulebook.specs.Lists.{Run, trace_word, trace_list_start, unread, act, judge, trace_owner}
 use Rattle.laws.proofs.Tests.{split}
 use Rattle.laws.proofs.Fields.{digit-small, trace-kind}
 use Rattle.laws.proofs.Runs.{KeptByActs}

@@ -1,8 +1,8 @@
 -- What makes a run of the rulebook's steps: a log of what was taken, an event that is refused, and one part behind another. Assumes nothing.
 use mathlib.Core.Path.{◌≡◌, refl, sym, ◌∙◌, ap, subst}
-use mathlib.Core.Bool.{true, false}
+use mathlib.Core.Bool.{true}
 use mathlib.Core.List.{List, [], ◌∷◌, ◌++◌}
-use Prim.Native.Nat.{ℕ, ◌≤◌}
+use Prim.Native.Nat.{ℕ}
 use native.Mathlib.Omega.{arith}
 use Rattle.rulebook.specs.Words.{all}
 use Rattle.rulebook.specs.Reasons.{accepted, bound}

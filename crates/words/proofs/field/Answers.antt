@@ -1,5 +1,4 @@
 -- `words::field` meets its contract: a remainder is below its divisor. Assumes nothing.
-use borrow.Author.Rules.{rules}
 use native.Mathlib.Nat.{mod-lt}
 use mathlib.Core.Path.{refl}
 use Rattle.rulebook.specs.Words.{digit}

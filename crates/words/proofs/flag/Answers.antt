@@ -1,6 +1,5 @@
 -- `words::flag` meets its contract: the word read is the flag's. Assumes nothing.
 use Rattle.words.specs.Flags.{flagged}
-use borrow.Author.Rules.{rules}
 use Rattle.words.proofs.flag.Goals as goal
 
 pub returns : goal.returns

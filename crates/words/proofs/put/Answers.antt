@@ -1,7 +1,6 @@
 -- `words::put` meets its contract: past the end `set` changes nothing. Assumes nothing.
 use mathlib.Core.Path.{sym}
 use lib.Seq.{set_out}
-use borrow.Author.Rules.{rules}
 use Rattle.words.proofs.put.Goals as goal
 
 pub returns-else-i-ws : goal.returns-else-i-ws

@@ -1,7 +1,6 @@
 -- `words::word` meets its contract: past the end a list reads as its default. Assumes nothing.
 use mathlib.Core.Path.{sym}
 use lib.ListN.{get_or-eq_default}
-use borrow.Author.Rules.{rules}
 use Rattle.words.proofs.word.Goals as goal
 
 pub returns-else-i-ws : goal.returns-else-i-ws

@@ -1,6 +1,5 @@
 -- `words::parts::part_at` meets its contract: each exit by the law of its section. Assumes nothing.
 use Rattle.words.proofs.Places.{header-part, port-part, network-part, waits-part, source-part, expression-part, rule-part, list-part, item-part}
-use borrow.Author.Rules.{rules}
 use Rattle.words.proofs.parts.part_at.Goals as goal
 
 pub returns-then-item0-i : goal.returns-then-item0-i

@@ -1,7 +1,6 @@
 -- `words::sections::expression_word` meets its contract: the place handed in is the table's. Assumes nothing.
 use native.Mathlib.Omega.{arith}
 use Rattle.words.proofs.Places.{expressions-near}
-use borrow.Author.Rules.{rules}
 use Rattle.words.proofs.sections.expression_word.Goals as goal
 
 pub overflow_add-from : goal.overflow_add-from

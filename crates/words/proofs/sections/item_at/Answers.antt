@@ -1,5 +1,4 @@
 -- `words::sections::item_at` meets its contract: each field is that of the word at the item's place, by the table's edition. Assumes nothing.
-use borrow.Author.Rules.{rules}
 use Rattle.rulebook.specs.Table.{abort, a_size}
 use Rattle.words.proofs.sections.item_at.Goals as goal
 

@@ -1,5 +1,4 @@
 -- `words::sections::list_at` meets its contract: each field is that of the word at the list's place. Assumes nothing.
-use borrow.Author.Rules.{rules}
 use Rattle.words.proofs.sections.list_at.Goals as goal
 
 pub returns : goal.returns

@@ -1,5 +1,4 @@
 -- `words::sections::network_word` meets its contract: the layout's place is the table's. Assumes nothing.
-use borrow.Author.Rules.{rules}
 use Rattle.words.proofs.sections.network_word.Goals as goal
 
 pub returns : goal.returns

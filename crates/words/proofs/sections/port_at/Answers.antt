@@ -1,5 +1,4 @@
 -- `words::sections::port_at` meets its contract: each field is that of the word at the port's place. Assumes nothing.
-use borrow.Author.Rules.{rules}
 use Rattle.words.proofs.sections.port_at.Goals as goal
 
 pub returns : goal.returns

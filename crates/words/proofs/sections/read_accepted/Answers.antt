@@ -1,7 +1,6 @@
 -- `words::sections::read_accepted` meets its contract: the layout that was read, of a table that is accepted. Assumes nothing.
 use mathlib.Core.Path.{refl}
 use Rattle.words.specs.Sections.{Laid}
-use borrow.Author.Rules.{rules}
 use Rattle.words.proofs.sections.read_accepted.Goals as goal
 
 pub returns : goal.returns

@@ -8,7 +8,6 @@ use native.Mathlib.Omega.{arith}
 use Rattle.rulebook.specs.Table
 use Rattle.words.specs.Field.{Field}
 use Rattle.words.specs.Sections.{Laid}
-use borrow.Author.Rules.{rules}
 use Rattle.words.proofs.sections.read_layout.Goals as goal
 
 laid : (t : List ℕ) {p n k e r l a d : ℕ} → Field (Table.ports t) 256 p → Field (Table.networks t) 256 n → Field (Table.sources t) 256 k

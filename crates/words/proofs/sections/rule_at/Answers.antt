@@ -1,5 +1,4 @@
 -- `words::sections::rule_at` meets its contract: each field is that of the word at the rule's place. Assumes nothing.
-use borrow.Author.Rules.{rules}
 use Rattle.words.proofs.sections.rule_at.Goals as goal
 
 pub returns : goal.returns

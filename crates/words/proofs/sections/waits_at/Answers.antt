@@ -1,5 +1,4 @@
 -- `words::sections::waits_at` meets its contract: each field is that of the word at the network's place. Assumes nothing.
-use borrow.Author.Rules.{rules}
 use Rattle.words.proofs.sections.waits_at.Goals as goal
 
 pub returns : goal.returns

@@ -1,5 +1,4 @@
 -- `words::sections::waits_word` meets its contract: the layout's place is the table's. Assumes nothing.
-use borrow.Author.Rules.{rules}
 use Rattle.words.proofs.sections.waits_word.Goals as goal
 
 pub returns : goal.returns

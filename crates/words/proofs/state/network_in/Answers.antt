@@ -1,5 +1,4 @@
 -- `words::state::network_in` meets its contract: the word read is the network's. Assumes nothing.
-use borrow.Author.Rules.{rules}
 use Rattle.words.proofs.state.network_in.Goals as goal
 
 pub returns : goal.returns

@@ -1,5 +1,4 @@
 -- `words::state::network_of` meets its contract: the five fields read are the rulebook's. Assumes nothing.
-use borrow.Author.Rules.{rules}
 use Rattle.words.proofs.state.network_of.Goals as goal
 
 pub returns : goal.returns

@@ -1,7 +1,6 @@
 -- `words::state::pack_source` meets its contract: the fields, each cut to its width, do not overlap. Assumes nothing.
 use native.Mathlib.Omega.{arith}
 use Rattle.rulebook.specs.State.{pack_source}
-use borrow.Author.Rules.{rules}
 use Rattle.words.proofs.state.pack_source.Goals as goal
 
 pub returns : goal.returns

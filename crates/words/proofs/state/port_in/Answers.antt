@@ -1,5 +1,4 @@
 -- `words::state::port_in` meets its contract: the word read is the port's. Assumes nothing.
-use borrow.Author.Rules.{rules}
 use Rattle.words.proofs.state.port_in.Goals as goal
 
 pub returns : goal.returns

@@ -1,5 +1,4 @@
 -- `words::state::put_port` meets its contract: the word put is the port packed. Assumes nothing.
-use borrow.Author.Rules.{rules}
 use Rattle.words.proofs.state.put_port.Goals as goal
 
 pub returns : goal.returns

@@ -1,5 +1,4 @@
 -- `words::state::result_in` meets its contract: the word read is the rule's. Assumes nothing.
-use borrow.Author.Rules.{rules}
 use Rattle.words.proofs.state.result_in.Goals as goal
 
 pub returns : goal.returns

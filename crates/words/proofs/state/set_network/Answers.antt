@@ -1,6 +1,5 @@
 -- `words::state::set_network` meets its contract: the word packed is the one that the rulebook sets. Assumes nothing.
 use Rattle.rulebook.specs.Lists.{set_network}
-use borrow.Author.Rules.{rules}
 use Rattle.words.proofs.state.set_network.Goals as goal
 
 pub returns : goal.returns

@@ -1,6 +1,5 @@
 -- `words::state::set_source` meets its contract: the word packed is the one that the rulebook sets. Assumes nothing.
 use Rattle.rulebook.specs.Events.{set_source}
-use borrow.Author.Rules.{rules}
 use Rattle.words.proofs.state.set_source.Goals as goal
 
 pub returns : goal.returns

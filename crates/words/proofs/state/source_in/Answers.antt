@@ -1,5 +1,4 @@
 -- `words::state::source_in` meets its contract: the word read is the source's. Assumes nothing.
-use borrow.Author.Rules.{rules}
 use Rattle.words.proofs.state.source_in.Goals as goal
 
 pub returns : goal.returns

@@ -1,6 +1,5 @@
 -- `words::state::thing_at` meets its contract: each exit by the law of its thing. Assumes nothing.
 use Rattle.words.proofs.Things.{port-thing, rule-thing, network-thing, source-thing}
-use borrow.Author.Rules.{rules}
 use Rattle.words.proofs.state.thing_at.Goals as goal
 
 pub returns-then-i-rule0 : goal.returns-then-i-rule0

@@ -1,6 +1,5 @@
 -- `words::table::item_a` meets its contract: eleven bits of edition 2, twelve of any other. Assumes nothing.
 use native.Mathlib.Omega.{arith}
-use borrow.Author.Rules.{rules}
 use Rattle.words.proofs.table.item_a.Goals as goal
 
 pub returns-then-second : goal.returns-then-second

@@ -1,6 +1,5 @@
 -- `words::table::item_abort` meets its contract: one bit of edition 2, nothing of any other. Assumes nothing.
 use native.Mathlib.Omega.{arith}
-use borrow.Author.Rules.{rules}
 use Rattle.words.proofs.table.item_abort.Goals as goal
 
 pub returns-then-second : goal.returns-then-second
