@@ -3,7 +3,7 @@
 #![tactic(auto)]
 
 ghost use Rattle.std.specs.Prelude.{◌≡◌, ◌≤◌, length};
-ghost use Rattle.io.specs.Counts.{IsPrefixLen};
+ghost use Rattle.files.specs.Counts.{IsPrefixLen};
 ghost use Rattle.telling.specs.Promises.{Room, Tells};
 ghost use Rattle.text.specs.Window.{Within};
 ghost use Rattle.audit.specs.Kept.{Widened, Lent, Going, most_words, told_bytes};
@@ -11,9 +11,10 @@ ghost use Rattle.audit.specs.Held.{on_from, Followed, HeldOne};
 
 mod space;
 
+use files::faults::say_bytes;
 use files::{print, read_block};
-use libc::STDERR_FILENO;
 use recording::Found;
+use std::fs::File;
 use text::input::{read_word, word_count};
 use text::window::slide;
 use words::sections::{Layout, read_accepted};
@@ -32,7 +33,15 @@ struct Place {
 }
 
 // Reads on where the window may not have a whole recording any more.
-fn widen(fd: i32, path: &[u8], window: &mut [u8], ended: bool, at: usize, end: usize) -> Place
+fn widen(
+    rt: HostRuntime,
+    source: &File,
+    path: &[u8],
+    window: &mut [u8],
+    ended: bool,
+    at: usize,
+    end: usize,
+) -> Place
     requires { Within at end window.old }
     ensures { Widened at end window.old result window.new }
 {
@@ -45,7 +54,7 @@ fn widen(fd: i32, path: &[u8], window: &mut [u8], ended: bool, at: usize, end: u
         };
     }
     let kept = slide(window, at, end);
-    let filled = files::read_on(fd, path, window, kept);
+    let filled = files::read_on(rt, source, path, window, kept);
     let bytes = filled.bytes;
     Place {
         failed: filled.failed,
@@ -56,25 +65,25 @@ fn widen(fd: i32, path: &[u8], window: &mut [u8], ended: bool, at: usize, end: u
 }
 
 // Says something on standard error, and a number behind it that a byte ends.
-fn say(what: &[u8], n: u64, end: u8) {
+fn say(rt: HostRuntime, what: &[u8], n: u64, end: u8) {
     let mut out = space::number();
     let bytes = text::output::put_decimal(&mut out, 0, n, end);
-    io::write_all(STDERR_FILENO, what);
-    io::write_all(STDERR_FILENO, &out[..bytes]);
+    say_bytes(rt, what);
+    say_bytes(rt, &out[..bytes]);
 }
 
 // Tells of the log on standard error: `herringcart: line L of the log: ` and what.
-fn complain(line: u64, what: &[u8]) {
-    say(b"herringcart: line ", line, b' ');
-    io::write_all(STDERR_FILENO, b"of the log: ");
-    io::write_all(STDERR_FILENO, what);
+fn complain(rt: HostRuntime, line: u64, what: &[u8]) {
+    say(rt, b"herringcart: line ", line, b' ');
+    say_bytes(rt, b"of the log: ");
+    say_bytes(rt, what);
 }
 
 // The same, with the event's number behind.
-fn complain_of(line: u64, what: &[u8], event: u64) {
-    say(b"herringcart: line ", line, b' ');
-    io::write_all(STDERR_FILENO, b"of the log: ");
-    say(what, event, b'\n');
+fn complain_of(rt: HostRuntime, line: u64, what: &[u8], event: u64) {
+    say(rt, b"herringcart: line ", line, b' ');
+    say_bytes(rt, b"of the log: ");
+    say(rt, what, event, b'\n');
 }
 
 // What came of an event: whether to go on, whether the supplier's recording parted from ours, and where the log is read next.
@@ -92,26 +101,26 @@ fn line_behind(line: u64, count: usize) -> u64 {
 }
 
 // Tells of a place where no recording can be read.
-fn refuse(found: Found, line: u64, count: usize, event: u64) {
+fn refuse(rt: HostRuntime, found: Found, line: u64, count: usize, event: u64) {
     let behind = line_behind(line, count);
     match found {
         Found::Whole => {}
-        Found::Last => complain_of(behind, b"it ends in event ", event),
-        Found::Missing => complain_of(line, b"it ends before event ", event),
-        Found::NoAnswer => complain(line, b"no answer, and no word\n"),
-        Found::Misspelt => complain(behind, b"no answer, and no word\n"),
-        Found::TooMany => complain(behind, b"more than 8192 words behind an answer\n"),
+        Found::Last => complain_of(rt, behind, b"it ends in event ", event),
+        Found::Missing => complain_of(rt, line, b"it ends before event ", event),
+        Found::NoAnswer => complain(rt, line, b"no answer, and no word\n"),
+        Found::Misspelt => complain(rt, behind, b"no answer, and no word\n"),
+        Found::TooMany => complain(rt, behind, b"more than 8192 words behind an answer\n"),
     }
 }
 
 // Goes on from the supplier's state, or says that it does not fit; false where that cannot be written.
-fn go_on(t: &[u32], s: &mut [u32], words: &[u32]) -> bool
+fn go_on(rt: HostRuntime, t: &[u32], s: &mut [u32], words: &[u32]) -> bool
     ensures { s.new ≡ on_from t.now s.old words.now }
 {
     if telling::adopt(t, s, words) {
         return true;
     }
-    print(b"the supplier's state does not fit: on from ours\n")
+    print(rt, b"the supplier's state does not fit: on from ours\n")
 }
 
 // Whether a recording can be held against ours: it is whole, or the log's last and has a whole state.
@@ -152,7 +161,7 @@ struct Told {
 }
 
 // Prints what is told of an event, and goes on where nothing is, or where all are held.
-fn follow(t: &[u32], s: &mut [u32], words: &[u32], lines: &[u8], all: bool) -> Told
+fn follow(rt: HostRuntime, t: &[u32], s: &mut [u32], words: &[u32], lines: &[u8], all: bool) -> Told
     ensures { Followed t.now s.old words.now lines.now all result s.new }
 {
     if lines.len() == 0 {
@@ -161,7 +170,7 @@ fn follow(t: &[u32], s: &mut [u32], words: &[u32], lines: &[u8], all: bool) -> T
             parted: false,
         };
     }
-    if !print(lines) {
+    if !print(rt, lines) {
         return Told {
             going: false,
             parted: false,
@@ -173,7 +182,7 @@ fn follow(t: &[u32], s: &mut [u32], words: &[u32], lines: &[u8], all: bool) -> T
             parted: true,
         };
     }
-    let going = go_on(t, s, words);
+    let going = go_on(rt, t, s, words);
     Told {
         going,
         parted: true,
@@ -182,6 +191,7 @@ fn follow(t: &[u32], s: &mut [u32], words: &[u32], lines: &[u8], all: bool) -> T
 
 // Takes the n-th event e, holds the supplier's answer and words against our step, and prints what is told of it.
 fn hold_recording(
+    rt: HostRuntime,
     t: &[u32],
     h: Layout,
     s: &mut [u32],
@@ -200,11 +210,12 @@ fn hold_recording(
     let step = telling::take_one(t, h, e, s, trace);
     let count = step.count;
     let bytes = tell_step(out, n, e, step.answer, &trace[..count], s, said, words);
-    follow(t, s, words, &out[..bytes], all)
+    follow(rt, t, s, words, &out[..bytes], all)
 }
 
 // Reads the n-th event's recording from the log's bytes and holds it against our step.
 fn hold_event(
+    rt: HostRuntime,
     t: &[u32],
     h: Layout,
     s: &mut [u32],
@@ -225,7 +236,7 @@ fn hold_event(
     let count = read.count;
     let found = read.found;
     if !is_whole(found, count < s.len()) {
-        refuse(found, line, count, n);
+        refuse(rt, found, line, count, n);
         return Turn {
             going: false,
             parted: false,
@@ -233,7 +244,19 @@ fn hold_event(
             line,
         };
     }
-    let told = hold_recording(t, h, s, trace, e, n, read.answer, &words[..count], out, all);
+    let told = hold_recording(
+        rt,
+        t,
+        h,
+        s,
+        trace,
+        e,
+        n,
+        read.answer,
+        &words[..count],
+        out,
+        all,
+    );
     Turn {
         going: told.going,
         parted: told.parted,
@@ -264,13 +287,14 @@ fn one_more_if(n: u64, more: bool) -> u64 {
 
 // One event more.
 fn next_event(
+    rt: HostRuntime,
     t: &[u32],
     h: Layout,
     s: &mut [u32],
     trace: &mut [u32],
     e: u32,
     day: Day,
-    fd: i32,
+    source: &File,
     path: &[u8],
     window: &mut [u8],
     words: &mut [u32],
@@ -281,7 +305,7 @@ fn next_event(
         × (length words.old ≤ most_words) × (told_bytes ≤ length out.old) }
     ensures { Going t.now h s.new trace.new × Within result.at result.end window.new }
 {
-    let place = widen(fd, path, window, day.ended, day.at, day.end);
+    let place = widen(rt, source, path, window, day.ended, day.at, day.end);
     let at = place.at;
     let end = place.end;
     if place.failed {
@@ -296,6 +320,7 @@ fn next_event(
         };
     }
     let turn = hold_event(
+        rt,
         t,
         h,
         s,
@@ -322,13 +347,14 @@ fn next_event(
 
 // The events of a block, one after the other, until one ends the holding.
 fn hold_block(
+    rt: HostRuntime,
     t: &[u32],
     h: Layout,
     s: &mut [u32],
     trace: &mut [u32],
     block: &[u8],
     first: Day,
-    fd: i32,
+    source: &File,
     path: &[u8],
     window: &mut [u8],
     all: bool,
@@ -344,7 +370,7 @@ fn hold_block(
     while i < total && day.going {
         let e = read_word(block, i);
         day = next_event(
-            t, h, s, trace, e, day, fd, path, window, &mut words, &mut out, all,
+            rt, t, h, s, trace, e, day, source, path, window, &mut words, &mut out, all,
         );
         i += 1;
     }
@@ -361,16 +387,17 @@ struct Block {
 
 // Holds the events of the n bytes of a block and reads the next one.
 fn next_block(
+    rt: HostRuntime,
     t: &[u32],
     h: Layout,
     s: &mut [u32],
     trace: &mut [u32],
-    from: i32,
+    from: &File,
     name: &[u8],
     block: &mut [u8],
     n: usize,
     first: Day,
-    fd: i32,
+    source: &File,
     path: &[u8],
     window: &mut [u8],
     all: bool,
@@ -379,7 +406,19 @@ fn next_block(
     ensures prefix_len { IsPrefixLen result.bytes block.new }
     ensures going { Going t.now h s.new trace.new × Within result.day.at result.day.end window.new }
 {
-    let day = hold_block(t, h, s, trace, &block[..n], first, fd, path, window, all);
+    let day = hold_block(
+        rt,
+        t,
+        h,
+        s,
+        trace,
+        &block[..n],
+        first,
+        source,
+        path,
+        window,
+        all,
+    );
     if !day.going {
         return Block {
             going: false,
@@ -387,7 +426,7 @@ fn next_block(
             bytes: 0,
         };
     }
-    let filled = read_block(from, name, block);
+    let filled = read_block(rt, from, name, block);
     let bytes = filled.bytes;
     Block {
         going: !filled.failed,
@@ -406,16 +445,17 @@ struct Ended {
 // Holds the events of the first block and then those that the file still has. A proved loop has to end, and nothing says that a file does: the
 // turns count down from a number that no run uses up.
 fn hold_file(
+    rt: HostRuntime,
     t: &[u32],
     h: Layout,
     s: &mut [u32],
     trace: &mut [u32],
-    from: i32,
+    from: &File,
     name: &[u8],
     block: &mut [u8],
     bytes: usize,
     first: Day,
-    fd: i32,
+    source: &File,
     path: &[u8],
     window: &mut [u8],
     all: bool,
@@ -428,7 +468,7 @@ fn hold_file(
     let mut turns = u64::MAX;
     while turns > 0 && n > 0 {
         let turn = next_block(
-            t, h, s, trace, from, name, block, n, day, fd, path, window, all,
+            rt, t, h, s, trace, from, name, block, n, day, source, path, window, all,
         );
         day = turn.day;
         if !turn.going {
@@ -441,52 +481,53 @@ fn hold_file(
 }
 
 // Behind the last event: the log has no line more, and the last line says how many events there were.
-fn close_day(day: Day, fd: i32, path: &[u8], window: &mut [u8])
+fn close_day(rt: HostRuntime, day: Day, source: &File, path: &[u8], window: &mut [u8])
     requires { Within day.at day.end window.old }
 {
-    let place = widen(fd, path, window, day.ended, day.at, day.end);
+    let place = widen(rt, source, path, window, day.ended, day.at, day.end);
     if place.failed {
         return;
     }
     if place.at < place.end {
-        complain(day.line, b"it goes on behind the last event\n");
+        complain(rt, day.line, b"it goes on behind the last event\n");
         return;
     }
     let mut out = space::total();
     let n = telling::lay_total(&mut out, day.events, day.parted);
-    print(&out[..n]);
+    print(rt, &out[..n]);
 }
 
 // Marks on standard error that an event parted, which the program's status cannot say.
-fn mark(parted: u64) {
+fn mark(rt: HostRuntime, parted: u64) {
     if parted != 0 {
-        io::write_all(STDERR_FILENO, b"herringcart: parted\n");
+        say_bytes(rt, b"herringcart: parted\n");
     }
 }
 
 // The end of a holding, whole or not.
-fn finish(ended: Ended, fd: i32, path: &[u8], window: &mut [u8])
+fn finish(rt: HostRuntime, ended: Ended, source: &File, path: &[u8], window: &mut [u8])
     requires { Within ended.day.at ended.day.end window.old }
 {
     let day = ended.day;
     if !ended.whole {
-        mark(day.parted);
+        mark(rt, day.parted);
         return;
     }
-    close_day(day, fd, path, window);
-    mark(day.parted);
+    close_day(rt, day, source, path, window);
+    mark(rt, day.parted);
 }
 
 // Makes the fresh state in the lent words and holds the events from there.
 fn hold_fresh(
+    rt: HostRuntime,
     t: &[u32],
     s: &mut [u32],
     trace: &mut [u32],
-    from: i32,
+    from: &File,
     name: &[u8],
     block: &mut [u8],
     bytes: usize,
-    fd: i32,
+    source: &File,
     path: &[u8],
     window: &mut [u8],
     end: usize,
@@ -506,35 +547,37 @@ fn hold_fresh(
         line: 1,
     };
     let ended = hold_file(
-        t, h, s, trace, from, name, block, bytes, first, fd, path, window, all,
+        rt, t, h, s, trace, from, name, block, bytes, first, source, path, window, all,
     );
-    finish(ended, fd, path, window);
+    finish(rt, ended, source, path, window);
 }
 
 // Whether there is a fourth word: then it goes on behind an event that parted.
-fn goes_on() -> bool {
-    let mut word = io::buffer();
-    os::arg(4, &mut word) != 0
+fn goes_on(rt: HostRuntime) -> bool {
+    let mut word = files::space::path_bytes();
+    files::read_argument(rt, 4, &mut word).bytes != 0
 }
 
 // Says why nothing is printed; the front tells by the first words that it was a refusal.
-fn refuse_table(reason: u32, place: u32) {
+fn refuse_table(rt: HostRuntime, reason: u32, place: u32) {
     say(
+        rt,
         b"herringcart: refused: the table has reason ",
         reason as u64,
         b' ',
     );
-    say(b"at word ", place as u64, b'\n');
+    say(rt, b"at word ", place as u64, b'\n');
 }
 
 // The table's reason, or its events held against the log from the fresh state on.
 fn hold_table(
+    rt: HostRuntime,
     t: &[u32],
-    from: i32,
+    from: &File,
     name: &[u8],
     block: &mut [u8],
     bytes: usize,
-    fd: i32,
+    source: &File,
     path: &[u8],
     window: &mut [u8],
     end: usize,
@@ -543,10 +586,10 @@ fn hold_table(
 {
     let opening = session::open(t);
     if opening.reason != 0 {
-        refuse_table(opening.reason, opening.place);
+        refuse_table(rt, opening.reason, opening.place);
         return;
     }
-    let all = goes_on();
+    let all = goes_on(rt);
     let long = opening.state;
     let room = opening.trace;
     let mut states = files::space::state_words();
@@ -554,57 +597,61 @@ fn hold_table(
     let s: &mut [u32] = &mut states[..long];
     let trace: &mut [u32] = &mut traces[..room];
     hold_fresh(
-        t, s, trace, from, name, block, bytes, fd, path, window, end, all,
+        rt, t, s, trace, from, name, block, bytes, source, path, window, end, all,
     );
 }
 
 // The log is opened and its first bytes read before anything is printed.
-fn log(t: &[u32], from: i32, name: &[u8], block: &mut [u8], bytes: usize)
+fn log(rt: HostRuntime, t: &[u32], from: &File, name: &[u8], block: &mut [u8], bytes: usize)
     requires { IsPrefixLen bytes block.old }
 {
-    let mut path = io::buffer();
+    let mut path = files::space::path_bytes();
     let mut window = files::space::lines();
-    let file = files::open(3, b"LOG", b"hold TABLE EVENTS LOG", &mut path, &mut window);
-    let fd = file.fd;
+    let file = files::open(
+        rt,
+        3,
+        b"LOG",
+        b"hold TABLE EVENTS LOG",
+        &mut path,
+        &mut window,
+    );
     let named = file.named;
     let end = file.bytes;
-    if fd < 0 {
+    let Some(source) = file.source else {
         return;
-    }
+    };
     hold_table(
+        rt,
         t,
         from,
         name,
         block,
         bytes,
-        fd,
+        &source,
         &path[..named],
         &mut window,
         end,
     );
-    libc::close(fd);
 }
 
 // So are the events.
-fn events(t: &[u32], path: &mut [u8]) {
-    let mut block = io::large_buffer();
-    let file = files::open(2, b"EVENTS", b"hold TABLE EVENTS LOG", path, &mut block);
-    let fd = file.fd;
+fn events(rt: HostRuntime, t: &[u32], path: &mut [u8]) {
+    let mut block = files::space::block_bytes();
+    let file = files::open(rt, 2, b"EVENTS", b"hold TABLE EVENTS LOG", path, &mut block);
     let named = file.named;
     let n = file.bytes;
-    if fd < 0 {
+    let Some(source) = file.source else {
         return;
-    }
-    log(t, fd, &path[..named], &mut block, n);
-    libc::close(fd);
+    };
+    log(rt, t, &source, &path[..named], &mut block, n);
 }
 
-fn main() {
-    let mut path = io::buffer();
+fn main(rt: HostRuntime) {
+    let mut path = files::space::path_bytes();
     let mut words = files::space::table_words();
-    let table = files::read_table(b"hold TABLE EVENTS LOG", &mut path, &mut words);
+    let table = files::read_table(rt, b"hold TABLE EVENTS LOG", &mut path, &mut words);
     let count = table.words;
     if table.read {
-        events(&words[..count], &mut path);
+        events(rt, &words[..count], &mut path);
     }
 }

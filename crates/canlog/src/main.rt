@@ -11,6 +11,7 @@ mod complaint;
 mod space;
 
 use buslog::reading::{Cursor, Step, number, read_log, refused_line};
+use std::fs::File;
 use text::raw::lay_words;
 use text::window::slide;
 
@@ -18,11 +19,11 @@ use text::window::slide;
 const NO_ROOM: u32 = 11;
 
 // Writes events as a file has them; false where it cannot.
-fn print_events(events: &[u32], raw: &mut [u8]) -> bool
+fn print_events(rt: HostRuntime, events: &[u32], raw: &mut [u8]) -> bool
     requires { 4 * length events.now ≤ length raw.old }
 {
     let n = lay_words(raw, events);
-    files::print(&raw[..n])
+    files::print(rt, &raw[..n])
 }
 
 // What came of a part of the log: whether every line of it was read and every event written, and the cursor behind them.
@@ -33,14 +34,14 @@ struct Turn {
 }
 
 // The end of a part: a refusal is told.
-fn end_part(t: &[u32], step: Step) -> Turn
+fn end_part(rt: HostRuntime, t: &[u32], step: Step) -> Turn
     ensures { Ends step result }
 {
     let end = step.end;
     let answer = number(end);
     let cursor = step.cursor;
     if answer != 0 {
-        complaint::complain(t, end, refused_line(step));
+        complaint::complain(rt, t, end, refused_line(step));
     }
     Turn {
         going: answer == 0,
@@ -52,6 +53,7 @@ fn end_part(t: &[u32], step: Step) -> Turn
 // times can be further apart than that: no output has room for what one line can give. A proved loop has to end: the turns count down from a number that
 // no log uses up.
 fn read_part(
+    rt: HostRuntime,
     t: &[u32],
     names: &[u8],
     log: &[u8],
@@ -69,14 +71,14 @@ fn read_part(
         let step = read_log(t, names, &log[at..], cursor, out);
         let events = step.events;
         let end = step.end;
-        if !print_events(&out[..events], raw) {
+        if !print_events(rt, &out[..events], raw) {
             return Turn {
                 going: false,
                 cursor,
             };
         }
         if number(end) != NO_ROOM {
-            return end_part(t, step);
+            return end_part(rt, t, step);
         }
         at += step.bytes;
         let behind = step.cursor;
@@ -117,12 +119,19 @@ struct Place {
 }
 
 // Reads on behind the bytes from `at` up to `end`, which are not read yet and move to the front.
-fn read_more(fd: i32, path: &[u8], window: &mut [u8], at: usize, end: usize) -> Place
+fn read_more(
+    rt: HostRuntime,
+    source: &File,
+    path: &[u8],
+    window: &mut [u8],
+    at: usize,
+    end: usize,
+) -> Place
     requires { Within at end window.old }
     ensures { More at end window.old result window.new }
 {
     let kept = slide(window, at, end);
-    let filled = files::read_on(fd, path, window, kept);
+    let filled = files::read_on(rt, source, path, window, kept);
     let bytes = filled.bytes;
     Place {
         failed: filled.failed,
@@ -134,9 +143,10 @@ fn read_more(fd: i32, path: &[u8], window: &mut [u8], at: usize, end: usize) -> 
 // The log from its first line on: the whole lines in the window, whose first bytes are read, then those that the file still has. The turns count down
 // here too.
 fn read_file(
+    rt: HostRuntime,
     t: &[u32],
     names: &[u8],
-    fd: i32,
+    source: &File,
     path: &[u8],
     window: &mut [u8],
     first: usize,
@@ -156,11 +166,11 @@ fn read_file(
     let mut turns = u64::MAX;
     while turns > 0 {
         let whole = whole_lines(&window[..end], ended);
-        let turn = read_part(t, names, &window[..whole], cursor, out, raw);
+        let turn = read_part(rt, t, names, &window[..whole], cursor, out, raw);
         if !turn.going || ended {
             return;
         }
-        let place = read_more(fd, path, window, whole, end);
+        let place = read_more(rt, source, path, window, whole, end);
         if place.failed {
             return;
         }
@@ -173,55 +183,60 @@ fn read_file(
 }
 
 // The log is opened and its first bytes read before anything is judged.
-fn log(t: &[u32], names: &[u8], path: &mut [u8]) {
-    let mut window = io::large_buffer();
-    let file = files::open(3, b"LOG", b"canlog TABLE INTERFACES LOG", path, &mut window);
-    let fd = file.fd;
+fn log(rt: HostRuntime, t: &[u32], names: &[u8], path: &mut [u8]) {
+    let mut window = files::space::block_bytes();
+    let file = files::open(
+        rt,
+        3,
+        b"LOG",
+        b"canlog TABLE INTERFACES LOG",
+        path,
+        &mut window,
+    );
     let named = file.named;
     let n = file.bytes;
-    if fd < 0 {
+    let Some(source) = file.source else {
         return;
-    }
+    };
     let mut out = space::event_words();
     let mut raw = files::space::lines();
     read_file(
+        rt,
         t,
         names,
-        fd,
+        &source,
         &path[..named],
         &mut window,
         n,
         &mut out,
         &mut raw,
     );
-    libc::close(fd);
 }
 
 // So is the list of the interfaces. Eight names have 128 bytes at most, so a list that is longer than its window is wrong, whatever stands behind it.
-fn interfaces(t: &[u32], path: &mut [u8]) {
-    let mut list = io::buffer();
+fn interfaces(rt: HostRuntime, t: &[u32], path: &mut [u8]) {
+    let mut list = files::space::path_bytes();
     let file = files::open(
+        rt,
         2,
         b"INTERFACES",
         b"canlog TABLE INTERFACES LOG",
         path,
         &mut list,
     );
-    let fd = file.fd;
     let n = file.bytes;
-    if fd < 0 {
+    if file.source.is_none() {
         return;
     }
-    libc::close(fd);
-    log(t, &list[..n], path);
+    log(rt, t, &list[..n], path);
 }
 
-fn main() {
-    let mut path = io::buffer();
+fn main(rt: HostRuntime) {
+    let mut path = files::space::path_bytes();
     let mut words = files::space::table_words();
-    let table = files::read_table(b"canlog TABLE INTERFACES LOG", &mut path, &mut words);
+    let table = files::read_table(rt, b"canlog TABLE INTERFACES LOG", &mut path, &mut words);
     let count = table.words;
     if table.read {
-        interfaces(&words[..count], &mut path);
+        interfaces(rt, &words[..count], &mut path);
     }
 }

@@ -1,6 +1,6 @@
 -- What an opened file has left in the bytes that were lent to open it, and what reading on leaves.
 use Rattle.std.specs.Prelude.{◌≡◌, List, ℕ, ◌≤◌, length, take}
-use Rattle.io.specs.Counts.{IsPrefixLen}
+use Rattle.files.specs.Counts.{IsPrefixLen}
 use Rattle.files.specs.declared.File.{File}
 
 -- its name stands at the front of the path, and its first bytes at the front of the block

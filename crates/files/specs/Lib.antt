@@ -1,2 +1,3 @@
 -- What the functions that open files promise.
+pub mod Counts
 pub mod Holds

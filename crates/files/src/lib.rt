@@ -3,26 +3,57 @@
 #![tactic(auto)]
 
 ghost use Rattle.std.specs.Prelude.{◌≡◌, ◌+◌, ◌≤◌, length, take};
-ghost use Rattle.io.specs.Counts.{IsPrefixLen};
+ghost use Rattle.files.specs.Counts.{IsPrefixLen};
 ghost use Rattle.files.specs.Holds.{Holds, Fills};
 
+pub mod faults;
 pub mod space;
 
-use libc::{STDERR_FILENO, STDOUT_FILENO};
+use faults::{fail, say_bytes, too_long};
+use std::env::{Env, FillError};
+use std::fs;
+use std::io::{Print, Read};
 use text::input::read_words;
 use text::number::least;
 
+// An argument in the lent bytes: how many they are, 0 where it is missing, and whether it has more than were lent, which counts as 0 too.
+#[derive(Clone, Copy)]
+pub struct Argument {
+    pub bytes: usize,
+    pub too_long: bool,
+}
+
+// Puts the i-th argument at the front of the lent bytes.
+pub fn read_argument(rt: HostRuntime, i: usize, word: &mut [u8]) -> Argument
+    ensures { IsPrefixLen result.bytes word.new }
+{
+    match rt.arg(i, word) {
+        Ok(bytes) => Argument {
+            bytes,
+            too_long: false,
+        },
+        Err(FillError::NotPresent) => Argument {
+            bytes: 0,
+            too_long: false,
+        },
+        Err(FillError::TooLong) => Argument {
+            bytes: 0,
+            too_long: true,
+        },
+    }
+}
+
 // Tells of an argument that is not there, or empty, or longer than a path can be.
-pub fn missing(name: &[u8], usage: &[u8]) {
-    if os::errno() == libc::ENAMETOOLONG {
-        os::fail(name);
+pub fn missing(rt: HostRuntime, argument: Argument, name: &[u8], usage: &[u8]) {
+    if argument.too_long {
+        fail(rt, name, too_long());
         return;
     }
-    io::write_all(STDERR_FILENO, b"herringcart: ");
-    io::write_all(STDERR_FILENO, name);
-    io::write_all(STDERR_FILENO, b" is missing: ");
-    io::write_all(STDERR_FILENO, usage);
-    io::write_all(STDERR_FILENO, b"\n");
+    say_bytes(rt, b"herringcart: ");
+    say_bytes(rt, name);
+    say_bytes(rt, b" is missing: ");
+    say_bytes(rt, usage);
+    say_bytes(rt, b"\n");
 }
 
 // How many bytes were read into a block, and whether a read failed, which is told apart from the end of the file.
@@ -32,28 +63,42 @@ pub struct Filled {
     pub bytes: usize,
 }
 
-// Reads once, into the block from a place on.
-fn read_some(fd: i32, block: &mut [u8], from: usize) -> Filled
+// Reads once, into the block from a place on. A read that fails is told.
+fn read_some(
+    rt: HostRuntime,
+    source: &fs::File,
+    name: &[u8],
+    block: &mut [u8],
+    from: usize,
+) -> Filled
     requires { from ≤ length block.old }
     ensures { (from + result.bytes ≤ length block.old) × (take from block.new ≡ take from block.old) }
 {
     let part = &mut block[from..];
-    let got = libc::read(fd, part);
-    let bytes = io::count(got, part);
-    Filled {
-        failed: got < 0,
-        bytes,
+    let mut reader = source;
+    match reader.read(part) {
+        Ok(bytes) => Filled {
+            failed: false,
+            bytes,
+        },
+        Err(error) => {
+            fail(rt, name, error);
+            Filled {
+                failed: true,
+                bytes: 0,
+            }
+        }
     }
 }
 
 // Reads into the block from a place on until it is full or the file ends, so that only a file's last block can end inside a word, from a pipe
 // too. It counts the bytes before the place with those read.
-fn fill(fd: i32, block: &mut [u8], from: usize) -> Filled
+fn fill(rt: HostRuntime, source: &fs::File, name: &[u8], block: &mut [u8], from: usize) -> Filled
     ensures { Fills from result.bytes block.old block.new }
 {
     let mut bytes = least(from, block.len());
     while bytes < block.len() {
-        let got = read_some(fd, block, bytes);
+        let got = read_some(rt, source, name, block, bytes);
         let n = got.bytes;
         if n == 0 {
             return Filled {
@@ -69,59 +114,81 @@ fn fill(fd: i32, block: &mut [u8], from: usize) -> Filled
     }
 }
 
-// A file, how many bytes of the lent path name it, and how many of its own stand in the lent block; a descriptor below 0 where it
-// cannot be opened or read.
-#[derive(Clone, Copy)]
+// A file, how many bytes of the lent path name it, and how many of its own stand in the lent block; no source where it cannot be opened
+// or read.
+#[derive(Drop)]
 pub struct File {
-    pub fd: i32,
+    pub source: Option<fs::File>,
     pub named: usize,
     pub bytes: usize,
 }
 
+// Opens the file with that name for reading. What fails is told.
+fn open_path(rt: HostRuntime, path: &[u8]) -> Option<fs::File> {
+    let Ok(name) = str::from_utf8(path) else {
+        fail(rt, path, faults::not_text());
+        return None;
+    };
+    match fs::File::open(&rt, name) {
+        Ok(source) => Some(source),
+        Err(error) => {
+            fail(rt, path, error);
+            None
+        }
+    }
+}
+
 // Opens the file that the i-th argument names and reads its first block. Where the argument is missing, its `name` and the program's
 // `usage` are told.
-pub fn open(i: usize, name: &[u8], usage: &[u8], path: &mut [u8], block: &mut [u8]) -> File
+pub fn open(
+    rt: HostRuntime,
+    i: usize,
+    name: &[u8],
+    usage: &[u8],
+    path: &mut [u8],
+    block: &mut [u8],
+) -> File
     ensures { Holds result path.new block.new }
 {
-    let named = os::arg(i, path);
+    let argument = read_argument(rt, i, path);
+    let named = argument.bytes;
     if named == 0 {
-        missing(name, usage);
+        missing(rt, argument, name, usage);
         return File {
-            fd: -1,
+            source: None,
             named,
             bytes: 0,
         };
     }
-    let fd = os::open_read(&path[..named]);
-    if fd < 0 {
-        os::fail(&path[..named]);
+    let Some(source) = open_path(rt, &path[..named]) else {
         return File {
-            fd,
+            source: None,
             named,
             bytes: 0,
         };
-    }
-    let filled = fill(fd, block, 0);
+    };
+    let filled = fill(rt, &source, &path[..named], block, 0);
     let bytes = filled.bytes;
     if filled.failed {
-        os::fail(&path[..named]);
-        libc::close(fd);
         return File {
-            fd: -1,
+            source: None,
             named,
             bytes,
         };
     }
-    File { fd, named, bytes }
+    File {
+        source: Some(source),
+        named,
+        bytes,
+    }
 }
 
 // Reads the next block of the file with that name: no bytes at its end, and none where a read fails.
-pub fn read_block(fd: i32, name: &[u8], block: &mut [u8]) -> Filled
+pub fn read_block(rt: HostRuntime, source: &fs::File, name: &[u8], block: &mut [u8]) -> Filled
     ensures { IsPrefixLen result.bytes block.new }
 {
-    let filled = fill(fd, block, 0);
+    let filled = fill(rt, source, name, block, 0);
     if filled.failed {
-        os::fail(name);
         return Filled {
             failed: true,
             bytes: 0,
@@ -132,23 +199,27 @@ pub fn read_block(fd: i32, name: &[u8], block: &mut [u8]) -> Filled
 
 // Reads the file with that name on behind the first `from` bytes of the block, which stay, and counts both; the count stays what it is where
 // the file ends or a read fails, which is told.
-pub fn read_on(fd: i32, name: &[u8], block: &mut [u8], from: usize) -> Filled
+pub fn read_on(
+    rt: HostRuntime,
+    source: &fs::File,
+    name: &[u8],
+    block: &mut [u8],
+    from: usize,
+) -> Filled
     ensures { Fills from result.bytes block.old block.new }
 {
-    let filled = fill(fd, block, from);
-    if filled.failed {
-        os::fail(name);
-    }
-    filled
+    fill(rt, source, name, block, from)
 }
 
 // Writes to standard output; false where it cannot.
-pub fn print(out: &[u8]) -> bool {
-    let written = io::write_all(STDOUT_FILENO, out);
-    if !written {
-        os::fail(b"standard output");
+pub fn print(rt: HostRuntime, out: &[u8]) -> bool {
+    match Print::write_all(&rt.stdout(), out) {
+        Ok(()) => true,
+        Err(error) => {
+            fail(rt, b"standard output", error);
+            false
+        }
     }
-    written
 }
 
 // Whether a table's file could be read, and how many words of it were.
@@ -159,20 +230,18 @@ pub struct Table {
 }
 
 // Reads the table that the first argument names into the lent words.
-pub fn read_table(usage: &[u8], path: &mut [u8], words: &mut [u32]) -> Table
+pub fn read_table(rt: HostRuntime, usage: &[u8], path: &mut [u8], words: &mut [u32]) -> Table
     ensures { IsPrefixLen result.words words.new }
 {
     let mut bytes = space::table_bytes();
-    let file = open(1, b"TABLE", usage, path, &mut bytes);
-    let fd = file.fd;
+    let file = open(rt, 1, b"TABLE", usage, path, &mut bytes);
     let n = file.bytes;
-    if fd < 0 {
+    if file.source.is_none() {
         return Table {
             read: false,
             words: 0,
         };
     }
-    libc::close(fd);
     Table {
         read: true,
         words: read_words(&bytes[..n], words),
@@ -180,8 +249,8 @@ pub fn read_table(usage: &[u8], path: &mut [u8], words: &mut [u32]) -> Table
 }
 
 // Prints the reason and the place of a table that is refused.
-pub fn print_reason(reason: u32, place: u32) {
+pub fn print_reason(rt: HostRuntime, reason: u32, place: u32) {
     let mut out = space::reason_lines();
     let n = session::lay_reason(&mut out, reason, place);
-    print(&out[..n]);
+    print(rt, &out[..n]);
 }

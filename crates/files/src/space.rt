@@ -35,3 +35,17 @@ pub fn reason_lines() -> [u8; 22]
 {
     [0; 22]
 }
+
+// Room for any path of the system.
+pub fn path_bytes() -> [u8; 4096]
+    ensures { 4096 ≡ length result }
+{
+    [0; 4096]
+}
+
+// A block of a file that is read in blocks.
+pub fn block_bytes() -> [u8; 65536]
+    ensures { 65536 ≡ length result }
+{
+    [0; 65536]
+}

@@ -5,18 +5,18 @@
 mod space;
 
 // Prints what the check says of a table, or says on standard error that it cannot.
-fn print_verdict(t: &[u32]) {
+fn print_verdict(rt: HostRuntime, t: &[u32]) {
     let mut out = space::lines();
     let n = verdict::lay_verdict(t, &mut out);
-    files::print(&out[..n]);
+    files::print(rt, &out[..n]);
 }
 
-fn main() {
-    let mut path = io::buffer();
+fn main(rt: HostRuntime) {
+    let mut path = files::space::path_bytes();
     let mut words = files::space::table_words();
-    let table = files::read_table(b"check TABLE", &mut path, &mut words);
+    let table = files::read_table(rt, b"check TABLE", &mut path, &mut words);
     let count = table.words;
     if table.read {
-        print_verdict(&words[..count]);
+        print_verdict(rt, &words[..count]);
     }
 }

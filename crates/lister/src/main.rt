@@ -3,39 +3,36 @@
 
 mod space;
 
-use libc::STDERR_FILENO;
+use files::faults::say_bytes;
 use listing::writing;
 
 // Says why nothing is printed; the front tells by the first words that it was a refusal.
-fn refuse(reason: u32) {
+fn refuse(rt: HostRuntime, reason: u32) {
     let mut out = space::reason_bytes();
     let n = text::output::put_decimal_line(&mut out, 0, reason);
-    io::write_all(
-        STDERR_FILENO,
-        b"herringcart: refused: the table has reason ",
-    );
-    io::write_all(STDERR_FILENO, &out[..n]);
+    say_bytes(rt, b"herringcart: refused: the table has reason ");
+    say_bytes(rt, &out[..n]);
 }
 
 // Prints a table's listing, or says that reason 1 to 4 refuses it. Answer 11 would be told likewise; the room is enough for every table.
-fn print_listing(t: &[u32]) {
+fn print_listing(rt: HostRuntime, t: &[u32]) {
     let mut out = space::listing_bytes();
     let listed = writing::list(t, &mut out);
     let n = writing::bytes(listed);
     let answer = writing::number(listed);
     if answer != 0 {
-        refuse(answer);
+        refuse(rt, answer);
         return;
     }
-    files::print(&out[..n]);
+    files::print(rt, &out[..n]);
 }
 
-fn main() {
-    let mut path = io::buffer();
+fn main(rt: HostRuntime) {
+    let mut path = files::space::path_bytes();
     let mut words = files::space::table_words();
-    let table = files::read_table(b"list TABLE", &mut path, &mut words);
+    let table = files::read_table(rt, b"list TABLE", &mut path, &mut words);
     let count = table.words;
     if table.read {
-        print_listing(&words[..count]);
+        print_listing(rt, &words[..count]);
     }
 }

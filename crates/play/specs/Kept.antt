@@ -4,7 +4,7 @@ use Rattle.std.specs.Prelude.{◌≡◌, ℕ, ◌*◌, ◌≤◌, Bool, true, fa
 use Rattle.rulebook.specs.Reasons.{accepted, bound}
 use Rattle.rulebook.specs.State.{state_length}
 use Rattle.rulebook.specs.Step.{refused_state}
-use Rattle.io.specs.Counts.{IsPrefixLen}
+use Rattle.files.specs.Counts.{IsPrefixLen}
 use Rattle.day.specs.Printed.{in64, whole}
 
 -- the first n bytes of a block are a file's; a block has at most as many words as are lent for its events

@@ -2,7 +2,7 @@
 ghost use Rattle.std.specs.Prelude.{◌+◌, ◌≤◌, ◌≡◌, length};
 
 use crate::space;
-use libc::STDERR_FILENO;
+use files::faults::say_bytes;
 use listing::forms;
 use listing::reading::{Line, read_line};
 use text::number::{least, past};
@@ -220,8 +220,8 @@ fn put_complaint(out: &mut [u8], text: &[u8], line: usize) -> usize
 }
 
 // Tells of the first bad line of a text on standard error.
-pub fn complain(text: &[u8], line: usize) {
+pub fn complain(rt: HostRuntime, text: &[u8], line: usize) {
     let mut out = space::message();
     let n = put_complaint(&mut out, text, line);
-    io::write_all(STDERR_FILENO, &out[..n]);
+    say_bytes(rt, &out[..n]);
 }

@@ -8,44 +8,42 @@ ghost use Rattle.session.specs.Printed.{table_words};
 mod complaint;
 mod space;
 
-use libc::STDERR_FILENO;
+use files::faults::say_bytes;
 use listing::reading::Reading;
 
 // Writes a table's words.
-fn print_words(t: &[u32])
+fn print_words(rt: HostRuntime, t: &[u32])
     requires { length t.now ≤ table_words }
 {
     let mut out = files::space::table_bytes();
     let n = text::raw::lay_words(&mut out, t);
-    files::print(&out[..n]);
+    files::print(rt, &out[..n]);
 }
 
 // One word more is lent than a table can have, so nobody hears of this.
-fn complain_of_room() {
-    io::write_all(STDERR_FILENO, b"herringcart: no room for the words\n");
+fn complain_of_room(rt: HostRuntime) {
+    say_bytes(rt, b"herringcart: no room for the words\n");
 }
 
 // Reads a listing and writes its table's words, or tells of its first bad line.
-fn read_listing(text: &[u8]) {
+fn read_listing(rt: HostRuntime, text: &[u8]) {
     let mut words = files::space::table_words();
     let reading = listing::reading::read(text, &mut words);
     match reading {
-        Reading::Words(n) => print_words(&words[..n]),
-        Reading::Line(k) => complaint::complain(text, k),
-        Reading::NoRoom => complain_of_room(),
+        Reading::Words(n) => print_words(rt, &words[..n]),
+        Reading::Line(k) => complaint::complain(rt, text, k),
+        Reading::NoRoom => complain_of_room(rt),
     }
 }
 
 // As much of the file is read as the longest listing has, and some more; whatever stands behind that, the first bad line is the same.
-fn main() {
-    let mut path = io::buffer();
+fn main(rt: HostRuntime) {
+    let mut path = files::space::path_bytes();
     let mut window = space::window();
-    let file = files::open(1, b"LISTING", b"read LISTING", &mut path, &mut window);
-    let fd = file.fd;
+    let file = files::open(rt, 1, b"LISTING", b"read LISTING", &mut path, &mut window);
     let n = file.bytes;
-    if fd < 0 {
+    if file.source.is_none() {
         return;
     }
-    libc::close(fd);
-    read_listing(&window[..n]);
+    read_listing(rt, &window[..n]);
 }

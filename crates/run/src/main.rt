@@ -6,16 +6,24 @@ ghost use Rattle.rulebook.specs.State.{fresh};
 ghost use Rattle.text.specs.Words.{words_of};
 ghost use Rattle.session.specs.Printed.{most};
 ghost use Rattle.session.specs.Promises.{Ready};
-ghost use Rattle.io.specs.Counts.{IsPrefixLen};
+ghost use Rattle.files.specs.Counts.{IsPrefixLen};
 ghost use Rattle.run.specs.Kept.{Lent, TookBlock, Ran};
 
 mod space;
 
 use files::{print, read_block};
+use std::fs::File;
 use text::input::word_count;
 
 // Takes the events of a block and prints their lines; false where they cannot be written.
-fn run_block(t: &[u32], s: &mut [u32], trace: &mut [u32], block: &[u8], out: &mut [u8]) -> bool
+fn run_block(
+    rt: HostRuntime,
+    t: &[u32],
+    s: &mut [u32],
+    trace: &mut [u32],
+    block: &[u8],
+    out: &mut [u8],
+) -> bool
     requires { Ready t.now s.old trace.old × (most ≤ length out.old) }
     ensures { TookBlock t.now s.old (words_of block.now) result s.new }
 {
@@ -24,7 +32,7 @@ fn run_block(t: &[u32], s: &mut [u32], trace: &mut [u32], block: &[u8], out: &mu
     while from < total {
         let taken = session::take_events(t, s, trace, block, from, out);
         let bytes = taken.bytes;
-        if !print(&out[..bytes]) {
+        if !print(rt, &out[..bytes]) {
             return false;
         }
         from += taken.events;
@@ -41,10 +49,11 @@ struct Turn {
 
 // Runs the n bytes of a block and reads the next one.
 fn next_block(
+    rt: HostRuntime,
     t: &[u32],
     s: &mut [u32],
     trace: &mut [u32],
-    fd: i32,
+    source: &File,
     path: &[u8],
     block: &mut [u8],
     n: usize,
@@ -54,11 +63,11 @@ fn next_block(
     ensures prefix_len { IsPrefixLen result.bytes block.new }
     ensures took_block { TookBlock t.now s.old (words_of (take n block.old)) result.written s.new }
 {
-    let written = run_block(t, s, trace, &block[..n], out);
+    let written = run_block(rt, t, s, trace, &block[..n], out);
     if !written {
         return Turn { written, bytes: 0 };
     }
-    let filled = read_block(fd, path, block);
+    let filled = read_block(rt, source, path, block);
     let bytes = filled.bytes;
     Turn { written, bytes }
 }
@@ -66,10 +75,11 @@ fn next_block(
 // Runs the first block and then those that the file still has; false where one was left before its end. A proved loop has to end, and
 // nothing says that a file does: the turns count down from a number that no run uses up.
 fn run(
+    rt: HostRuntime,
     t: &[u32],
     s: &mut [u32],
     trace: &mut [u32],
-    fd: i32,
+    source: &File,
     path: &[u8],
     block: &mut [u8],
     first: usize,
@@ -81,7 +91,7 @@ fn run(
     let mut n = first;
     let mut turns = u64::MAX;
     while turns > 0 && n > 0 {
-        let turn = next_block(t, s, trace, fd, path, block, n, &mut out);
+        let turn = next_block(rt, t, s, trace, source, path, block, n, &mut out);
         if !turn.written {
             return false;
         }
@@ -93,10 +103,11 @@ fn run(
 
 // Makes the fresh state in the lent words and runs from it.
 fn run_fresh(
+    rt: HostRuntime,
     t: &[u32],
     s: &mut [u32],
     trace: &mut [u32],
-    fd: i32,
+    source: &File,
     path: &[u8],
     block: &mut [u8],
     first: usize,
@@ -105,16 +116,16 @@ fn run_fresh(
     ensures { Ran t.now (fresh t.now) (words_of (take first block.old)) result s.new }
 {
     manager::make_fresh(t, s);
-    run(t, s, trace, fd, path, block, first)
+    run(rt, t, s, trace, source, path, block, first)
 }
 
 // The session with a table: its reason, or its run from the fresh state.
-fn open_run(t: &[u32], fd: i32, path: &[u8], block: &mut [u8], n: usize)
+fn open_run(rt: HostRuntime, t: &[u32], source: &File, path: &[u8], block: &mut [u8], n: usize)
     requires { IsPrefixLen n block.old }
 {
     let opening = session::open(t);
     if opening.reason != 0 {
-        files::print_reason(opening.reason, opening.place);
+        files::print_reason(rt, opening.reason, opening.place);
         return;
     }
     let words = opening.state;
@@ -123,29 +134,27 @@ fn open_run(t: &[u32], fd: i32, path: &[u8], block: &mut [u8], n: usize)
     let mut traces = space::trace_words();
     let s: &mut [u32] = &mut states[..words];
     let trace: &mut [u32] = &mut traces[..room];
-    run_fresh(t, s, trace, fd, path, block, n);
+    run_fresh(rt, t, s, trace, source, path, block, n);
 }
 
 // The events file is opened and its first block read before anything is printed.
-fn events(t: &[u32], path: &mut [u8]) {
-    let mut block = io::large_buffer();
-    let file = files::open(2, b"EVENTS", b"run TABLE EVENTS", path, &mut block);
-    let fd = file.fd;
+fn events(rt: HostRuntime, t: &[u32], path: &mut [u8]) {
+    let mut block = files::space::block_bytes();
+    let file = files::open(rt, 2, b"EVENTS", b"run TABLE EVENTS", path, &mut block);
     let named = file.named;
     let n = file.bytes;
-    if fd < 0 {
+    let Some(source) = file.source else {
         return;
-    }
-    open_run(t, fd, &path[..named], &mut block, n);
-    libc::close(fd);
+    };
+    open_run(rt, t, &source, &path[..named], &mut block, n);
 }
 
-fn main() {
-    let mut path = io::buffer();
+fn main(rt: HostRuntime) {
+    let mut path = files::space::path_bytes();
     let mut words = files::space::table_words();
-    let table = files::read_table(b"run TABLE EVENTS", &mut path, &mut words);
+    let table = files::read_table(rt, b"run TABLE EVENTS", &mut path, &mut words);
     let count = table.words;
     if table.read {
-        events(&words[..count], &mut path);
+        events(rt, &words[..count], &mut path);
     }
 }

@@ -5,7 +5,7 @@
 ghost use Rattle.std.specs.Prelude.{◌≡◌, ◌≤◌, true, [], length, take};
 ghost use Rattle.rulebook.specs.State.{fresh};
 ghost use Rattle.text.specs.Words.{words_of};
-ghost use Rattle.io.specs.Counts.{IsPrefixLen};
+ghost use Rattle.files.specs.Counts.{IsPrefixLen};
 ghost use Rattle.show.specs.Promises.{Shown};
 ghost use Rattle.panel.specs.Printed.{operator as is_operator};
 ghost use Rattle.show.specs.Printed.{with_digit, number_from};
@@ -14,9 +14,10 @@ ghost use Rattle.show.specs.Kept.{Lent, Last, Going, TookOne, TookBlock, Ran};
 mod follow;
 mod space;
 
+use files::faults::say_bytes;
 use files::{print, read_block};
 use follow::{Changed, lay_change, lay_left, lay_number, take_one};
-use libc::STDERR_FILENO;
+use std::fs::File;
 use text::input::{read_word, word_count};
 use words::sections::{Layout, read_accepted};
 
@@ -37,7 +38,7 @@ struct Watched {
 }
 
 // Prints an event's number and the panel that stands at the front of `out`, where a line of it has changed; false where it cannot.
-fn print_change(number: u64, changed: Changed, out: &[u8]) -> bool
+fn print_change(rt: HostRuntime, number: u64, changed: Changed, out: &[u8]) -> bool
     requires { changed.kept ≤ length out.now }
 {
     if !changed.changed {
@@ -45,15 +46,16 @@ fn print_change(number: u64, changed: Changed, out: &[u8]) -> bool
     }
     let mut line = space::number_bytes();
     let n = lay_number(&mut line, number);
-    if !print(&line[..n]) {
+    if !print(rt, &line[..n]) {
         return false;
     }
     let kept = changed.kept;
-    print(&out[..kept])
+    print(rt, &out[..kept])
 }
 
 // Takes one event and, where each is followed, prints what has changed.
 fn watch_one(
+    rt: HostRuntime,
     o: u32,
     following: bool,
     t: &[u32],
@@ -84,7 +86,7 @@ fn watch_one(
     let changed = lay_change(o, t, s, &trace[..count], found, seen.kept, out);
     let kept = changed.kept;
     Watched {
-        written: print_change(seen.events, changed, out),
+        written: print_change(rt, seen.events, changed, out),
         seen: Seen {
             events,
             count,
@@ -95,6 +97,7 @@ fn watch_one(
 
 // Takes the events of a block.
 fn watch_block(
+    rt: HostRuntime,
     o: u32,
     following: bool,
     t: &[u32],
@@ -115,7 +118,7 @@ fn watch_block(
     let mut i = 0;
     while i < total {
         let e = read_word(block, i);
-        let watched = watch_one(o, following, t, h, e, s, trace, seen, found, out);
+        let watched = watch_one(rt, o, following, t, h, e, s, trace, seen, found, out);
         seen = watched.seen;
         i += 1;
         if !watched.written {
@@ -141,13 +144,14 @@ struct Turn {
 
 // Takes the events of the n bytes of a block and reads the next one.
 fn next_block(
+    rt: HostRuntime,
     o: u32,
     following: bool,
     t: &[u32],
     h: Layout,
     s: &mut [u32],
     trace: &mut [u32],
-    fd: i32,
+    source: &File,
     path: &[u8],
     block: &mut [u8],
     n: usize,
@@ -160,7 +164,19 @@ fn next_block(
     ensures took_block { TookBlock o t.now h s.old (take from.count trace.old) (words_of (take n block.old))
         result.going s.new trace.new result.seen found.new out.new }
 {
-    let watched = watch_block(o, following, t, h, s, trace, &block[..n], from, found, out);
+    let watched = watch_block(
+        rt,
+        o,
+        following,
+        t,
+        h,
+        s,
+        trace,
+        &block[..n],
+        from,
+        found,
+        out,
+    );
     let seen = watched.seen;
     if !watched.written {
         return Turn {
@@ -169,7 +185,7 @@ fn next_block(
             bytes: 0,
         };
     }
-    let filled = read_block(fd, path, block);
+    let filled = read_block(rt, source, path, block);
     let bytes = filled.bytes;
     Turn {
         going: !filled.failed,
@@ -188,13 +204,14 @@ struct Ended {
 // Takes the events of the first block and then those that the file still has. A proved loop has to end, and nothing says that a file
 // does: the turns count down from a number that no run uses up.
 fn watch_file(
+    rt: HostRuntime,
     o: u32,
     following: bool,
     t: &[u32],
     h: Layout,
     s: &mut [u32],
     trace: &mut [u32],
-    fd: i32,
+    source: &File,
     path: &[u8],
     block: &mut [u8],
     first: usize,
@@ -212,7 +229,7 @@ fn watch_file(
     let mut turns = u64::MAX;
     while turns > 0 && n > 0 {
         let turn = next_block(
-            o, following, t, h, s, trace, fd, path, block, n, seen, found, out,
+            rt, o, following, t, h, s, trace, source, path, block, n, seen, found, out,
         );
         seen = turn.seen;
         if !turn.going {
@@ -228,21 +245,22 @@ fn watch_file(
 }
 
 // Prints the panel of a state and the first `count` trace words.
-fn print_last(o: u32, t: &[u32], s: &[u32], ws: &[u32], out: &mut [u8])
+fn print_last(rt: HostRuntime, o: u32, t: &[u32], s: &[u32], ws: &[u32], out: &mut [u8])
     requires { Shown o t.now s.now ws.now out.old }
 {
     let n = lay_left(o, t, s, ws, out);
-    print(&out[..n]);
+    print(rt, &out[..n]);
 }
 
 // Makes the fresh state in the lent words, lays its panel as the one that the first event finds, and takes the events from there.
 fn watch_fresh(
+    rt: HostRuntime,
     o: u32,
     following: bool,
     t: &[u32],
     s: &mut [u32],
     trace: &mut [u32],
-    fd: i32,
+    source: &File,
     path: &[u8],
     block: &mut [u8],
     first: usize,
@@ -263,18 +281,19 @@ fn watch_fresh(
         kept,
     };
     watch_file(
-        o, following, t, h, s, trace, fd, path, block, first, from, found, out,
+        rt, o, following, t, h, s, trace, source, path, block, first, from, found, out,
     )
 }
 
 // Takes the events from the fresh state and, where they are not followed, prints the panel behind the last one.
 fn watch_lent(
+    rt: HostRuntime,
     o: u32,
     following: bool,
     t: &[u32],
     s: &mut [u32],
     trace: &mut [u32],
-    fd: i32,
+    source: &File,
     path: &[u8],
     block: &mut [u8],
     first: usize,
@@ -284,7 +303,7 @@ fn watch_lent(
     requires { IsPrefixLen first block.old × Lent o t.now s.old trace.old found.old out.old }
 {
     let ended = watch_fresh(
-        o, following, t, s, trace, fd, path, block, first, found, out,
+        rt, o, following, t, s, trace, source, path, block, first, found, out,
     );
     let seen = ended.seen;
     let count = seen.count;
@@ -292,24 +311,36 @@ fn watch_lent(
         return;
     }
     if ended.whole {
-        print_last(o, t, s, &trace[..count], out);
+        print_last(rt, o, t, s, &trace[..count], out);
     }
 }
 
 // Says why nothing is printed; the front tells by the first words that it was a refusal.
-fn refuse(why: &[u8]) {
-    io::write_all(STDERR_FILENO, b"herringcart: refused: ");
-    io::write_all(STDERR_FILENO, why);
-    io::write_all(STDERR_FILENO, b"\n");
+fn refuse(rt: HostRuntime, why: &[u8]) {
+    say_bytes(rt, b"herringcart: refused: ");
+    say_bytes(rt, why);
+    say_bytes(rt, b"\n");
 }
 
 // The panel with a table that is not refused, or what refuses it.
-fn watch_table(o: u32, following: bool, t: &[u32], fd: i32, path: &[u8], block: &mut [u8], n: usize)
+fn watch_table(
+    rt: HostRuntime,
+    o: u32,
+    following: bool,
+    t: &[u32],
+    source: &File,
+    path: &[u8],
+    block: &mut [u8],
+    n: usize,
+)
     requires { IsPrefixLen n block.old × (is_operator o ≡ true) }
 {
     let opening = session::open(t);
     if opening.reason != 0 {
-        refuse(b"the table has a reason: herringcart check TABLE says which");
+        refuse(
+            rt,
+            b"the table has a reason: herringcart check TABLE says which",
+        );
         return;
     }
     let words = opening.state;
@@ -321,7 +352,7 @@ fn watch_table(o: u32, following: bool, t: &[u32], fd: i32, path: &[u8], block: 
     let s: &mut [u32] = &mut states[..words];
     let trace: &mut [u32] = &mut traces[..room];
     watch_lent(
-        o, following, t, s, trace, fd, path, block, n, &mut found, &mut out,
+        rt, o, following, t, s, trace, source, path, block, n, &mut found, &mut out,
     );
 }
 
@@ -354,54 +385,60 @@ fn read_number(word: &[u8]) -> u32
 }
 
 // The operator's number, which is judged before the table, and whether each event is followed: where there is a fourth word.
-fn watch(t: &[u32], fd: i32, path: &[u8], block: &mut [u8], n: usize)
+fn watch(rt: HostRuntime, t: &[u32], source: &File, path: &[u8], block: &mut [u8], n: usize)
     requires { IsPrefixLen n block.old }
 {
-    let mut word = io::buffer();
-    let named = os::arg(3, &mut word);
+    let mut word = files::space::path_bytes();
+    let operator = files::read_argument(rt, 3, &mut word);
+    let named = operator.bytes;
     if named == 0 {
-        files::missing(b"OPERATOR", b"panel OPERATOR TABLE EVENTS");
+        files::missing(rt, operator, b"OPERATOR", b"panel OPERATOR TABLE EVENTS");
         return;
     }
     let o = read_number(&word[..named]);
     if o < 1 {
-        refuse(b"an operator has a number from 1 to 15, and OPERATOR is another");
+        refuse(
+            rt,
+            b"an operator has a number from 1 to 15, and OPERATOR is another",
+        );
         return;
     }
     if 15 < o {
-        refuse(b"an operator has a number from 1 to 15, and OPERATOR is another");
+        refuse(
+            rt,
+            b"an operator has a number from 1 to 15, and OPERATOR is another",
+        );
         return;
     }
-    let more = os::arg(4, &mut word);
-    watch_table(o, 0 < more, t, fd, path, block, n);
+    let more = files::read_argument(rt, 4, &mut word).bytes;
+    watch_table(rt, o, 0 < more, t, source, path, block, n);
 }
 
 // The events file is opened and its first block read before anything is printed.
-fn events(t: &[u32], path: &mut [u8]) {
-    let mut block = io::large_buffer();
+fn events(rt: HostRuntime, t: &[u32], path: &mut [u8]) {
+    let mut block = files::space::block_bytes();
     let file = files::open(
+        rt,
         2,
         b"EVENTS",
         b"panel OPERATOR TABLE EVENTS",
         path,
         &mut block,
     );
-    let fd = file.fd;
     let named = file.named;
     let n = file.bytes;
-    if fd < 0 {
+    let Some(source) = file.source else {
         return;
-    }
-    watch(t, fd, &path[..named], &mut block, n);
-    libc::close(fd);
+    };
+    watch(rt, t, &source, &path[..named], &mut block, n);
 }
 
-fn main() {
-    let mut path = io::buffer();
+fn main(rt: HostRuntime) {
+    let mut path = files::space::path_bytes();
     let mut words = files::space::table_words();
-    let table = files::read_table(b"panel OPERATOR TABLE EVENTS", &mut path, &mut words);
+    let table = files::read_table(rt, b"panel OPERATOR TABLE EVENTS", &mut path, &mut words);
     let count = table.words;
     if table.read {
-        events(&words[..count], &mut path);
+        events(rt, &words[..count], &mut path);
     }
 }

@@ -4,7 +4,7 @@
 ghost use Rattle.std.specs.Prelude.{◌≤◌, length, take};
 ghost use Rattle.rulebook.specs.State.{fresh};
 ghost use Rattle.text.specs.Words.{words_of};
-ghost use Rattle.io.specs.Counts.{IsPrefixLen};
+ghost use Rattle.files.specs.Counts.{IsPrefixLen};
 ghost use Rattle.visits.specs.Printed.{nothing as nothing_yet};
 ghost use Rattle.visits.specs.Promises.{Countable as CountableFrom};
 ghost use Rattle.timing.specs.Kept.{Loaded, Lent, Going, Countable, TookBlock, Ran};
@@ -12,6 +12,7 @@ ghost use Rattle.timing.specs.Kept.{Loaded, Lent, Going, Countable, TookBlock, R
 mod space;
 
 use files::{print, read_block};
+use std::fs::File;
 use text::input::word_count;
 use visits::Most;
 
@@ -24,6 +25,7 @@ struct Block {
 
 // Takes the events of a block and prints their lines.
 fn time_block(
+    rt: HostRuntime,
     t: &[u32],
     s: &mut [u32],
     trace: &mut [u32],
@@ -41,7 +43,7 @@ fn time_block(
         let taken = visits::take_events(t, s, trace, block, from, so_far, out);
         let bytes = taken.bytes;
         so_far = taken.most;
-        if !print(&out[..bytes]) {
+        if !print(rt, &out[..bytes]) {
             return Block {
                 written: false,
                 most: so_far,
@@ -65,10 +67,11 @@ struct Turn {
 
 // Takes the events of the n bytes of a block and reads the next one.
 fn next_block(
+    rt: HostRuntime,
     t: &[u32],
     s: &mut [u32],
     trace: &mut [u32],
-    fd: i32,
+    source: &File,
     path: &[u8],
     block: &mut [u8],
     n: usize,
@@ -79,7 +82,7 @@ fn next_block(
     ensures prefix_len { IsPrefixLen result.bytes block.new }
     ensures took_block { TookBlock t.now s.old (words_of (take n block.old)) most result.going s.new result.most }
 {
-    let timed = time_block(t, s, trace, &block[..n], most, out);
+    let timed = time_block(rt, t, s, trace, &block[..n], most, out);
     let so_far = timed.most;
     if !timed.written {
         return Turn {
@@ -88,7 +91,7 @@ fn next_block(
             bytes: 0,
         };
     }
-    let filled = read_block(fd, path, block);
+    let filled = read_block(rt, source, path, block);
     let bytes = filled.bytes;
     Turn {
         going: !filled.failed,
@@ -107,10 +110,11 @@ struct Timed {
 // Takes the events of the first block and then those that the file still has. A proved loop has to end, and nothing says that a file
 // does: the turns count down from a number that no run uses up, and that is small enough for the events' numbers.
 fn time_file(
+    rt: HostRuntime,
     t: &[u32],
     s: &mut [u32],
     trace: &mut [u32],
-    fd: i32,
+    source: &File,
     path: &[u8],
     block: &mut [u8],
     first: usize,
@@ -123,7 +127,7 @@ fn time_file(
     let mut most = visits::nothing();
     let mut turns: u64 = 562949953421312;
     while turns > 0 && n > 0 {
-        let turn = next_block(t, s, trace, fd, path, block, n, most, out);
+        let turn = next_block(rt, t, s, trace, source, path, block, n, most, out);
         most = turn.most;
         if !turn.going {
             return Timed { whole: false, most };
@@ -139,10 +143,11 @@ fn time_file(
 
 // Makes the fresh state in the lent words and takes the events from it.
 fn time_fresh(
+    rt: HostRuntime,
     t: &[u32],
     s: &mut [u32],
     trace: &mut [u32],
-    fd: i32,
+    source: &File,
     path: &[u8],
     block: &mut [u8],
     first: usize,
@@ -153,22 +158,22 @@ fn time_fresh(
         result.whole s.new result.most }
 {
     manager::make_fresh(t, s);
-    time_file(t, s, trace, fd, path, block, first, out)
+    time_file(rt, t, s, trace, source, path, block, first, out)
 }
 
 // The lines that close a file: the largest counts and what they are never above.
-fn print_end(t: &[u32], most: Most, out: &mut [u8]) {
+fn print_end(rt: HostRuntime, t: &[u32], most: Most, out: &mut [u8]) {
     let end = visits::lay_most(out, t, most);
-    print(&out[..end]);
+    print(rt, &out[..end]);
 }
 
 // The events with a table: its reason, or what they cost from the fresh state on.
-fn cost(t: &[u32], fd: i32, path: &[u8], block: &mut [u8], n: usize)
+fn cost(rt: HostRuntime, t: &[u32], source: &File, path: &[u8], block: &mut [u8], n: usize)
     requires { Loaded n block.old }
 {
     let opening = session::open(t);
     if opening.reason != 0 {
-        files::print_reason(opening.reason, opening.place);
+        files::print_reason(rt, opening.reason, opening.place);
         return;
     }
     let words = opening.state;
@@ -178,33 +183,31 @@ fn cost(t: &[u32], fd: i32, path: &[u8], block: &mut [u8], n: usize)
     let mut out = files::space::lines();
     let s: &mut [u32] = &mut states[..words];
     let trace: &mut [u32] = &mut traces[..room];
-    let timed = time_fresh(t, s, trace, fd, path, block, n, &mut out);
+    let timed = time_fresh(rt, t, s, trace, source, path, block, n, &mut out);
     let most = timed.most;
     if timed.whole {
-        print_end(t, most, &mut out);
+        print_end(rt, t, most, &mut out);
     }
 }
 
 // The events file is opened and its first block read before anything is printed.
-fn events(t: &[u32], path: &mut [u8]) {
-    let mut block = io::large_buffer();
-    let file = files::open(2, b"EVENTS", b"cost TABLE EVENTS", path, &mut block);
-    let fd = file.fd;
+fn events(rt: HostRuntime, t: &[u32], path: &mut [u8]) {
+    let mut block = files::space::block_bytes();
+    let file = files::open(rt, 2, b"EVENTS", b"cost TABLE EVENTS", path, &mut block);
     let named = file.named;
     let n = file.bytes;
-    if fd < 0 {
+    let Some(source) = file.source else {
         return;
-    }
-    cost(t, fd, &path[..named], &mut block, n);
-    libc::close(fd);
+    };
+    cost(rt, t, &source, &path[..named], &mut block, n);
 }
 
-fn main() {
-    let mut path = io::buffer();
+fn main(rt: HostRuntime) {
+    let mut path = files::space::path_bytes();
     let mut words = files::space::table_words();
-    let table = files::read_table(b"cost TABLE EVENTS", &mut path, &mut words);
+    let table = files::read_table(rt, b"cost TABLE EVENTS", &mut path, &mut words);
     let count = table.words;
     if table.read {
-        events(&words[..count], &mut path);
+        events(rt, &words[..count], &mut path);
     }
 }

@@ -1,0 +1,15 @@
+-- `canlog::print_events` is safe: the events have no more bytes than are lent. Assumes nothing.
+use Prim.Native.Nat.{◌≤◌}
+use mathlib.Core.Path.{sym}
+use native.Mathlib.Omega.{arith}
+use lib.ListN.{length}
+use lib.Seq.{length-take-le}
+use borrow.Author.Rules.{rules}
+use Rattle.text.proofs.Bytes.{all-bytes}
+use Rattle.canlog.proofs.print_events.Goals as goal
+
+pub slice_bounds-print-end : goal.slice_bounds-print-end
+slice_bounds-print-end c = (let it-inside : c.lay_words-n.result ≤ length c.lay_words-n.new.out = let lay = c.lay_words-n in omega (arith, lay.ensures.place, all-bytes c.args.events.now, lay.auto.out, c.requires) in it-inside)
+
+pub slice_bounds-print-end-2 : goal.slice_bounds-print-end-2
+slice_bounds-print-end-2 c = sym (length-take-le _ _ ((let it-inside : c.lay_words-n.result ≤ length c.lay_words-n.new.out = let lay = c.lay_words-n in omega (arith, lay.ensures.place, all-bytes c.args.events.now, lay.auto.out, c.requires) in it-inside)))
