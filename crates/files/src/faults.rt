@@ -7,9 +7,9 @@ use std::{fmt, io};
 use text::number::{least, past};
 
 // What the system says of a name that is too long, and of bytes that are no text.
-const TOO_LONG: i32 = 36;
+pub const TOO_LONG: i32 = 36;
 
-const NOT_TEXT: i32 = 84;
+pub const NOT_TEXT: i32 = 84;
 
 // Writes to standard error. Where it cannot, nobody hears of that.
 pub fn say_bytes(rt: HostRuntime, what: &[u8]) {
@@ -67,12 +67,4 @@ pub fn fail(rt: HostRuntime, what: &[u8], error: io::Error) {
     say_bytes(rt, b": ");
     say_bytes(rt, &text.bytes[..n]);
     say_bytes(rt, b"\n");
-}
-
-pub fn too_long() -> io::Error {
-    io::Error::from_raw_os_error(TOO_LONG)
-}
-
-pub fn not_text() -> io::Error {
-    io::Error::from_raw_os_error(NOT_TEXT)
 }

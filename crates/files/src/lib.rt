@@ -9,10 +9,10 @@ ghost use Rattle.files.specs.Holds.{Holds, Fills};
 pub mod faults;
 pub mod space;
 
-use faults::{fail, say_bytes, too_long};
+use faults::{NOT_TEXT, TOO_LONG, fail, say_bytes};
 use std::env::{Env, FillError};
 use std::fs;
-use std::io::{Print, Read};
+use std::io::{self, Print, Read};
 use text::input::read_words;
 use text::number::least;
 
@@ -46,7 +46,7 @@ pub fn read_argument(rt: HostRuntime, i: usize, word: &mut [u8]) -> Argument
 // Tells of an argument that is not there, or empty, or longer than a path can be.
 pub fn missing(rt: HostRuntime, argument: Argument, name: &[u8], usage: &[u8]) {
     if argument.too_long {
-        fail(rt, name, too_long());
+        fail(rt, name, io::Error::from_raw_os_error(TOO_LONG));
         return;
     }
     say_bytes(rt, b"herringcart: ");
@@ -126,7 +126,7 @@ pub struct File {
 // Opens the file with that name for reading. What fails is told.
 fn open_path(rt: HostRuntime, path: &[u8]) -> Option<fs::File> {
     let Ok(name) = str::from_utf8(path) else {
-        fail(rt, path, faults::not_text());
+        fail(rt, path, io::Error::from_raw_os_error(NOT_TEXT));
         return None;
     };
     match fs::File::open(&rt, name) {
