@@ -2,23 +2,22 @@
 ghost use Rattle.std.specs.Prelude.{cond, ◌≡◌, eqb};
 ghost use Rattle.rulebook.specs.State.{status_pending, status_validated};
 ghost use Rattle.rulebook.specs.Events.{move_source, wake as wake_of, validate as validate_of, clear as clear_of, tick_source};
-ghost use Rattle.words.specs.Sections.{Laid};
 
 use words::numbers::{STATUS_EXPIRED, STATUS_NONE, STATUS_PENDING, STATUS_VALIDATED};
-use words::sections::{Layout, source_at};
 use words::state::{set_port, set_source, source_in};
+use words::table::Table;
 
 // A change of status writes the source's port too, and marks it.
-fn move_source(t: &[u32], h: Layout, s: &mut [u32], k: u32, status: u32, remaining: u32)
-    requires { Laid t.now h }
-    ensures { s.new ≡ move_source t.now k status remaining s.old }
+#[tactic(auto, unfolding(rulebook::specs::Events::move_source))]
+fn move_source(t: &Table, s: &mut [u32], k: u32, status: u32, remaining: u32)
+    ensures { s.new ≡ move_source t.now.words k status remaining s.old }
 {
-    let before = source_in(t, h, s, k);
-    set_source(t, h, s, k, status, remaining);
+    let before = source_in(t, s, k);
+    set_source(t, s, k, status, remaining);
     if status == before.status {
         return;
     }
-    let source = source_at(t, h, k);
+    let source = t.source(k);
     set_port(s, source.port, 1, status, 0);
 }
 
@@ -34,49 +33,49 @@ fn woken(timeout: u32) -> u32
 }
 
 // A wakeup counts on none or expired; on a pending source it does not restart the timeout.
-pub fn wake(t: &[u32], h: Layout, s: &mut [u32], k: u32)
-    requires { Laid t.now h }
-    ensures { s.new ≡ wake_of t.now k s.old }
+#[tactic(auto, unfolding(rulebook::specs::Events::wake))]
+pub fn wake(t: &Table, s: &mut [u32], k: u32)
+    ensures { s.new ≡ wake_of t.now.words k s.old }
 {
-    let c = source_in(t, h, s, k);
+    let c = source_in(t, s, k);
     let rests = (c.status == STATUS_NONE) | (c.status == STATUS_EXPIRED);
     if rests {
-        let source = source_at(t, h, k);
+        let source = t.source(k);
         let next = woken(source.timeout);
-        move_source(t, h, s, k, next, source.timeout);
+        move_source(t, s, k, next, source.timeout);
     }
 }
 
 // A wakeup found valid: pending becomes validated.
-pub fn validate(t: &[u32], h: Layout, s: &mut [u32], k: u32)
-    requires { Laid t.now h }
-    ensures { s.new ≡ validate_of t.now k s.old }
+#[tactic(auto, unfolding(rulebook::specs::Events::validate))]
+pub fn validate(t: &Table, s: &mut [u32], k: u32)
+    ensures { s.new ≡ validate_of t.now.words k s.old }
 {
-    let c = source_in(t, h, s, k);
+    let c = source_in(t, s, k);
     if c.status == STATUS_PENDING {
-        move_source(t, h, s, k, STATUS_VALIDATED, 0);
+        move_source(t, s, k, STATUS_VALIDATED, 0);
     }
 }
 
 // A wakeup cleared: back to none.
-pub fn clear(t: &[u32], h: Layout, s: &mut [u32], k: u32)
-    requires { Laid t.now h }
-    ensures { s.new ≡ clear_of t.now k s.old }
+#[tactic(auto, unfolding(rulebook::specs::Events::clear))]
+pub fn clear(t: &Table, s: &mut [u32], k: u32)
+    ensures { s.new ≡ clear_of t.now.words k s.old }
 {
-    move_source(t, h, s, k, STATUS_NONE, 0);
+    move_source(t, s, k, STATUS_NONE, 0);
 }
 
 // A pending source counts down and at 0 expires.
-pub fn tick_source(t: &[u32], h: Layout, s: &mut [u32], k: u32)
-    requires { Laid t.now h }
-    ensures { s.new ≡ tick_source t.now k s.old }
+#[tactic(auto, unfolding(rulebook::specs::Events::tick_source))]
+pub fn tick_source(t: &Table, s: &mut [u32], k: u32)
+    ensures { s.new ≡ tick_source t.now.words k s.old }
 {
-    let c = source_in(t, h, s, k);
+    let c = source_in(t, s, k);
     if c.status == STATUS_PENDING {
         if c.remaining <= 1 {
-            move_source(t, h, s, k, STATUS_EXPIRED, 0);
+            move_source(t, s, k, STATUS_EXPIRED, 0);
         } else {
-            move_source(t, h, s, k, STATUS_PENDING, c.remaining - 1);
+            move_source(t, s, k, STATUS_PENDING, c.remaining - 1);
         }
     }
 }
