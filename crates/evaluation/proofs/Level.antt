@@ -1,16 +1,15 @@
--- One level of an evaluation, by what the code reads of the expression's word; and what a rule chooses. Assumes nothing.
+-- One level of an evaluation, by what the code reads of the expression's word. Assumes nothing.
 use Prim.Native.Nat.{ℕ, suc, ◌+◌, ◌-◌, ◌/◌, ◌%◌}
 use mathlib.Core.Path.{◌≡◌, refl, ap, sym, ◌∙◌}
-use mathlib.Core.Bool.{Bool, true, false, ◌||◌, not}
+use mathlib.Core.Bool.{Bool, true, false, not}
 use mathlib.Core.List.{List}
 use native.Mathlib.Omega.{arith}
 use lib.Dec.{eqb}
 use borrow.Author.Tests.{not-true, not-false}
 use Rattle.rulebook.specs.Words.{field}
-use Rattle.rulebook.specs.Table.{expression_word, expression_kind, left, right, no_list, triggered, operator_not}
+use Rattle.rulebook.specs.Table.{expression_word, expression_kind, left, right, operator_not}
 use Rattle.rulebook.specs.Expressions as Expressions
 use Rattle.rulebook.specs.Expressions.{operator_kind, operator, joined, expression_holds, holds, settled, visited}
-use Rattle.rulebook.specs.Lists.{list_for, choice}
 use Rattle.rulebook.proofs.Visits.{condition-visited, not-visited, settled-visited, open-visited}
 use Rattle.evaluation.specs.Condition.{condition_word, word_met}
 use Rattle.evaluation.specs.Found.{in_word, Evaluates}
@@ -108,16 +107,3 @@ module _ (t : List ℕ) (e d w : ℕ) (more : d ≡ 0 → ⊥) (hw : w ≡ expre
         (sym (one-level
         ∙ open-visited (d - 1) t v e operates-here (λ n. two (sym kind-is ∙ n)) (rw (kind-is, left_is, ← left-gives) unsettled)
         ∙ rw (left_is, right_is, left-visits, visits-told t v r (d - 1) b hb)))
-
--- what a rule chooses: its list l for the result, whose triggered field is g
-module _ (t : List ℕ) (r previous result l g : ℕ) (hl : l ≡ list_for t r result) (hg : g ≡ triggered t l) where
-  is-triggered : g ≡ triggered t (list_for t r result)
-  is-triggered = hg ∙ ap (triggered t) hl
-
-  pub choice-starts : (eqb g 0 || not (eqb result previous)) ≡ true → l ≡ choice t r previous result
-  unfolding choice
-  choice-starts h = hl ∙ rw (rw is-triggered at h)
-
-  pub choice-none : (eqb g 0 || not (eqb result previous)) ≡ false → no_list ≡ choice t r previous result
-  unfolding choice
-  choice-none h = rw (rw is-triggered at h)

@@ -1,25 +1,19 @@
--- The part of a table that starts with its expressions: where it starts, what is read of it, and that every list of words is one, so that
+-- The part of a table that starts with its expressions: what is read of it, and that every list of words is one, so that
 -- two results are equal and their visits few. Assumes nothing.
-use Prim.Native.Nat.{ℕ, ◌-◌, ◌/◌, ◌^◌, ◌≤◌}
+use Prim.Native.Nat.{ℕ, ◌/◌, ◌^◌, ◌≤◌}
 use mathlib.Core.Path.{◌≡◌, refl, ap, ap₂, sym, ◌∙◌}
 use mathlib.Core.Bool.{Bool}
 use mathlib.Core.List.{List, ◌∷◌}
 use native.Mathlib.Omega.{arith}
-use lib.ListN.{length, take, drop, length-drop}
 use lib.Pow.{pow_mono}
-use lib.Seq.{take_all, get_or-drop}
+use lib.Seq.{get_or-drop}
 use Rattle.rulebook.specs.Words.{word, digit}
 use Rattle.rulebook.specs.Table.{expressions_from, expression_word}
 use Rattle.laws.proofs.Visits.{visited-most}
 use Rattle.evaluation.specs.declared.Found.{Found}
 use Rattle.evaluation.specs.Found.{Finds}
 use Rattle.evaluation.proofs.Word.{visits-told}
-use Rattle.evaluation.specs.Section.{Section, StartsAt, EvaluatedIn, MentionsIn}
-
-pub section-part : (t : List ℕ) (from i : ℕ) → from ≡ expressions_from t → StartsAt t from i → Section t (take (length t - i) (drop i t))
-section-part t from i h at =
-    take_all (length t - i) (drop i t) (let e : length (drop i t) ≡ length t - i = length-drop i t in omega arith)
-    ∙ at.part ∙ ap (λ (n : ℕ). drop n t) h
+use Rattle.evaluation.specs.Section.{Section, EvaluatedIn, MentionsIn}
 
 -- what is read of a table's section is the expression's word
 pub section-word : (t x : List ℕ) (e w : ℕ) → Section t x → w ≡ word x e → w ≡ expression_word t e

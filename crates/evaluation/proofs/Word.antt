@@ -1,6 +1,6 @@
 -- An evaluation's word: what it holds is read off it again. Assumes nothing.
-use Prim.Native.Nat.{ℕ, ◌+◌, ◌*◌, ◌/◌, ◌%◌, ◌≤◌}
-use mathlib.Core.Path.{◌≡◌, refl, ap, ◌∙◌}
+use Prim.Native.Nat.{ℕ, ◌/◌, ◌%◌}
+use mathlib.Core.Path.{◌≡◌, refl}
 use mathlib.Core.Bool.{Bool, true, false, cond}
 use mathlib.Core.List.{List}
 use native.Mathlib.Omega.{arith}
@@ -29,7 +29,3 @@ module _ (t : List ℕ) (v : ℕ → ℕ) (e d r : ℕ) (is : Evaluates t v e d 
 
   pub visits-told : r / 2 ≡ visited d t v e
   visits-told = rw is (half (holds d t v e) (visited d t v e))
-
-pub raised-small : (b : Bool) (n : ℕ) → n ≡ cond b 1 0 → n ≤ 1
-raised-small true n h = omega arith
-raised-small false n h = omega arith

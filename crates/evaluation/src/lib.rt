@@ -4,115 +4,101 @@
 
 ghost use Rattle.std.specs.Prelude.{◌≡◌, ◌≤◌};
 ghost use Rattle.rulebook.specs.Words.{any};
-ghost use Rattle.rulebook.specs.Table.{expressions_from};
 ghost use Rattle.rulebook.specs.Expressions.{mentions, met, joined as joined_of, settled as settled_of};
 ghost use Rattle.rulebook.specs.Lists.{value_in, undefined_in, unready as unready_of, list_for, choice as choice_of};
 ghost use Rattle.words.specs.Field.{Field};
-ghost use Rattle.words.specs.Sections.{Laid};
 ghost use Rattle.evaluation.specs.Condition.{condition_word, word_met};
-ghost use Rattle.evaluation.specs.Section.{StartsAt, EvaluatedIn, MentionsIn};
+ghost use Rattle.evaluation.specs.Section.{Section, EvaluatedIn, MentionsIn};
 ghost use Rattle.evaluation.specs.Found.{in_word, Evaluates, Finds};
 
+use words::expressions::{
+    condition_port, condition_value, expression_kind, is_operator, left, right,
+};
 use words::numbers::{
     CONDITION_AT_OR_ABOVE, CONDITION_CLEARED, CONDITION_EQUAL, CONDITION_NOT_EQUAL, CONDITION_SET,
-    OPERATOR_AND, OPERATOR_NAND, OPERATOR_NOT, OPERATOR_OR, OPERATOR_XOR,
+    NO_LIST, OPERATOR_AND, OPERATOR_NAND, OPERATOR_NOT, OPERATOR_OR, OPERATOR_XOR,
 };
-use words::sections::{Layout, list_at, rule_at};
-use words::{state, table, word};
+use words::state::port_in;
+use words::table::Table;
+use words::word;
 
 // Port p's value.
+#[tactic(auto, unfolding(rulebook::specs::Lists::value_in))]
 fn value_in(s: &[u32], p: u32) -> u32
     ensures { result ≡ value_in s.now p }
 {
-    state::value(word(s, p as usize))
+    port_in(s, p).value
 }
 
 // Whether port p is undefined.
+#[tactic(auto, unfolding(rulebook::specs::Lists::undefined_in))]
 fn undefined_in(s: &[u32], p: u32) -> bool
     ensures { result ≡ undefined_in s.now p }
 {
-    let defined = state::defined(word(s, p as usize));
-    defined == 0
+    port_in(s, p).defined == 0
 }
 
 // Whether a condition of this kind holds of a port's value.
 fn condition_met(kind: u32, value: u32, given: u32) -> bool
     ensures { result ≡ met kind value given }
 {
-    let equal = value == given;
-    if kind == CONDITION_EQUAL {
-        return equal;
+    match kind {
+        CONDITION_EQUAL => value == given,
+        CONDITION_NOT_EQUAL => value != given,
+        CONDITION_SET => value == 1,
+        CONDITION_CLEARED => value == 0,
+        CONDITION_AT_OR_ABOVE => given <= value,
+        _ => false,
     }
-    if kind == CONDITION_NOT_EQUAL {
-        return !equal;
-    }
-    if kind == CONDITION_SET {
-        return value == 1;
-    }
-    if kind == CONDITION_CLEARED {
-        return value == 0;
-    }
-    if kind == CONDITION_AT_OR_ABOVE {
-        return !(value < given);
-    }
-    false
 }
 
 // What an operator of this kind makes of its arguments.
+#[tactic(auto, unfolding(rulebook::specs::Expressions::joined))]
 fn joined(kind: u32, a: bool, b: bool) -> bool
     ensures { result ≡ joined_of kind a b }
 {
-    if kind == OPERATOR_AND {
-        return a & b;
+    match kind {
+        OPERATOR_AND => a & b,
+        OPERATOR_OR => a | b,
+        OPERATOR_XOR => a ^ b,
+        OPERATOR_NAND => !(a & b),
+        _ => !a,
     }
-    if kind == OPERATOR_OR {
-        return a | b;
-    }
-    if kind == OPERATOR_XOR {
-        return a ^ b;
-    }
-    if kind == OPERATOR_NAND {
-        return !(a & b);
-    }
-    !a
 }
 
 // Whether its left side settles an operator of this kind: true an OR, false an AND or a NAND, neither an XOR.
+#[tactic(auto, unfolding(rulebook::specs::Expressions::settled))]
 fn settled(kind: u32, left: bool) -> bool
     ensures { result ≡ settled_of kind left }
 {
-    if kind == OPERATOR_XOR {
-        return false;
+    match kind {
+        OPERATOR_XOR => false,
+        OPERATOR_OR => left,
+        _ => !left,
     }
-    if kind == OPERATOR_OR {
-        return left;
-    }
-    !left
 }
 
 // Whether a word is a condition's.
 fn is_condition(w: u32) -> bool
     ensures { result ≡ condition_word w }
 {
-    !table::is_operator(table::expression_kind(w))
+    !is_operator(expression_kind(w))
 }
 
 // Whether the condition that a word is holds by the values of the port words.
 fn word_met(values: &[u32], w: u32) -> bool
     ensures { result ≡ word_met (value_in values.now) w }
 {
-    let value = value_in(values, table::condition_port(w));
-    condition_met(table::expression_kind(w), value, table::condition_value(w))
+    let value = value_in(values, condition_port(w));
+    condition_met(expression_kind(w), value, condition_value(w))
 }
 
-// Where the part of a table that starts at `from` starts: at its end where the table is not as long.
-fn start(t: &[u32], from: usize) -> usize
-    ensures { StartsAt t.now from result }
+// The part of a table that starts with its expressions. The recursions below go over it alone, and add the place to no number.
+fn expression_words<'a>(t: &Table<'a>) -> &'a [u32]
+    ensures { Section t.now.words result.now }
 {
-    if from < t.len() {
-        return from;
-    }
-    t.len()
+    let words = t.words();
+    &words[t.expression0().min(words.len())..]
 }
 
 // An evaluation in one word: twice its visits, and 1 more if the expression holds. Two fields by value would go through memory at each
@@ -121,17 +107,15 @@ fn in_word(holds: bool, visits: u32) -> u32
     requires { visits ≤ 255 }
     ensures { result ≡ in_word holds visits }
 {
-    2 * visits + words::raised(holds)
+    2 * visits + u32::from(holds)
 }
 
 // Evaluates expression e, down to so many levels, by the values of the port words.
-fn holds(t: &[u32], from: usize, values: &[u32], e: u32, levels: u32) -> u32
-    requires from_value { from ≡ expressions_from t.now }
-    requires levels_bound { levels ≤ 7 }
-    ensures { Evaluates t.now (value_in values.now) e levels result }
+fn holds(t: &Table, values: &[u32], e: u32, levels: u32) -> u32
+    requires { levels ≤ 7 }
+    ensures { Evaluates t.now.words (value_in values.now) e levels result }
 {
-    let first = start(t, from);
-    holds_in(&t[first..], values, e, levels)
+    holds_in(expression_words(t), values, e, levels)
 }
 
 // The same by the part x of a table that starts with its expressions. The right side is visited only if the left one leaves it open.
@@ -147,8 +131,8 @@ fn holds_in(x: &[u32], values: &[u32], e: u32, levels: u32) -> u32
     if is_condition(w) {
         return in_word(word_met(values, w), 1);
     }
-    let kind = table::expression_kind(w);
-    let a = argument_holds(x, values, table::left(w), levels - 1);
+    let kind = expression_kind(w);
+    let a = argument_holds(x, values, left(w), levels - 1);
     let left = a % 2 == 1;
     let visits = 1 + a / 2;
     if kind == OPERATOR_NOT {
@@ -157,7 +141,7 @@ fn holds_in(x: &[u32], values: &[u32], e: u32, levels: u32) -> u32
     if settled(kind, left) {
         return in_word(joined(kind, left, false), visits);
     }
-    let b = argument_holds(x, values, table::right(w), levels - 1);
+    let b = argument_holds(x, values, right(w), levels - 1);
     let right = b % 2 == 1;
     in_word(joined(kind, left, right), visits + b / 2)
 }
@@ -179,12 +163,10 @@ fn argument_holds(x: &[u32], values: &[u32], e: u32, levels: u32) -> u32
 }
 
 // Whether expression e, down to so many levels, mentions a port that is undefined.
-fn mentions_undefined(t: &[u32], from: usize, s: &[u32], e: u32, levels: u32) -> bool
-    requires { from ≡ expressions_from t.now }
-    ensures { result ≡ mentions levels t.now (undefined_in s.now) e }
+fn mentions_undefined(t: &Table, s: &[u32], e: u32, levels: u32) -> bool
+    ensures { result ≡ mentions levels t.now.words (undefined_in s.now) e }
 {
-    let first = start(t, from);
-    mentions_in(&t[first..], s, e, levels)
+    mentions_in(expression_words(t), s, e, levels)
 }
 
 // The same by the part x of a table that starts with its expressions. Both sides are read, for document 01 asks for each port.
@@ -197,16 +179,16 @@ fn mentions_in(x: &[u32], s: &[u32], e: u32, levels: u32) -> bool
     }
     let w = word(x, e as usize);
     if is_condition(w) {
-        return undefined_in(s, table::condition_port(w));
+        return undefined_in(s, condition_port(w));
     }
-    if argument_mentions(x, s, table::left(w), levels - 1) {
+    if argument_mentions(x, s, left(w), levels - 1) {
         return true;
     }
-    let kind = table::expression_kind(w);
+    let kind = expression_kind(w);
     if kind == OPERATOR_NOT {
         return false;
     }
-    argument_mentions(x, s, table::right(w), levels - 1)
+    argument_mentions(x, s, right(w), levels - 1)
 }
 
 // The same of an argument.
@@ -219,7 +201,7 @@ fn argument_mentions(x: &[u32], s: &[u32], e: u32, levels: u32) -> bool
     }
     let w = word(x, e as usize);
     if is_condition(w) {
-        return undefined_in(s, table::condition_port(w));
+        return undefined_in(s, condition_port(w));
     }
     mentions_in(x, s, e, levels)
 }
@@ -228,29 +210,20 @@ fn argument_mentions(x: &[u32], s: &[u32], e: u32, levels: u32) -> bool
 fn any_undefined(s: &[u32], ports: u32) -> bool
     ensures { result ≡ any 0 ports (undefined_in s.now) }
 {
-    let mut p: u32 = 0;
-    while p < ports {
-        if undefined_in(s, p) {
-            return true;
-        }
-        p += 1;
-    }
-    false
+    (0..ports).any(|p| undefined_in(s, p))
 }
 
 // Whether rule r mentions an undefined port. The rules of an accepted table mention none but its ports: where these are all
 // defined, no expression is read.
-pub fn unready(t: &[u32], h: Layout, s: &[u32], r: u32) -> bool
-    requires { Laid t.now h }
-    ensures { result ≡ unready_of t.now s.now r }
+pub fn unready(t: &Table, s: &[u32], r: u32) -> bool
+    ensures { result ≡ unready_of t.now.words s.now r }
 {
-    let rule = rule_at(t, h, r);
-    if h.accepted & (rule.expression < h.expressions) {
-        if !any_undefined(s, h.ports) {
-            return false;
-        }
+    let rule = t.rule(r);
+    let named = t.is_accepted() & (rule.expression < t.expressions());
+    if named && !any_undefined(s, t.ports()) {
+        return false;
     }
-    mentions_undefined(t, h.expression0, s, rule.expression, 7)
+    mentions_undefined(t, s, rule.expression, 7)
 }
 
 // A rule's result, 0 false, 1 true, and the visits that finding it makes.
@@ -261,23 +234,21 @@ pub struct Found {
 }
 
 // Rule r's result by the port words of a state.
-pub fn result(t: &[u32], h: Layout, s: &[u32], r: u32) -> Found
-    requires { Laid t.now h }
-    ensures { Finds t.now s.now r result }
+pub fn result(t: &Table, s: &[u32], r: u32) -> Found
+    ensures { Finds t.now.words s.now r result }
 {
-    let rule = rule_at(t, h, r);
-    let found = holds(t, h.expression0, s, rule.expression, 7);
-    let result = found % 2;
-    let visits = found / 2;
-    Found { result, visits }
+    let found = holds(t, s, t.rule(r).expression, 7);
+    Found {
+        result: found % 2,
+        visits: found / 2,
+    }
 }
 
 // The list that rule r has for a result; 255 for none.
-fn list_for(t: &[u32], h: Layout, r: u32, res: u32) -> u32
-    requires { Laid t.now h }
-    ensures { Field (list_for t.now r res) 256 result }
+fn list_for(t: &Table, r: u32, res: u32) -> u32
+    ensures { Field (list_for t.now.words r res) 256 result }
 {
-    let rule = rule_at(t, h, r);
+    let rule = t.rule(r);
     if res == 1 {
         rule.true_list
     } else {
@@ -286,15 +257,15 @@ fn list_for(t: &[u32], h: Layout, r: u32, res: u32) -> u32
 }
 
 // The list that rule r starts by its result and the one before; 255 for none.
-pub fn choice(t: &[u32], h: Layout, r: u32, previous: u32, res: u32) -> u32
-    requires { Laid t.now h }
-    ensures { Field (choice_of t.now r previous res) 256 result }
+#[tactic(auto, unfolding(rulebook::specs::Lists::choice))]
+pub fn choice(t: &Table, r: u32, previous: u32, res: u32) -> u32
+    ensures { Field (choice_of t.now.words r previous res) 256 result }
 {
-    let l = list_for(t, h, r, res);
-    let list = list_at(t, h, l);
-    let starts = (list.triggered == 0) | (res != previous);
-    if starts {
-        return l;
+    let l = list_for(t, r, res);
+    let list = t.list(l);
+    if (list.triggered == 0) | (res != previous) {
+        l
+    } else {
+        NO_LIST
     }
-    255
 }

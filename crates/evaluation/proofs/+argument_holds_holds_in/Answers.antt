@@ -1,7 +1,7 @@
 -- `evaluation::holds_in` and `argument_holds` meet their contracts: one level by the laws of `Level`, the arguments by their own calls.
 -- An argument stands above its expression, which has a level less than the operator: hence the measures 2 * levels and 2 * levels + 1.
 -- Assumes nothing.
-use Prim.Native.Nat.{ℕ, ◌+◌, ◌-◌, ◌*◌, ◌/◌, ◌<◌, ◌≤◌}
+use Prim.Native.Nat.{◌-◌, ◌≤◌}
 use mathlib.Core.Path.{sym, ◌∙◌}
 use native.Mathlib.Omega.{arith}
 use Rattle.rulebook.specs.Expressions as Expressions
@@ -31,10 +31,14 @@ holds_in-returns-then-is_condition n c t section =
     (sym c.is_condition.ensures ∙ c.if-is_condition.true) c.word_met.ensures _ c.in_word.ensures
 
 pub holds_in-overflow_add-visits : goal.holds_in-overflow_add-visits
-holds_in-overflow_add-visits n c = omega (arith, (few-visits _ _ _ _ _ ((let it-levels-left : c.args.levels - 1 ≤ 7 = omega (arith, c.requires) in it-levels-left)) c.argument_holds-a.ensures))
+holds_in-overflow_add-visits n c =
+    let few : c.args.levels - 1 ≤ 7 = omega (arith, c.requires) in
+    omega (arith, few-visits _ _ _ _ _ few c.argument_holds-a.ensures)
 
 pub holds_in-in_word-requires-then-kind-eq-OPERATOR_NOT : goal.holds_in-in_word-requires-then-kind-eq-OPERATOR_NOT
-holds_in-in_word-requires-then-kind-eq-OPERATOR_NOT n c = omega (arith, (few-visits _ _ _ _ _ ((let it-levels-left : c.args.levels - 1 ≤ 7 = omega (arith, c.requires) in it-levels-left)) c.argument_holds-a.ensures))
+holds_in-in_word-requires-then-kind-eq-OPERATOR_NOT n c =
+    let few : c.args.levels - 1 ≤ 7 = omega (arith, c.requires) in
+    omega (arith, few-visits _ _ _ _ _ few c.argument_holds-a.ensures)
 
 pub holds_in-returns-then-kind-eq-OPERATOR_NOT : goal.holds_in-returns-then-kind-eq-OPERATOR_NOT
 holds_in-returns-then-kind-eq-OPERATOR_NOT n c t section =
@@ -43,7 +47,9 @@ holds_in-returns-then-kind-eq-OPERATOR_NOT n c t section =
     c.left.ensures.value (c.argument_holds-a.ensures t section) c.if-kind-eq-OPERATOR_NOT.true _ c.in_word-then-kind-eq-OPERATOR_NOT.ensures
 
 pub holds_in-in_word-requires-then-settled : goal.holds_in-in_word-requires-then-settled
-holds_in-in_word-requires-then-settled n c = omega (arith, (few-visits _ _ _ _ _ ((let it-levels-left : c.args.levels - 1 ≤ 7 = omega (arith, c.requires) in it-levels-left)) c.argument_holds-a.ensures))
+holds_in-in_word-requires-then-settled n c =
+    let few : c.args.levels - 1 ≤ 7 = omega (arith, c.requires) in
+    omega (arith, few-visits _ _ _ _ _ few c.argument_holds-a.ensures)
 
 pub holds_in-returns-then-settled : goal.holds_in-returns-then-settled
 holds_in-returns-then-settled n c t section =
@@ -53,7 +59,9 @@ holds_in-returns-then-settled n c t section =
     (sym c.settled.ensures ∙ c.if-settled.true) c.joined.ensures _ c.in_word-then-settled.ensures
 
 pub holds_in-in_word-requires-2 : goal.holds_in-in_word-requires-2
-holds_in-in_word-requires-2 n c = omega (arith, (few-visits _ _ _ _ _ ((let it-levels-left : c.args.levels - 1 ≤ 7 = omega (arith, c.requires) in it-levels-left)) c.argument_holds-a.ensures), (few-visits _ _ _ _ _ ((let it-levels-left : c.args.levels - 1 ≤ 7 = omega (arith, c.requires) in it-levels-left)) c.argument_holds-b.ensures))
+holds_in-in_word-requires-2 n c =
+    let few : c.args.levels - 1 ≤ 7 = omega (arith, c.requires) in
+    omega (arith, few-visits _ _ _ _ _ few c.argument_holds-a.ensures, few-visits _ _ _ _ _ few c.argument_holds-b.ensures)
 
 pub holds_in-returns : goal.holds_in-returns
 holds_in-returns n c t section =
