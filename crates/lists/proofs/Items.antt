@@ -9,10 +9,10 @@ use lib.ListN.{length, drop, set, get_or, drop_of_length-le}
 use lib.Seq.{drop-drop, get_or-drop}
 use lib.Dec.{eqb}
 use borrow.Author.Tests.{eq-eqb, ne_eqb}
-use Rattle.rulebook.specs.Words.{until}
-use Rattle.rulebook.specs.Table.{reload, first_item, item_count, item_kind, item_a}
+use Rattle.rulebook.specs.Words.{word, until}
+use Rattle.rulebook.specs.Table.{first_item, item_count, item_kind, item_a}
 use Rattle.rulebook.specs.Reasons.{rule_nests, item_nests, list_within}
-use Rattle.rulebook.specs.Lists.{Run, start, emit, trace_word, trace_list_start, set_port, network_in, asking, set_network, result_in, visits_in, previous_in, choice}
+use Rattle.rulebook.specs.Lists.{Run, start, emit, trace_word, trace_list_start, result_in, visits_in, previous_in, choice}
 use Rattle.rulebook.specs.Lists.{choice_in, set_result, effect, unread, act, stops, judge, run_rule, run_item, run_items, run_list}
 use Rattle.walks.proofs.Walks.{whole}
 use Rattle.laws.proofs.Tests.{clash}
@@ -53,47 +53,6 @@ module _ (t : List ℕ) (i : ℕ) (x : Item) (is : ItemAt t i x) where
 
   abbrev k : ℕ
   k = x.kind
-
-  module _ (s : List ℕ) where
-    pub clears : k ≡ 1 → set_port x.a 1 0 0 s ≡ effect t i s
-    unfolding effect
-    clears h = rw (names-it, eq-eqb (item_kind t i) 1 (sym kind-is ∙ h))
-
-    pub starts : (k ≡ 1 → ⊥) → k ≡ 2 → (m : ℕ) → m ≡ reload t x.a → set_port x.a 1 1 m s ≡ effect t i s
-    unfolding effect
-    starts n₁ h m hm = rw (hm, names-it, ne_eqb (item_kind t i) 1 (λ e. n₁ (kind-is ∙ e)), eq-eqb (item_kind t i) 2 (sym kind-is ∙ h))
-
-    pub stopped : (k ≡ 1 → ⊥) → (k ≡ 2 → ⊥) → k ≡ 3 → set_port x.a 1 0 0 s ≡ effect t i s
-    unfolding effect
-    stopped n₁ n₂ h =
-        rw (
-          names-it,
-          ne_eqb (item_kind t i) 1 (λ e. n₁ (kind-is ∙ e)),
-          ne_eqb (item_kind t i) 2 (λ e. n₂ (kind-is ∙ e)),
-          eq-eqb (item_kind t i) 3 (sym kind-is ∙ h),
-        )
-
-    pub asks : (k ≡ 1 → ⊥) → (k ≡ 2 → ⊥) → (k ≡ 3 → ⊥) → k ≡ 4 → set_network t x.a (asking x.b (network_in t x.a s)) s ≡ effect t i s
-    unfolding effect
-    asks n₁ n₂ n₃ h =
-        rw (
-          names-it,
-          is.b.value,
-          ne_eqb (item_kind t i) 1 (λ e. n₁ (kind-is ∙ e)),
-          ne_eqb (item_kind t i) 2 (λ e. n₂ (kind-is ∙ e)),
-          ne_eqb (item_kind t i) 3 (λ e. n₃ (kind-is ∙ e)),
-          eq-eqb (item_kind t i) 4 (sym kind-is ∙ h),
-        )
-
-    pub leaves : (k ≡ 1 → ⊥) → (k ≡ 2 → ⊥) → (k ≡ 3 → ⊥) → (k ≡ 4 → ⊥) → s ≡ effect t i s
-    unfolding effect
-    leaves n₁ n₂ n₃ n₄ =
-        rw (
-          ne_eqb (item_kind t i) 1 (λ e. n₁ (kind-is ∙ e)),
-          ne_eqb (item_kind t i) 2 (λ e. n₂ (kind-is ∙ e)),
-          ne_eqb (item_kind t i) 3 (λ e. n₃ (kind-is ∙ e)),
-          ne_eqb (item_kind t i) 4 (λ e. n₄ (kind-is ∙ e)),
-        )
 
   -- the word of an item that acts
   pub act-word : (o v : ℕ) (os s : List ℕ) → v ≡ trace_word k o x.a x.b → (act t o i (start os s)).words ≡ v ∷ []
@@ -169,10 +128,6 @@ module _ (os : List ℕ) (read : ℕ) (h : length os ≤ read) where
   none_left : (n : ℕ) → read ≤ n → drop n os ≡ []
   none_left n g = drop_of_length-le os {i = n} (omega arith)
 
-  pub good-past : (t : List ℕ) (i : ℕ) → Stops t i os read false
-  unfolding stops
-  good-past t i y e = rw (e, none_left read (omega arith), and-false)
-
   pub reads-past : (k : ℕ) → k ≡ 0 → ReadOn k os read read
   reads-past k e = rw (e, drop-drop, none_left read (omega arith), none_left (read + 1) (omega arith))
 
@@ -181,6 +136,11 @@ reads_none os read k n = rw (ne_eqb k 0 n)
 
 pub reads-next : (os : List ℕ) (read k : ℕ) → k ≡ 0 → ReadOn k os read (read + 1)
 reads-next os read k e = rw (e, drop-drop)
+
+-- an outcome that does not say failed stops no list, whatever the item is
+pub good-next : (t os : List ℕ) (i read w : ℕ) → w ≡ word os read → (w ≡ 1 → ⊥) → Stops t i os read false
+unfolding stops
+good-next t os i read w is n x e = rw (e, get_or-drop, add-zero, ne_eqb (word os read) 1 (λ z. n (is ∙ z)), and-false)
 
 -- The items from `first` up to `end` of a list of owner o, as the rulebook's `run_items` goes through them; a list that they name has d
 -- levels left.

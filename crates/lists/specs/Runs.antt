@@ -2,19 +2,12 @@
 use Rattle.std.specs.Prelude.{ℕ, ◌+◌, ◌≤◌, ◌<◌, ◌≡◌, Bool, cond, List, ◌++◌, length, drop, eqb}
 use Rattle.rulebook.specs.Table.{item_call}
 use Rattle.rulebook.specs.Lists.{Run, stops}
-use Rattle.words.specs.declared.sections.Layout.{Layout}
-use Rattle.words.specs.Sections.{Laid}
 use Rattle.lists.specs.declared.Written.{Written}
 
 -- Asked before run x: its words fit the lent trace, and its visits fit 32 bits.
 pub record Safe (x : Run) (trace : List ℕ) : Type 0 where
   pub room : length x.words ≤ length trace
   pub few : x.visits < 4294967296
-
--- so asked by all that runs, of the table t in the layout h
-pub record MayRun (t : List ℕ) (h : Layout) (x : Run) (trace : List ℕ) : Type 0 where
-  pub laid : Laid t h
-  pub safe : Safe x trace
 
 -- Promised after it, of the lent outcome words os: the state is the run's; the run's words stand at the front of the trace, whose other
 -- words are unchanged; the count is the number of words written; the outcomes behind those read are the ones that the run has not read;

@@ -5,17 +5,16 @@ ghost use Rattle.std.specs.Prelude.{◌≡◌, true, [], drop};
 ghost use Rattle.rulebook.specs.Lists.{start, trace_word, effect as effect_of, network_in, asking, set_network, choice_in, act as act_of, judge as judge_of};
 ghost use Rattle.rulebook.specs.Lists.{run_list, run_item, run_rule};
 ghost use Rattle.rulebook.specs.Reasons.{rule_nests, item_nests, list_within};
-ghost use Rattle.words.specs.Sections.{Laid};
-ghost use Rattle.lists.specs.Runs.{MayRun, Ran, Addable, Stops, ReadOn, nothing as nothing_written, one_word, plus as plus_of};
+ghost use Rattle.lists.specs.Runs.{Safe, Ran, Addable, Stops, ReadOn, nothing as nothing_written, one_word, plus as plus_of};
 
 use evaluation;
 use words::numbers::{
     ITEM_ASK, ITEM_CALL, ITEM_CLEAR, ITEM_LIST, ITEM_RULE, ITEM_START, ITEM_STOP, NO_LIST,
     TIMER_STARTED, TIMER_STOPPED, TRACE_LIST_START, UNDEFINED_RESULT,
 };
-use words::sections::Layout;
 use words::state::{Network, set_port};
-use words::{put, sections, state};
+use words::table::Table;
+use words::{put, state, word};
 
 // What a run has written, counted from nothing, by one word, and by what one run writes after another; how many of the lent outcome words
 // are read by then; and how many expression words its evaluations have visited.
@@ -26,41 +25,41 @@ pub struct Written {
     pub visits: u32,
 }
 
-pub fn nothing(read: usize) -> Written
-    ensures { result ≡ nothing_written read }
-{
-    Written {
-        count: 0,
-        read,
-        visits: 0,
+impl Written {
+    pub fn nothing(read: usize) -> Written
+        ensures { result ≡ nothing_written read }
+    {
+        Written {
+            count: 0,
+            read,
+            visits: 0,
+        }
     }
-}
 
-fn one_word(read: usize, visits: u32) -> Written
-    ensures { result ≡ one_word read visits }
-{
-    Written {
-        count: 1,
-        read,
-        visits,
+    fn one_word(read: usize, visits: u32) -> Written
+        ensures { result ≡ one_word read visits }
+    {
+        Written {
+            count: 1,
+            read,
+            visits,
+        }
     }
-}
 
-pub fn plus(a: Written, b: Written) -> Written
-    requires { Addable a b }
-    ensures { result ≡ plus_of a b }
-{
-    let count = a.count + b.count;
-    let read = b.read;
-    let visits = a.visits + b.visits;
-    Written {
-        count,
-        read,
-        visits,
+    pub fn plus(self, more: Written) -> Written
+        requires { Addable self more }
+        ensures { result ≡ plus_of self more }
+    {
+        Written {
+            count: self.count + more.count,
+            read: more.read,
+            visits: self.visits + more.visits,
+        }
     }
 }
 
 // A trace word, each field cut to its width.
+#[tactic(auto, unfolding(rulebook::specs::Lists::trace_word))]
 pub fn trace_word(kind: u32, owner: u32, a: u32, b: u32) -> u32
     ensures { result ≡ trace_word kind owner a b }
 {
@@ -68,42 +67,25 @@ pub fn trace_word(kind: u32, owner: u32, a: u32, b: u32) -> u32
 }
 
 // Asks network n for a mode; all else of it stays.
-fn ask(t: &[u32], h: Layout, s: &mut [u32], n: u32, mode: u32)
-    requires { Laid t.now h }
-    ensures { s.new ≡ set_network t.now n (asking mode (network_in t.now n s.old)) s.old }
+fn ask(t: &Table, s: &mut [u32], n: u32, mode: u32)
+    ensures { s.new ≡ set_network t.now.words n (asking mode (network_in t.now.words n s.old)) s.old }
 {
-    let c = state::network_in(t, h, s, n);
-    let asking = Network {
-        asked: mode,
-        state: c.state,
-        counter: c.counter,
-        heard: c.heard,
-        remaining: c.remaining,
-    };
-    state::set_network(t, h, s, n, asking);
+    let c = state::network_in(t, s, n);
+    state::set_network(t, s, n, Network { asked: mode, ..c });
 }
 
 // What item i, of kind 0 to 4, does to the state.
-fn effect(t: &[u32], h: Layout, i: u32, s: &mut [u32])
-    requires { Laid t.now h }
-    ensures { s.new ≡ effect_of t.now i s.old }
+#[tactic(auto, unfolding(rulebook::specs::Lists::effect))]
+fn effect(t: &Table, i: u32, s: &mut [u32])
+    ensures { s.new ≡ effect_of t.now.words i s.old }
 {
-    let item = sections::item_at(t, h, i);
-    if item.kind == ITEM_CLEAR {
-        set_port(s, item.a, 1, 0, 0);
-        return;
-    }
-    if item.kind == ITEM_START {
-        let port = sections::port_at(t, item.a);
-        set_port(s, item.a, 1, TIMER_STARTED, port.reload);
-        return;
-    }
-    if item.kind == ITEM_STOP {
-        set_port(s, item.a, 1, TIMER_STOPPED, 0);
-        return;
-    }
-    if item.kind == ITEM_ASK {
-        ask(t, h, s, item.a, item.b);
+    let item = t.item(i);
+    match item.kind {
+        ITEM_CLEAR => set_port(s, item.a, 1, 0, 0),
+        ITEM_START => set_port(s, item.a, 1, TIMER_STARTED, t.port(item.a).reload),
+        ITEM_STOP => set_port(s, item.a, 1, TIMER_STOPPED, 0),
+        ITEM_ASK => ask(t, s, item.a, item.b),
+        _ => {}
     }
 }
 
@@ -111,19 +93,16 @@ fn effect(t: &[u32], h: Layout, i: u32, s: &mut [u32])
 fn read_on(kind: u32, outcomes: &[u32], read: usize) -> usize
     ensures { ReadOn kind outcomes.now read result }
 {
-    if kind != ITEM_CALL {
-        return read;
+    if kind == ITEM_CALL && read < outcomes.len() {
+        read + 1
+    } else {
+        read
     }
-    if outcomes.len() <= read {
-        return read;
-    }
-    read + 1
 }
 
 // Item i, of kind 0 to 4, in a list of owner o: its effect and its word.
 fn act(
-    t: &[u32],
-    h: Layout,
+    t: &Table,
     o: u32,
     i: u32,
     s: &mut [u32],
@@ -131,28 +110,26 @@ fn act(
     outcomes: &[u32],
     read: usize,
 ) -> Written
-    requires { MayRun t.now h (act_of t.now o i (start (drop read outcomes.now) s.old)) trace.old }
-    ensures { Ran outcomes.now (act_of t.now o i (start (drop read outcomes.now) s.old))
+    requires { Safe (act_of t.now.words o i (start (drop read outcomes.now) s.old)) trace.old }
+    ensures { Ran outcomes.now (act_of t.now.words o i (start (drop read outcomes.now) s.old))
         s.new trace.old trace.new result }
 {
-    effect(t, h, i, s);
-    let item = sections::item_at(t, h, i);
+    effect(t, i, s);
+    let item = t.item(i);
     put(trace, 0, trace_word(item.kind, o, item.a, item.b));
-    one_word(read_on(item.kind, outcomes, read), 0)
+    Written::one_word(read_on(item.kind, outcomes, read), 0)
 }
 
 // Whether item i stops the list that holds it: it is a call with abort, and the outcome that it is about to read says failed. Where no
-// outcome is left every call is good, and no item is looked at.
-fn stops(t: &[u32], h: Layout, i: u32, outcomes: &[u32], read: usize) -> bool
-    requires { Laid t.now h }
-    ensures { Stops t.now i outcomes.now read result }
+// outcome is left every call is good; no item is looked at but for a failed outcome.
+fn stops(t: &Table, i: u32, outcomes: &[u32], read: usize) -> bool
+    ensures { Stops t.now.words i outcomes.now read result }
 {
-    if read < outcomes.len() {
-        let item = sections::item_at(t, h, i);
-        let failed = outcomes[read] == 1;
-        return (item.kind == ITEM_CALL) & (item.abort == 1) & failed;
+    if word(outcomes, read) != 1 {
+        return false;
     }
-    false
+    let item = t.item(i);
+    (item.kind == ITEM_CALL) & (item.abort == 1)
 }
 
 // What comes of judging a rule: the list that it starts, 255 for none, and the visits of its evaluation.
@@ -164,16 +141,16 @@ struct Judged {
 
 // Rule r, which is ready, as an item of a list of owner o: its result is stored and its word written. It reads no outcome, so it is
 // told of none.
-fn judge(t: &[u32], h: Layout, o: u32, r: u32, s: &mut [u32], trace: &mut [u32]) -> Judged
-    requires { MayRun t.now h (judge_of t.now o r (start [] s.old)) trace.old }
-    ensures list_value { result.list ≡ choice_in t.now s.old r }
-    ensures ran { Ran [] (judge_of t.now o r (start [] s.old)) s.new trace.old trace.new
+fn judge(t: &Table, o: u32, r: u32, s: &mut [u32], trace: &mut [u32]) -> Judged
+    requires { Safe (judge_of t.now.words o r (start [] s.old)) trace.old }
+    ensures list_value { result.list ≡ choice_in t.now.words s.old r }
+    ensures ran { Ran [] (judge_of t.now.words o r (start [] s.old)) s.new trace.old trace.new
         (one_word 0 result.visits) }
 {
-    let found = evaluation::result(t, h, s, r);
-    let before = state::result_in(t, h, s, r);
-    let list = evaluation::choice(t, h, r, before, found.result);
-    state::set_result(t, h, s, r, found.result);
+    let found = evaluation::result(t, s, r);
+    let before = state::result_in(t, s, r);
+    let list = evaluation::choice(t, r, before, found.result);
+    state::set_result(t, s, r, found.result);
     put(trace, 0, trace_word(ITEM_RULE, o, r, found.result));
     Judged {
         list,
@@ -186,8 +163,7 @@ fn judge(t: &[u32], h: Layout, o: u32, r: u32, s: &mut [u32], trace: &mut [u32])
 // written. A list has fewer levels left than the one that starts it.
 #[cycle(run_item_run_list_run_rule)]
 pub fn run_list(
-    t: &[u32],
-    h: Layout,
+    t: &Table,
     l: u32,
     levels: u32,
     s: &mut [u32],
@@ -195,37 +171,23 @@ pub fn run_list(
     outcomes: &[u32],
     read: usize,
 ) -> Written
-    requires l_value { list_within levels t.now l ≡ true }
-    requires may_run { MayRun t.now h (run_list levels t.now l (start (drop read outcomes.now) s.old)) trace.old }
-    ensures { Ran outcomes.now (run_list levels t.now l (start (drop read outcomes.now) s.old))
+    requires l_value { list_within levels t.now.words l ≡ true }
+    requires safe { Safe (run_list levels t.now.words l (start (drop read outcomes.now) s.old)) trace.old }
+    ensures { Ran outcomes.now (run_list levels t.now.words l (start (drop read outcomes.now) s.old))
         s.new trace.old trace.new result }
 {
-    let list = sections::list_at(t, h, l);
+    let list = t.list(l);
     put(trace, 0, trace_word(TRACE_LIST_START, list.owner, l, 0));
     let below = levels - 1;
-    let mut written = one_word(read, 0);
-    let end = list.first_item + list.item_count;
-    let mut i = list.first_item;
-    while i < end {
-        let at = written.count;
-        let next = written.read;
-        let last = stops(t, h, i, outcomes, next);
-        let more = run_item(
-            t,
-            h,
-            list.owner,
-            i,
-            below,
-            s,
-            &mut trace[at..],
-            outcomes,
-            next,
-        );
-        written = plus(written, more);
+    let mut written = Written::one_word(read, 0);
+    for i in list.first_item..list.first_item + list.item_count {
+        let last = stops(t, i, outcomes, written.read);
+        let rest = &mut trace[written.count..];
+        let more = run_item(t, list.owner, i, below, s, rest, outcomes, written.read);
+        written = written.plus(more);
         if last {
             return written;
         }
-        i += 1;
     }
     written
 }
@@ -233,8 +195,7 @@ pub fn run_list(
 // Item i of a list of owner o.
 #[cycle(run_item_run_list_run_rule)]
 fn run_item(
-    t: &[u32],
-    h: Layout,
+    t: &Table,
     o: u32,
     i: u32,
     below: u32,
@@ -243,27 +204,26 @@ fn run_item(
     outcomes: &[u32],
     read: usize,
 ) -> Written
-    requires i_value { item_nests t.now (list_within below t.now) i ≡ true }
-    requires may_run { MayRun t.now h (run_item (run_list below t.now) t.now o i (start (drop read outcomes.now) s.old)) trace.old }
-    ensures { Ran outcomes.now (run_item (run_list below t.now) t.now o i
+    requires i_value { item_nests t.now.words (list_within below t.now.words) i ≡ true }
+    requires safe { Safe (run_item (run_list below t.now.words) t.now.words o i (start (drop read outcomes.now) s.old)) trace.old }
+    ensures { Ran outcomes.now (run_item (run_list below t.now.words) t.now.words o i
         (start (drop read outcomes.now) s.old))
         s.new trace.old trace.new result }
 {
-    let item = sections::item_at(t, h, i);
+    let item = t.item(i);
     if item.kind == ITEM_LIST {
-        return run_list(t, h, item.a, below, s, trace, outcomes, read);
+        return run_list(t, item.a, below, s, trace, outcomes, read);
     }
     if item.kind == ITEM_RULE {
-        return run_rule(t, h, o, item.a, below, s, trace, outcomes, read);
+        return run_rule(t, o, item.a, below, s, trace, outcomes, read);
     }
-    act(t, h, o, i, s, trace, outcomes, read)
+    act(t, o, i, s, trace, outcomes, read)
 }
 
 // Rule item r of a list of owner o.
 #[cycle(run_item_run_list_run_rule)]
 fn run_rule(
-    t: &[u32],
-    h: Layout,
+    t: &Table,
     o: u32,
     r: u32,
     below: u32,
@@ -272,21 +232,21 @@ fn run_rule(
     outcomes: &[u32],
     read: usize,
 ) -> Written
-    requires r_value { rule_nests t.now (list_within below t.now) r ≡ true }
-    requires may_run { MayRun t.now h (run_rule (run_list below t.now) t.now o r (start (drop read outcomes.now) s.old)) trace.old }
-    ensures { Ran outcomes.now (run_rule (run_list below t.now) t.now o r
+    requires r_value { rule_nests t.now.words (list_within below t.now.words) r ≡ true }
+    requires safe { Safe (run_rule (run_list below t.now.words) t.now.words o r (start (drop read outcomes.now) s.old)) trace.old }
+    ensures { Ran outcomes.now (run_rule (run_list below t.now.words) t.now.words o r
         (start (drop read outcomes.now) s.old))
         s.new trace.old trace.new result }
 {
-    if evaluation::unready(t, h, s, r) {
+    if evaluation::unready(t, s, r) {
         put(trace, 0, trace_word(ITEM_RULE, o, r, UNDEFINED_RESULT));
-        return one_word(read, 0);
+        return Written::one_word(read, 0);
     }
-    let judged = judge(t, h, o, r, s, trace);
-    let first = one_word(read, judged.visits);
+    let judged = judge(t, o, r, s, trace);
+    let first = Written::one_word(read, judged.visits);
     if judged.list == NO_LIST {
         return first;
     }
-    let more = run_list(t, h, judged.list, below, s, &mut trace[1..], outcomes, read);
-    plus(first, more)
+    let more = run_list(t, judged.list, below, s, &mut trace[1..], outcomes, read);
+    first.plus(more)
 }

@@ -1,7 +1,6 @@
 -- The cycle of lists, items and rules. A list stands above its items, an item above its rule, a rule above the list that it starts, and each
 -- list has a level less: hence the measures 3 * levels, and 3 * below + 2, + 1. The loop over items keeps `Along`.
-use Rattle.std.proofs.Common.{◌-◌, ◌≡◌, drop, ◌+◌, ◌*◌, ◌≤◌, length}
-use Rattle.rulebook.specs.Table.{first_item}
+use Rattle.std.proofs.Common.{◌+◌, ◌*◌}
 use Rattle.rulebook.specs.Lists.{run_list}
 use Rattle.lists.proofs.Along.{begin, Along}
 use Rattle.lists.proofs.Items.{items_from}
@@ -18,9 +17,5 @@ decreases-run_rule k = 3 * k.below + 1
 
 abbrev pub invariant-run_list-loop-i : goal.invariant-run_list-loop-i
 invariant-run_list-loop-i k =
-    (length k.s ≡ length k.initial.s) × (first_item k.t k.l ≤ k.i)
-    × Along k.outcomes (run_list k.levels k.t k.l (begin k.outcomes k.read k.initial.s)) (items_from k.t k.below k.list.owner k.i k.end)
+    Along k.outcomes (run_list k.levels k.t.words k.l (begin k.outcomes k.read k.initial.s)) (items_from k.t.words k.below k.list.owner k.i k.i-end)
     k.initial.trace k.s k.trace k.written
-
-abbrev pub decreases-run_list-loop-i : goal.decreases-run_list-loop-i
-decreases-run_list-loop-i k = k.end - k.i

@@ -1,12 +1,14 @@
--- `lists::stops` meets its contract: by the outcome about to be read, or by that none is left. Assumes nothing.
-use mathlib.Core.Path.{refl}
-use Rattle.lists.proofs.Items.{stops-by, good-past}
-use borrow.Author.Rules.{rules}
+-- `lists::stops` meets its contract: by the outcome about to be read, or by that it does not say failed. Assumes nothing.
+use mathlib.Core.Path.{sym, ◌∙◌}
+use mathlib.Core.Bool.{and-true}
+use borrow.Author.Tests.{eq-eqb}
+use Rattle.lists.proofs.Items.{stops-by, good-next}
 use Rattle.lists.proofs.stops.Goals as goal
 
-pub returns-then-read-outcomes : goal.returns-then-read-outcomes
-returns-then-read-outcomes c =
-    stops-by _ _ _ c.item_at-item.ensures c.args.outcomes.now c.args.read _ refl
+pub returns-then-word-ne1 : goal.returns-then-word-ne1
+returns-then-word-ne1 c = good-next _ c.args.outcomes.now _ c.args.read _ c.word.ensures c.if-word-ne1.true
 
 pub returns : goal.returns
-returns c = good-past _ _ c.if-read-outcomes.false _ _
+returns c =
+    stops-by _ _ _ c.item-item.ensures c.args.outcomes.now c.args.read _
+    (sym (rw (eq-eqb _ 1 (sym c.word.ensures ∙ c.if-word-ne1.false), and-true)))
