@@ -1,7 +1,8 @@
 -- Which ports are arbitrated: one port, the marked ports, none. Assumes nothing.
 use Prim.Native.Nat.{ℕ, zero, suc, ◌+◌, ◌<◌, ◌≤◌}
 use mathlib.Core.Path.{◌≡◌, refl, sym, ap, fun_ext, ◌∙◌}
-use mathlib.Core.Bool.{Bool, false, cond, and-false}
+use mathlib.Core.Bool.{Bool, true, false, cond, and-false}
+use mir.Val.{bool_byte}
 use mathlib.Core.List.{List}
 use native.Mathlib.Omega.{arith}
 use lib.ListN.{length, drop, set, length-set, replicate}
@@ -57,6 +58,11 @@ marked_more p v t s flags b inside m hv hb =
       says = raise-more (marked_in t s) flags p v b room hv hb m.says;
       rest = λ k h. set-flag-other flags p k v (λ e. absurd (omega arith)) ∙ m.rest k (omega arith);
     }
+
+-- a flag put up by a truth value is 1 or 0
+pub flag-of : (b : Bool) → bool_byte b ≡ cond b 1 0
+flag-of true = refl
+flag-of false = refl
 
 pub all-marked : (p : ℕ) (t s flags : List ℕ) → ports t ≤ p → MarkedBefore p t s flags → Marked t s flags
 unfolding marked_in

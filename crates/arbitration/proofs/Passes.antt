@@ -15,14 +15,12 @@ use Rattle.rulebook.specs.Lists.{start, visit, result_in, previous_in, list_for,
 use Rattle.rulebook.specs.Arbitration.{unmark_ports, evaluated, store_result, store_results, visits_by, rule_visits, chooses, chosen}
 use Rattle.rulebook.specs.Arbitration.{order, run_chosen, decide, arbitrate}
 use Rattle.words.specs.Flags.{flagged}
-use Rattle.evaluation.specs.declared.Found.{Found}
-use Rattle.evaluation.specs.Found.{Finds}
 use Rattle.words.proofs.Fill.{raised-flag, none-of-zeros}
 use Rattle.walks.proofs.Walks.{any_step, any-end, sum-turn, sum-end}
 use Rattle.laws.proofs.Tests.{split}
 use Rattle.laws.proofs.Fields.{digit-small}
 use Rattle.laws.proofs.Items.{result-small}
-use Rattle.arbitration.specs.Results.{rule_result, FoundBy, Results, store_by, chooses_by, pick_by, Chosen}
+use Rattle.arbitration.specs.Results.{rule_result, Results, store_by, chooses_by, pick_by, Chosen}
 
 list-small : (t : List ℕ) (r result : ℕ) → list_for t r result < 256
 list-small t r result = split (eqb result 1) (λ e. rw e (digit-small _ 256 _ (omega arith))) (λ e. rw e (digit-small _ 256 _ (omega arith)))
@@ -58,16 +56,6 @@ pub chose-all : (t results s flags : List ℕ) (r : ℕ) → length flags ≡ 25
     → ((k : ℕ) → any 0 (rules t) (chooses_by t results s k) ≡ (flagged flags k || any r (rules t - r) (chooses_by t results s k))) → Chosen t results s flags
 chose-all t results s flags r long h says =
     record { long = long; says = λ k. sym (says k ∙ rw (any-end r (rules t) (chooses_by t results s k) h, or-false)) }
-
--- What is found of a rule that is evaluated, and of one that is not.
-module _ (t : List ℕ) (q : ℕ → Bool) (s : List ℕ) (r : ℕ) where
-  pub looked-at : (x : Found) → evaluated t q s r ≡ true → Finds t s r x → FoundBy t q s r x
-  unfolding rule_result visits_by
-  looked-at x e f = record { result = rw e f.result; visits = rw e f.visits }
-
-  pub passed_over : evaluated t q s r ≡ false → FoundBy t q s r (record { result = 2; visits = 0 })
-  unfolding rule_result visits_by
-  passed_over e = record { result = rw e; visits = rw e }
 
 -- The visits counted so far, with those of the rules from r on.
 module _ (t : List ℕ) (q : ℕ → Bool) (s : List ℕ) where

@@ -24,9 +24,6 @@ use Rattle.arbitration.specs.Picking.{better, Best}
 
 -- The loop for the best.
 
-pub best_none : (t flags : List ℕ) (l : ℕ) → lists t ≤ l → Best t flags 0 l
-best_none t flags l h = record { up = λ b. absurd (omega arith); below = λ b. absurd (omega arith); first = λ k b u. absurd (omega arith) }
-
 here-or-before : (k n : ℕ) → k < n + 1 → (k ≡ n) ⊎ (k < n)
 here-or-before k n h = split (eqb k n) (λ e. inl (eqb-true k n e)) (λ e. inr (let z : (k ≡ n → ⊥) = eqb-false k n e in omega arith))
 

@@ -1,13 +1,11 @@
--- The chosen lists along a lent trace and lent outcomes: the start, the next one, and the end. Assumes nothing.
+-- The chosen lists along a lent trace and lent outcomes: the next one and the end. Assumes nothing.
 use Prim.Native.Nat.{ℕ, ◌<◌, ◌≤◌}
-use mathlib.Core.Path.{◌≡◌, refl}
+use mathlib.Core.Path.{◌≡◌}
 use mathlib.Core.List.{List}
-use native.Mathlib.Nat.{zero-add}
-use native.Mathlib.Omega.{arith}
 use lib.ListN.{set}
 use Rattle.rulebook.specs.Table.{lists}
 use Rattle.rulebook.specs.Expressions.{deepest}
-use Rattle.rulebook.specs.Lists.{Run, visit, run_list}
+use Rattle.rulebook.specs.Lists.{Run, run_list}
 use Rattle.rulebook.specs.Arbitration.{order, run_chosen}
 use Rattle.words.specs.Flags.{flagged}
 use Rattle.laws.proofs.Frame.{list-framed, chosen-framed}
@@ -17,12 +15,6 @@ use Rattle.lists.proofs.Along.{begin, Along, along-as, along-end, next-safe, nex
 use Rattle.lists.proofs.Cycle.{behind, anew}
 use Rattle.arbitration.specs.Picking.{Best}
 use Rattle.arbitration.proofs.Picking.{chosen-turn, chosen-end}
-
--- before the first one nothing is written, and the rules' visits are made
-pub chosen-start : (t flags os : List ℕ) (read visits : ℕ) (s T : List ℕ)
-    → Along os (run_chosen t (flagged flags) (order t) (visit visits (begin os read s))) (run_chosen t (flagged flags) (order t)) T s T
-    (record { count = 0; read = read; visits = visits })
-chosen-start t flags os read visits s T = record { run = rw zero-add; kept = refl; inside = omega arith; long = refl }
 
 module _ (t flags : List ℕ) (l : ℕ) (b : Best t flags (lists t) l) (os : List ℕ) (whole : Run) (before s T : List ℕ) (w : Written)
     (a : Along os whole (run_chosen t (flagged flags) (order t)) before s T w) where

@@ -1,35 +1,16 @@
--- `arbitration::any_marked` meets its contract. The loop's invariant: what the whole walk gives is what the rest of it gives. Assumes nothing.
-use Prim.Native.Nat.{◌-◌}
-use mathlib.Core.Path.{◌≡◌, sym, ◌∙◌}
-use native.Mathlib.Nat.{sub-zero}
-use Rattle.rulebook.specs.Words.{any}
-use Rattle.rulebook.specs.Table as Table
+-- `arbitration::any_marked` meets its contract: the chain asks for each port in turn. Assumes nothing.
+use Rattle.std.proofs.Common.{rules, arith, sym, refl, ◌∙◌, tests}
+use Rattle.std.proofs.lemmas.Iterator.{YieldsList-from_range}
+use Rattle.std.proofs.lemmas.Iterator.Search.{any_from_yields_List}
+use Rattle.rulebook.specs.Table.{ports}
 use Rattle.rulebook.specs.Events.{marked_in}
-use Rattle.walks.proofs.Walks.{any-turn, any_here, any-end}
-use native.Mathlib.Omega.{arith}
-use borrow.Author.Rules.{rules}
+use Rattle.evaluation.proofs.Ranges.{any-listed}
 use Rattle.arbitration.proofs.any_marked.Goals as goal
 
-pub loop-p-init : goal.loop-p-init
-loop-p-init c = rw sub-zero
-
-pub returns-then-is_marked : goal.returns-then-is_marked
-returns-then-is_marked c =
-    sym (c.loop-p.invariant ∙ any_here _ _ _
-    (omega (arith, c.loop-p-test.true, c.requires.ports.value))
-    (sym c.is_marked.ensures ∙ c.if-is_marked.true))
-
-pub overflow_add-p : goal.overflow_add-p
-overflow_add-p c = omega (arith, c.loop-p-test.true, c.requires.ports.small)
-
-pub loop-p-smaller : goal.loop-p-smaller
-loop-p-smaller c = omega (arith, c.loop-p-test.true)
-
-pub loop-p-preserved : goal.loop-p-preserved
-loop-p-preserved c =
-    c.loop-p.invariant ∙ any-turn _ _ _
-    (omega (arith, c.loop-p-test.true, c.requires.ports.value))
-    (sym c.is_marked.ensures ∙ c.if-is_marked.false)
-
 pub returns : goal.returns
-returns c = sym (c.loop-p.invariant ∙ any-end _ _ _ (omega (arith, c.loop-p-test.false, c.requires.ports.value)))
+returns c =
+    let marked = marked_in c.args.t.now.words c.args.s.now in
+    let n = ports c.args.t.now.words in
+    any_from_yields_List marked _ _ _ c.any.ensures.ran (YieldsList-from_range 0 c.ports.result n refl (omega (arith, c.ports.ensures.value)))
+    (λ x b q k. search (rules, tests))
+    ∙ sym (any-listed marked 0 n)
