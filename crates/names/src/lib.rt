@@ -42,7 +42,8 @@ fn source_names(t: &Table, k: u32) -> bool
     ensures { result ≡ names_of t.now.words (at_source k) }
 {
     let port = t.source(k).port;
-    may_show(t, port) & !held(t, port, t.networks(), k)
+    let networks = t.networks();
+    may_show(t, port) & !held(t, port, networks, k)
 }
 
 fn expression_names(t: &Table, e: u32) -> bool

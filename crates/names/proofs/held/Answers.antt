@@ -10,6 +10,6 @@ unfolding held network_has source_has
 returns c =
     let t = c.args.t.now.words in
     rw (
-      any-of_range (network_has t c.args.p) 0 _ c.args.n c.any.ensures.ran refl (omega arith) (λ x y h k. search (rules, tests)),
-      any-of_range (source_has t c.args.p) 0 _ c.args.k c.any-2.ensures.ran refl (omega arith) (λ x y h k. search (rules, tests)),
+      any-of_range (network_has t c.args.p) 0 c.args.n c.any.ensures.ran refl (omega arith) (λ x y h k. search (rules, tests)),
+      any-of_range (source_has t c.args.p) 0 c.args.k c.any-2.ensures.ran refl (omega arith) (λ x y h k. search (rules, tests)),
     )

@@ -5,4 +5,4 @@ use Rattle.names.proofs.source_names.Goals as goal
 pub returns : goal.returns
 unfolding names
 returns c =
-    rw (c.may_show.ensures, c.held.ensures, c.source-port.ensures.port.value, c.networks.ensures.value)
+    rw (c.may_show.ensures, c.held.ensures, c.source-port.ensures.port.value, c.networks-networks.ensures.value)
