@@ -2,9 +2,10 @@
 // with one level less each time.
 #![tactic(auto)]
 
-ghost use Rattle.std.specs.Prelude.{◌≡◌};
+ghost use Rattle.std.specs.Prelude.{◌≡◌, ℕ, Bool};
 ghost use Rattle.rulebook.specs.Expressions.{expression_within, mentions as mentions_of};
 ghost use Rattle.words.specs.Flags.{flagged};
+ghost use Rattle.expression.specs.Tests.{Computes};
 
 use words::expressions::{condition_port, expression_kind, is_operator, left, right};
 use words::flag;
@@ -32,9 +33,10 @@ pub fn within(t: &Table, e: u32, levels: u32) -> bool
     within(t, right(w), levels - 1)
 }
 
-// Whether expression e, down to so many levels, mentions a port whose flag is up.
-pub fn mentions(t: &Table, flags: &[u32], e: u32, levels: u32) -> bool
-    ensures { result ≡ mentions_of levels t.now.words (flagged flags.now) e }
+// Whether expression e, down to so many levels, mentions a port of which `asked` is true.
+pub fn mentions_where<F: Fn(u32) -> bool>(t: &Table, asked: &F, e: u32, levels: u32) -> bool
+    requires { F.IsAlwaysCallable asked.now }
+    ensures { (q : ℕ → Bool) → Computes (F.post asked.now) q → result ≡ mentions_of levels t.now.words q e }
 {
     if levels == 0 {
         return false;
@@ -42,13 +44,20 @@ pub fn mentions(t: &Table, flags: &[u32], e: u32, levels: u32) -> bool
     let w = t.expression_word(e);
     let kind = expression_kind(w);
     if !is_operator(kind) {
-        return flag(flags, condition_port(w));
+        return asked(condition_port(w));
     }
-    if mentions(t, flags, left(w), levels - 1) {
+    if mentions_where(t, asked, left(w), levels - 1) {
         return true;
     }
     if kind == OPERATOR_NOT {
         return false;
     }
-    mentions(t, flags, right(w), levels - 1)
+    mentions_where(t, asked, right(w), levels - 1)
+}
+
+// Whether expression e, down to so many levels, mentions a port whose flag is up.
+pub fn mentions(t: &Table, flags: &[u32], e: u32, levels: u32) -> bool
+    ensures { result ≡ mentions_of levels t.now.words (flagged flags.now) e }
+{
+    mentions_where(t, &|p| flag(flags, p), e, levels)
 }

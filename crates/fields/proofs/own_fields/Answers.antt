@@ -1,6 +1,5 @@
 -- `fields::own_fields` meets its contract, arm by arm. Assumes nothing.
 use Rattle.rulebook.specs.Reasons.{own_fields}
-use borrow.Author.Rules.{rules}
 use Rattle.fields.proofs.own_fields.Goals as goal
 
 pub returns-in-Header : goal.returns-in-Header

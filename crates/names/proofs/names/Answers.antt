@@ -1,6 +1,5 @@
 -- `names::names` meets its contract, arm by arm. Assumes nothing.
 use Rattle.rulebook.specs.Reasons.{names}
-use borrow.Author.Rules.{rules}
 use Rattle.names.proofs.names.Goals as goal
 
 pub returns-in-Header : goal.returns-in-Header

@@ -16,11 +16,11 @@ module _ (rule : List ℕ → Part → Bool) (t : List ℕ) (i e : ℕ) (r : Boo
   unfolding breaks
   broken = ap not (sym judged)
 
-  pub scan-here : not r ≡ true → first i (e - i) (breaks rule t) ≡ i
-  scan-here bad = first-here i e (breaks rule t) inside (broken ∙ bad)
+  pub scan-here : r ≡ false → first i (e - i) (breaks rule t) ≡ i
+  scan-here bad = first-here i e (breaks rule t) inside (broken ∙ ap not bad)
 
-  pub scan-turn : not r ≡ false → first i (e - i) (breaks rule t) ≡ first (i + 1) (e - (i + 1)) (breaks rule t)
-  scan-turn good = first-turn i e (breaks rule t) inside (broken ∙ good)
+  pub scan-turn : r ≡ true → first i (e - i) (breaks rule t) ≡ first (i + 1) (e - (i + 1)) (breaks rule t)
+  scan-turn good = first-turn i e (breaks rule t) inside (broken ∙ ap not good)
 
 -- the scan of the whole table, which is n long, where the loop begins
 pub scan-start : (rule : List ℕ → Part → Bool) (t : List ℕ) (n : ℕ) → length t ≡ n → lowest rule t ≡ first 0 (n - 0) (breaks rule t)
