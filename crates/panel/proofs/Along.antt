@@ -1,15 +1,14 @@
 -- The two loops over a part's words: what its lines leave of a room, and the lines laid. Both go by the lines that are still to come.
 -- Assumes nothing.
 use Prim.Native.Nat.{ℕ, ◌+◌, ◌-◌, ◌<◌, ◌≤◌}
-use mathlib.Core.Path.{◌≡◌, refl, sym, ap, subst, ◌∙◌}
+use mathlib.Core.Path.{◌≡◌, refl, sym, ap, ◌∙◌}
 use mathlib.Core.List.{List, [], ◌++◌}
 use native.Mathlib.Omega.{arith}
 use lib.ListN.{length, length-append}
 use Rattle.text.specs.Puts.{lay, PutAt}
-use Rattle.text.proofs.Lay.{lay-none, lay-more, length-lay}
+use Rattle.text.proofs.Lay.{lay-none, lay-more}
 use Rattle.text.proofs.Puts.{put-more, put-length}
-use Rattle.panel.specs.declared.Room.{Room}
-use Rattle.panel.specs.declared.Room.TheVariants.{Left, Short}
+use Rattle.std.proofs.Common.{Option, Some, None}
 use Rattle.panel.specs.Printed.{count, line_at, lines, part_lines, panel, the_ports, the_networks, the_sources, the_trace}
 use Rattle.panel.specs.Inside.{Leaves}
 use Rattle.panel.proofs.Parts.{lines_next, lines_none}
@@ -88,14 +87,6 @@ put-none out at = record { place = omega arith; bytes = sym (lay-none out at) }
 
 -- One part behind the other.
 
--- what lines leave of a room, by the answer
-
-pub left-of : (xs : List ℕ) (room : ℕ) {left : ℕ} {r : Room} → r ≡ Left left → Leaves xs room r → left + length xs ≡ room
-left-of xs room e l = subst (λ (r : Room). Leaves xs room r) e l
-
-pub short-of : (xs : List ℕ) (room : ℕ) {r : Room} → r ≡ Short → Leaves xs room r → room < length xs
-short-of xs room e l = subst (λ (r : Room). Leaves xs room r) e l
-
 module _ (o : ℕ) (t s ws : List ℕ) where
   abbrev pub of : ℕ → List ℕ
   of part = part_lines part o t s ws
@@ -118,9 +109,9 @@ module _ (o : ℕ) (t s ws : List ℕ) where
         pub no-room-sources : l₂ < length (of the_sources) → room < length (panel o t s ws)
         no-room-sources h = omega (arith, length-panel)
 
-        pub panel-leaves : (l₃ : ℕ) → l₃ + length (of the_sources) ≡ l₂ → (r : Room) → Leaves (of the_trace) l₃ r → Leaves (panel o t s ws) room r
-        panel-leaves l₃ sources (Left n) h = omega (arith, length-panel)
-        panel-leaves l₃ sources Short h = omega (arith, length-panel)
+        pub panel-leaves : (l₃ : ℕ) → l₃ + length (of the_sources) ≡ l₂ → (r : Option ℕ) → Leaves (of the_trace) l₃ r → Leaves (panel o t s ws) room r
+        panel-leaves l₃ sources (Some n) h = omega (arith, length-panel)
+        panel-leaves l₃ sources None h = omega (arith, length-panel)
 
   -- the four parts laid one behind the other, and that each has room
 
