@@ -10,7 +10,6 @@ ghost use Rattle.telling.specs.Told.{event_line, verdict_label, verdict_line, la
 ghost use Rattle.telling.specs.Promises.{Took, Judges, both, head, Tells, Room, Adopts};
 
 use manager::Fit;
-use text::number::least;
 use text::output::{put_decimal, put_decimal_line, put_hex_line, put_label};
 use words::sections::Layout;
 
@@ -59,7 +58,7 @@ pub struct Judged {
 pub fn judge(answer: u32, ours: &[u32], state: &[u32], said: u32, words: &[u32]) -> Judged
     ensures { Judges answer ours.now state.now said words.now result }
 {
-    let cut = least(state.len(), words.len());
+    let cut = state.len().min(words.len());
     if answer != said {
         return Judged {
             verdict: ANSWERS_PART,
@@ -129,10 +128,8 @@ fn lay_words(out: &mut [u8], at: usize, label: &[u8], words: &[u32], from: usize
     ensures { PutAt (labelled label.now (drop from words.now)) out.old at result out.new }
 {
     let mut next = at;
-    let mut i = from;
-    while i < words.len() {
+    for i in from..words.len() {
         next = lay_word(out, next, label, words[i]);
-        i += 1;
     }
     next
 }
@@ -239,10 +236,6 @@ pub fn adopt(t: &[u32], s: &mut [u32], words: &[u32]) -> bool
     let Fit::Fits = fit else {
         return false;
     };
-    let mut i = 0;
-    while i < n {
-        s[i] = words[i];
-        i += 1;
-    }
+    s.copy_from_slice(&words[..n]);
     true
 }

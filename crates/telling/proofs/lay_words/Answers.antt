@@ -21,6 +21,3 @@ returns c = laid_end _ _ _ _ _ c.requires _ _ _ c.loop-i.invariant (omega arith)
 
 pub loop-i-init : goal.loop-i-init
 loop-i-init c = record { place = refl; bytes = refl; long = refl }
-
-pub shape_of-out : goal.shape_of-out
-shape_of-out c = c.loop-i.invariant.long

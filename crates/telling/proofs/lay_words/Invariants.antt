@@ -10,6 +10,3 @@ use Rattle.telling.proofs.lay_words.Given as goal
 
 abbrev pub invariant-loop-i : goal.invariant-loop-i
 invariant-loop-i l = LaidOf l.label l.words l.initial.out (labelled l.label (drop l.from l.words)) l.at l.next l.out l.i
-
-abbrev pub decreases-loop-i : goal.decreases-loop-i
-decreases-loop-i l = length l.words - l.i
