@@ -1,7 +1,5 @@
 -- `hold::hold` meets its promise: our step refused, or the two recordings compared. Assumes nothing.
-use borrow.Author.Rules.{rules}
-use mathlib.Core.Path.{sym, ap, ◌∙◌}
-use native.Mathlib.Omega.{arith}
+use mathlib.Core.Path.{sym, ap}
 use lib.Seq.{length-take-le}
 use Rattle.events.specs.Answers.{number_of}
 use Rattle.manager.proofs.Playing.{not_done}
