@@ -10,7 +10,7 @@ use Rattle.rulebook.specs.Words.{word}
 use Rattle.rulebook.specs.Table.{table_length}
 use Rattle.rulebook.specs.Listing.{form_at, by_kind}
 use Rattle.listing.specs.Lines.{line, first_lines, ListingOf}
-use Rattle.listing.specs.Inside.{HasLine}
+use Rattle.listing.specs.Inside.{HasLine, Told}
 use Rattle.listing.specs.Promises.{ReadsWords}
 use Rattle.listing.proofs.Places.{Heads, long_same, form-same, form-bound}
 use Rattle.listing.proofs.Decoding.{one_line}
@@ -21,6 +21,10 @@ pub record Written (text table lent after : List ℕ) (at i : ℕ) : Type 0 wher
   pub inside : at ≤ length text
   pub words : after ≡ take i table ++ drop i lent
   pub to : i ≤ length table
+
+-- the words that are lent have room for the table's
+pub fits : (text header lent : List ℕ) (n : ℕ) (told : Told text header lent n) → length told.whole.table ≤ length lent
+fits text header lent n told = omega (arith, told.whole.count, told.room)
 
 module _ (text table lent : List ℕ) (is : ListingOf text table) (room : length table ≤ length lent) where
   pub begin : Written text table lent lent 0 0
