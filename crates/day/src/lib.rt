@@ -11,7 +11,6 @@ ghost use Rattle.words.specs.State.{thing_of};
 ghost use Rattle.day.specs.Printed.{trace_line, trace_lines, number as number_of, named, thing_line, space};
 ghost use Rattle.day.specs.Promises.{PlaysPart, LaysState, LaysEnd};
 
-use text::number::least;
 use text::output::{put_decimal, put_hex_line, put_label};
 use words::sections::{Layout, read_layout};
 use words::state::{Thing, thing_at};
@@ -41,10 +40,8 @@ fn lay_trace(out: &mut [u8], trace: &[u32], count: usize) -> usize
     ensures { PutAt (trace_lines (take count trace.now)) out.old 0 result out.new }
 {
     let mut at = 0;
-    let mut i = 0;
-    while i < count {
+    for i in 0..count {
         at = lay_trace_word(out, at, trace[i]);
-        i += 1;
     }
     at
 }
@@ -71,7 +68,7 @@ pub fn play_part(
     ensures { PlaysPart t.now s.old trace.old events.now out.old result
         s.new trace.new out.new }
 {
-    let room = least(trace.len(), out.len() / 15);
+    let room = trace.len().min(out.len() / 15);
     let played = manager::play(t, s, &mut trace[..room], events);
     let taken = played.taken;
     let visits = played.visits;
@@ -135,10 +132,8 @@ pub fn lay_state(t: &[u32], s: &[u32], out: &mut [u8]) -> usize
         return 0;
     }
     let mut at = 0;
-    let mut i = 0;
-    while i < words {
+    for i in 0..words {
         at = lay_state_word(t, h, i, s[i], out, at);
-        i += 1;
     }
     at
 }

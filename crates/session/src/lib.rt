@@ -12,7 +12,6 @@ ghost use Rattle.session.specs.Promises.{Opens, PutLines, Ready, TookOne, offere
 use states::{Admission, admit};
 use tables::Checked;
 use text::input::{read_word, word_count};
-use text::number::past;
 use text::output::{put_decimal_line, put_words};
 use words::sections::{Layout, read_accepted};
 
@@ -140,16 +139,20 @@ pub fn take_events(
         };
     }
     let h = read_accepted(t);
-    let total = past(word_count(bytes), from);
-    let mut i = 0;
+    let total = word_count(bytes).saturating_sub(from);
     let mut at = 0;
-    while i < total && MOST <= past(out.len(), at) {
+    for i in 0..total {
+        if out.len().saturating_sub(at) < MOST {
+            return Taken {
+                events: i,
+                bytes: at,
+            };
+        }
         let e = read_word(bytes, from + i);
         at = take_one(t, h, e, s, trace, out, at);
-        i += 1;
     }
     Taken {
-        events: i,
+        events: total,
         bytes: at,
     }
 }

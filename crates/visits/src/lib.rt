@@ -9,7 +9,6 @@ ghost use Rattle.visits.specs.Printed.{labelled, cost_line, which, largest_line,
 ghost use Rattle.visits.specs.Promises.{most_number, most_line, most_behind, PutFew, TookOne, Countable, TookEvents, LaysMost};
 
 use text::input::{read_word, word_count};
-use text::number::past;
 use text::output::{put_decimal, put_label};
 use words::sections::{Layout, read_accepted, read_layout};
 
@@ -160,19 +159,24 @@ pub fn take_events(
         };
     }
     let h = read_accepted(t);
-    let total = past(word_count(bytes), from);
+    let total = word_count(bytes).saturating_sub(from);
     let mut so_far = most;
-    let mut i = 0;
     let mut at = 0;
-    while i < total && MOST_LINE <= past(out.len(), at) {
+    for i in 0..total {
+        if out.len().saturating_sub(at) < MOST_LINE {
+            return Taken {
+                events: i,
+                bytes: at,
+                most: so_far,
+            };
+        }
         let e = read_word(bytes, from + i);
         let cost = take_one(t, h, e, so_far.events, s, trace, out, at);
         so_far = counted(so_far, cost.trace, cost.visits);
         at = cost.next;
-        i += 1;
     }
     Taken {
-        events: i,
+        events: total,
         bytes: at,
         most: so_far,
     }

@@ -1,5 +1,4 @@
 -- `telling::take_one` meets its contract: the call is safe, and what it reports is the step. Assumes nothing.
-use borrow.Author.Rules.{rules}
 use Rattle.manager.proofs.Steps.{bounded-by}
 use Rattle.manager.proofs.Playing.{none-behind}
 use Rattle.session.proofs.Steps.{run-safe, number_is, count-is, state-is, words_are}
