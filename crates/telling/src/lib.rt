@@ -4,37 +4,14 @@
 ghost use Rattle.std.specs.Prelude.{◌≡◌, true, ◌++◌, ◌+◌, ◌≤◌, min, length, take, drop, eqb};
 ghost use Rattle.text.specs.Lines.{hex_line};
 ghost use Rattle.text.specs.Puts.{PutAt};
-ghost use Rattle.words.specs.Sections.{Laid as LaidOut};
-ghost use Rattle.session.specs.Promises.{Ready, PutLines};
+ghost use Rattle.session.specs.Promises.{PutLines};
 ghost use Rattle.telling.specs.Told.{event_line, verdict_label, verdict_line, labelled, ours as ours_label, supplier as supplier_label, side, total_line};
 ghost use Rattle.rulebook.specs.Hold.{as_ordered, states_part};
 ghost use Rattle.hold.specs.Promises.{number_of};
-ghost use Rattle.telling.specs.Promises.{Took, verdict_in, word_in, Judges, both, head, Tells, Room, Adopts};
+ghost use Rattle.telling.specs.Promises.{verdict_in, word_in, Judges, both, head, Tells, Room, Adopts};
 
 use hold::{Verdict, given};
-use manager::Fit;
 use text::output::{put_decimal, put_decimal_line, put_hex_line, put_label};
-use words::sections::Layout;
-
-// Our step: its answer's number, and how many trace words it wrote.
-#[derive(Clone, Copy)]
-pub struct Step {
-    pub answer: u32,
-    pub count: usize,
-}
-
-// Takes one event, all calls good.
-pub fn take_one(t: &[u32], h: Layout, e: u32, s: &mut [u32], trace: &mut [u32]) -> Step
-    requires { LaidOut t.now h × Ready t.now s.old trace.old }
-    ensures { Took t.now e s.old trace.old result.answer result.count s.new trace.new }
-{
-    let answer = events::handle(t, h, e, s, trace, &t[t.len()..]);
-    let count = events::count(answer);
-    Step {
-        answer: events::number(answer),
-        count,
-    }
-}
 
 // What is said of an event of a log: the supplier's answer is another than ours, or what `hold` says of its words.
 #[derive(Clone, Copy)]
@@ -240,10 +217,10 @@ pub fn adopt(t: &[u32], s: &mut [u32], words: &[u32]) -> bool
     if words.len() < n {
         return false;
     }
-    let fit = manager::check_state(t, &words[..n]);
-    let Fit::Fits = fit else {
+    let theirs = &words[..n];
+    if manager::check_state(t, theirs).is_err() {
         return false;
-    };
-    s.copy_from_slice(&words[..n]);
+    }
+    s.copy_from_slice(theirs);
     true
 }
