@@ -62,8 +62,9 @@ fn list_cost(t: &Table, below: &[u32], l: u32) -> u32
     if t.lists() <= l {
         return 0;
     }
+    let list = t.list(l);
     let mut total: u32 = 1;
-    for i in t.items_of(l) {
+    for i in list.first_item..list.first_item + list.item_count {
         total = cap(total + item_cost(t, below, i));
     }
     total
