@@ -88,6 +88,12 @@ impl<'a> Table<'a> {
         self.words
     }
 
+    pub fn edition(&self) -> u32
+        ensures { Field (rulebook.edition self.now.words) 256 result }
+    {
+        bits::<0, 8>(word(self.words, 0))
+    }
+
     pub fn is_second_edition(&self) -> bool
         ensures { result ≡ eqb (rulebook.edition self.now.words) 2 }
     {
