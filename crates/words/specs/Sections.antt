@@ -1,6 +1,6 @@
 -- What a layout says of a table: its counts, with the bounds that their widths give, the places of its sections, and that it is
 -- accepted, where that is known.
-use Rattle.std.specs.Prelude.{ℕ, ◌<◌, ◌≡◌, true, List, length, eqb}
+use Rattle.std.specs.Prelude.{ℕ, ◌≡◌, Bool, true, List, eqb}
 use Rattle.rulebook.specs.Table
 use Rattle.rulebook.specs.Reasons.{accepted}
 use Rattle.words.specs.Field.{Field}
@@ -32,15 +32,10 @@ pub record Laid (t : List ℕ) (h : Layout) : Type 0 where
   pub length : h.length ≡ Table.table_length t
   pub accepted : h.accepted ≡ true → accepted t ≡ true
 
--- a table that is as long as its header asks for
-pub record Whole (t : List ℕ) (h : Layout) : Type 0 where
-  pub laid : Laid t h
-  pub whole : length t ≡ h.length
-
--- a place i of the table, before the place e
-pub record Inside (t : List ℕ) (h : Layout) (e i : ℕ) : Type 0 where
-  pub laid : Laid t h
-  pub inside : i < e
+-- What contracts see of a table that was read: its words, and whether it is known to be accepted.
+pub record Read : Type 0 where
+  pub words : List ℕ
+  pub accepted : Bool
 
 -- What is read of a thing by its number: every field of its word, with the bound that its width gives.
 

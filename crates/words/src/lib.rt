@@ -1,30 +1,31 @@
 // Words: the fields of one, and reading and writing of lent words that never fails.
 #![tactic(auto)]
 
-ghost use Rattle.std.specs.Prelude.{cond, ◌≡◌, max, set};
-ghost use Rattle.rulebook.specs.Words.{digit, word as word_of};
-ghost use Rattle.words.specs.Field.{Field, Sized};
+ghost use Rattle.std.specs.Prelude.{◌≡◌, ◌+◌, ◌^◌, ◌<◌, ◌≤◌, set};
+ghost use Rattle.rulebook.specs.Words.{field, word as word_of};
+ghost use Rattle.words.specs.Field.{Field};
 ghost use Rattle.words.specs.Flags.{flagged};
 
+pub mod expressions;
 pub mod numbers;
 pub mod parts;
 pub mod sections;
 pub mod state;
 pub mod table;
 
-// `digit` of the rulebook: how many whole units w has, beyond whole multiples of `size` of them.
-pub fn field(w: u32, unit: u32, size: u32) -> u32
-    requires { Sized unit size }
-    ensures { Field (digit unit size w) size result }
+// The field of a word that START bits stand before, WIDTH bits wide.
+pub fn bits<const START: u32, const WIDTH: u32>(w: u32) -> u32
+    requires { (0 < WIDTH) × (WIDTH < 32) × (START + WIDTH ≤ 32) }
+    ensures { Field (field START WIDTH w) (2 ^ WIDTH) result }
 {
-    w / unit % size
+    (w >> (32 - START - WIDTH)) % (1 << WIDTH)
 }
 
 // The word at an index; past the end it reads as 0.
 pub fn word(ws: &[u32], i: usize) -> u32
     ensures { result ≡ word_of ws.now i }
 {
-    if i < ws.len() { ws[i] } else { 0 }
+    ws.get(i).copied().unwrap_or(0)
 }
 
 // Writes a word; past the end nothing is written.
@@ -40,19 +41,5 @@ pub fn put(ws: &mut [u32], i: usize, w: u32)
 pub fn flag(flags: &[u32], i: u32) -> bool
     ensures { result ≡ flagged flags.now i }
 {
-    let w = word(flags, i as usize);
-    w != 0
-}
-
-// A flag's word.
-pub fn raised(up: bool) -> u32
-    ensures { result ≡ cond up 1 0 }
-{
-    if up { 1 } else { 0 }
-}
-
-pub fn larger(a: u32, b: u32) -> u32
-    ensures { result ≡ max a b }
-{
-    if a < b { b } else { a }
+    word(flags, i as usize) != 0
 }

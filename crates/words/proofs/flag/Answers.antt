@@ -4,4 +4,4 @@ use Rattle.words.proofs.flag.Goals as goal
 
 pub returns : goal.returns
 unfolding flagged
-returns c = rw (← c.word-w.ensures)
+returns c = rw (← c.word.ensures)

@@ -4,11 +4,4 @@ use Rattle.words.proofs.state.set_port.Goals as goal
 
 pub returns : goal.returns
 unfolding set_port
-returns c =
-    rw (c.put.ensures, c.pack_port-w.ensures)
-
-pub pack_port-w-requires : goal.pack_port-w-requires
-pack_port-w-requires c = tt
-
-pub put-requires : goal.put-requires
-put-requires c = tt
+returns c = c.put_port.ensures

@@ -4,5 +4,4 @@ use Rattle.words.proofs.state.set_result.Goals as goal
 
 pub returns : goal.returns
 unfolding set_result
-returns c =
-    rw (← c.requires.ports.value, ← c.pack_rule-w.ensures) c.put.ensures
+returns c = rw (← c.rule_index.ensures, ← c.pack_rule.ensures) c.put.ensures

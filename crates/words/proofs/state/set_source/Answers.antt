@@ -4,15 +4,4 @@ use Rattle.words.proofs.state.set_source.Goals as goal
 
 pub returns : goal.returns
 unfolding set_source
-returns c =
-    rw (
-      ← c.source_index-i.ensures,
-      ← c.pack_source-w.ensures,
-    )
-    c.put.ensures
-
-pub pack_source-w-requires : goal.pack_source-w-requires
-pack_source-w-requires c = tt
-
-pub put-requires : goal.put-requires
-put-requires c = tt
+returns c = rw (← c.source_index.ensures, ← c.from.ensures) c.put.ensures

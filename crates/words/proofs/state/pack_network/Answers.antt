@@ -1,8 +1,0 @@
--- `words::state::pack_network` meets its contract: the fields, each cut to its width, do not overlap. Assumes nothing.
-use native.Mathlib.Omega.{arith}
-use Rattle.rulebook.specs.State.{pack_network}
-use Rattle.words.proofs.state.pack_network.Goals as goal
-
-pub returns : goal.returns
-unfolding pack_network
-returns c = omega arith

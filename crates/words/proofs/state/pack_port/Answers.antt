@@ -1,8 +1,0 @@
--- `words::state::pack_port` meets its contract: the fields, each cut to its width, do not overlap. Assumes nothing.
-use native.Mathlib.Omega.{arith}
-use Rattle.rulebook.specs.State.{pack_port}
-use Rattle.words.proofs.state.pack_port.Goals as goal
-
-pub returns : goal.returns
-unfolding pack_port
-returns c = omega arith
