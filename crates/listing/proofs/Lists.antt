@@ -1,6 +1,6 @@
 -- Lines one behind the other: how long they are, what they leave of a room, and a listing laid. Assumes nothing.
 use Prim.Native.Nat.{ℕ, zero, suc, ◌+◌, ◌-◌, ◌*◌, ◌/◌, ◌^◌, ◌<◌, ◌≤◌}
-use mathlib.Core.Path.{◌≡◌, refl, sym, ap, subst, ◌∙◌}
+use mathlib.Core.Path.{◌≡◌, refl, sym, ap, ◌∙◌}
 use mathlib.Core.List.{List, [], ◌∷◌, ◌++◌}
 use native.Mathlib.Nat.{mod-lt, zero-add}
 use native.Mathlib.Numerals.{add-one}
@@ -9,7 +9,7 @@ use lib.ListN.{length, get_or, length-append}
 use lib.Pow.{pow_pos, pow_mono}
 use borrow.Author.Tests.{ne_eqb, lt-ltb, le-ltb}
 use Rattle.rulebook.specs.Words.{digit, field}
-use Rattle.rulebook.specs.Listing.{form, kind_form, by_kind, fields_from, fields_of, shape_reason}
+use Rattle.rulebook.specs.Listing.{form, fields_from, fields_of, shape_reason}
 use Rattle.text.specs.Puts.{Put, PutAt}
 use Rattle.text.proofs.Decimal.{decimal-within}
 use Rattle.text.proofs.Lay.{lay-none}
@@ -17,16 +17,6 @@ use Rattle.text.proofs.Puts.{one-put, put-more, put-length}
 use Rattle.listing.specs.Lines.{spelt, line, line_at, first_lines, listing}
 use Rattle.listing.specs.Promises.{list_answer, ListsIn}
 use Rattle.listing.proofs.Widths.{short-name, few-fields, narrow}
-
--- the form of a line, by the form at its place and the word's kind
-pub form-of-line : {r g k w' : ℕ} (f w : ℕ) → r ≡ kind_form g k → g ≡ f → k ≡ field 0 4 w' → w' ≡ w → r ≡ by_kind f w
-form-of-line f w e a b c = e ∙ rw (a, b, c)
-
-pub same_line : {r w' : ℕ} (f w : ℕ) → r ≡ by_kind f w → w' ≡ w → line r w' ≡ line (by_kind f w) w
-same_line f w e b = rw (e, b)
-
-pub put_as : {xs ys out : List ℕ} {at n : ℕ} {o : List ℕ} → xs ≡ ys → PutAt xs out at n o → PutAt ys out at n o
-put_as {out = out} {at = at} {n = n} {o = o} e p = subst (λ (zs : List ℕ). PutAt zs out at n o) e p
 
 -- No line is longer than 47 bytes: 11 of the name, and six for each of six fields.
 
