@@ -16,6 +16,7 @@ use crate::state::Thing;
 use crate::{bits, word};
 use std::marker::Model;
 
+#[derive(Drop)]
 pub struct Table<'a> {
     words: &'a [u32],
     layout: Layout,
