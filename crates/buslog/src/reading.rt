@@ -227,6 +227,7 @@ fn read_lines(t: &Table, names: &[u8], log: &[u8], from: Cursor, out: &mut [u32]
     let mut at = 0;
     let mut n = 0;
     let mut c = from;
+    // no range goes over the log: where a line ends is known once it is read
     while at < log.len() {
         let step = take_line(t, names, log, at, c, out, n);
         if step.end.is_err() {

@@ -31,6 +31,7 @@ fn read_number(text: &[u8], at: usize, size: u32, end: u8) -> Option<(u32, usize
     }
     let mut value: u32 = 0;
     let mut p = at;
+    // p is read again behind the digits, so a `for` over the text would carry it too
     while let Some(d) = digit(text, p) {
         value = value * 10 + d;
         if size <= value {
