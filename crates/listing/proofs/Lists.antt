@@ -15,7 +15,9 @@ use Rattle.text.proofs.Decimal.{decimal-within}
 use Rattle.text.proofs.Lay.{lay-none}
 use Rattle.text.proofs.Puts.{one-put, put-more, put-length}
 use Rattle.listing.specs.Lines.{spelt, line, line_at, first_lines, listing}
-use Rattle.listing.specs.Promises.{list_answer, ListsIn}
+use Rattle.listing.specs.declared.writing.NotListed.{NotListed}
+use Rattle.listing.specs.declared.writing.NotListed.TheVariants.{TooShort, WrongEdition, WrongCounts, WrongLength, NoRoom}
+use Rattle.listing.specs.Promises.{refusal_number, list_answer, ListsIn}
 use Rattle.listing.proofs.Widths.{short-name, few-fields, narrow}
 
 -- No line is longer than 47 bytes: 11 of the name, and six for each of six fields.
@@ -146,6 +148,13 @@ module _ (t : List ℕ) where
   left_end room left i e so = rw all_lines (rw e at so)
 
 -- the answers
+
+pub some-refusal : (n : NotListed) → refusal_number n ≡ 0 → ⊥
+some-refusal TooShort z = omega arith
+some-refusal WrongEdition z = omega arith
+some-refusal WrongCounts z = omega arith
+some-refusal WrongLength z = omega arith
+some-refusal NoRoom z = omega arith
 
 module _ (t out : List ℕ) where
   refused : (k : ℕ) → list_answer t (length out) ≡ k → (k ≡ 0 → ⊥) → ListsIn t out k 0 out

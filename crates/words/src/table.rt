@@ -17,6 +17,7 @@ use crate::{bits, word};
 use std::marker::Model;
 use std::ops::Range;
 
+#[derive(Drop)]
 pub struct Table<'a> {
     words: &'a [u32],
     layout: Layout,
