@@ -1,8 +1,9 @@
 -- `tables::check` meets its promise: one of reasons 1 to 4, or what comes behind them. Assumes nothing.
-use mathlib.Core.Path.{ap, ◌∙◌}
-use Rattle.tables.specs.Finding.{finding}
-use Rattle.tables.proofs.Shapes.{misshapes, none_of}
+use Rattle.std.proofs.lemmas.Result.{err_from_is_err_and}
+use Rattle.tables.proofs.Shapes.{misshapes}
 use Rattle.tables.proofs.check.Goals as goal
 
-pub returns : goal.returns
-returns c = ?
+pub returns-in_err-table : goal.returns-in_err-table
+returns-in_err-table c =
+    let p = err_from_is_err_and c.from_residual.result c.from_residual.ensures.1 in
+    rw (p.1, p.2) (misshapes _ _ c.in_err-table.ensures.reason)
