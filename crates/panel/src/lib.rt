@@ -1,5 +1,6 @@
 // A panel for one operator: a line for each of its ports, networks, sources and trace words, laid into lent bytes. Of the manager it
-// knows the answer of the state check and nothing else: what it must know of the table's layout it reads from the words by itself.
+// knows the answer of the state check and nothing else: what it must know of the table's layout it reads from the words by itself, and not by
+// `words`, on which it may not stand (docs/PROMISES.md, Q-13).
 #![tactic(auto)]
 
 ghost use Rattle.std.specs.Prelude.{◌≡◌, [], ◌∷◌, ◌++◌, ◌+◌, ◌<◌, ◌≤◌, eqb, length};
