@@ -5,7 +5,7 @@ use mathlib.Core.Bool.{Bool, true, false, ◌&&◌, ◌||◌, not}
 use mathlib.Core.List.{List}
 use native.Mathlib.Omega.{arith}
 use lib.Dec.{eqb}
-use borrow.Author.Tests.{not-true, not-false, eq-eqb, ne_eqb}
+use borrow.Author.Tests.{eq-eqb, ne_eqb}
 use Rattle.rulebook.specs.Words.{field}
 use Rattle.rulebook.specs.Table.{expression_word, expression_kind, condition_port, left, right, operator_not}
 use Rattle.rulebook.specs.Expressions.{operator_kind, operator, is_not, expression_nests, expression_within, expression_mentions, mentions}
@@ -49,43 +49,43 @@ module _ (t : List ℕ) (e d w k : ℕ) (o : Bool) (more : d ≡ 0 → ⊥) (hw 
   unfolding operator
   is-operator = ho ∙ ap operator_kind is-kind
 
-  condition : not o ≡ true → operator t e ≡ false
-  condition h = sym is-operator ∙ not-true o h
+  condition : o ≡ false → operator t e ≡ false
+  condition h = sym is-operator ∙ h
 
-  operates : not o ≡ false → operator t e ≡ true
-  operates h = sym is-operator ∙ not-false o h
+  operates : o ≡ true → operator t e ≡ true
+  operates h = sym is-operator ∙ h
 
-  pub within-condition : not o ≡ true → expression_within d t e ≡ true
+  pub within-condition : o ≡ false → expression_within d t e ≡ true
   within-condition h = within_level t e d (d - 1) level ∙ nests-condition t (expression_within (d - 1) t) e (condition h)
 
-  within-operator : not o ≡ false
+  within-operator : o ≡ true
       → expression_within d t e ≡ (expression_within (d - 1) t (field 4 14 w) && (eqb k operator_not || expression_within (d - 1) t (field 18 14 w)))
   within-operator h =
       rw (is-kind, hw)
       (within_level t e d (d - 1) level ∙ nests-operator t (expression_within (d - 1) t) e (operates h))
 
   -- the exits of the code, where l is the left argument, within if b says so, and r the right one
-  module _ (l r : ℕ) (b : Bool) (op : not o ≡ false) (hl : l ≡ field 4 14 w) (hb : b ≡ expression_within (d - 1) t l) where
-    pub within-left-fails : not b ≡ true → false ≡ expression_within d t e
-    within-left-fails down = sym (rw (← hl, ← hb, not-true b down) at (within-operator op))
+  module _ (l r : ℕ) (b : Bool) (op : o ≡ true) (hl : l ≡ field 4 14 w) (hb : b ≡ expression_within (d - 1) t l) where
+    pub within-left-fails : b ≡ false → false ≡ expression_within d t e
+    within-left-fails down = sym (rw (← hl, ← hb, down) at (within-operator op))
 
-    pub within-not : not b ≡ false → k ≡ operator_not → true ≡ expression_within d t e
-    within-not up not-kind = sym (rw (← hl, ← hb, not-false b up, eq-eqb k operator_not not-kind) at (within-operator op))
+    pub within-not : b ≡ true → k ≡ operator_not → true ≡ expression_within d t e
+    within-not up not-kind = sym (rw (← hl, ← hb, up, eq-eqb k operator_not not-kind) at (within-operator op))
 
-    pub within-right : not b ≡ false → (k ≡ operator_not → ⊥) → r ≡ field 18 14 w → expression_within (d - 1) t r ≡ expression_within d t e
-    within-right up other hr = sym (rw (← hl, ← hb, not-false b up, ne_eqb k operator_not other, ← hr) at (within-operator op))
+    pub within-right : b ≡ true → (k ≡ operator_not → ⊥) → r ≡ field 18 14 w → expression_within (d - 1) t r ≡ expression_within d t e
+    within-right up other hr = sym (rw (← hl, ← hb, up, ne_eqb k operator_not other, ← hr) at (within-operator op))
 
   module _ (q : ℕ → Bool) where
-    pub mention-condition : not o ≡ true → mentions d t q e ≡ q (field 4 8 w)
+    pub mention-condition : o ≡ false → mentions d t q e ≡ q (field 4 8 w)
     mention-condition h = rw hw (mentions-level t q e d (d - 1) level ∙ mentions-condition t q (mentions (d - 1) t q) e (condition h))
 
-    mention-operator : not o ≡ false
+    mention-operator : o ≡ true
         → mentions d t q e ≡ (mentions (d - 1) t q (field 4 14 w) || not (eqb k operator_not) && mentions (d - 1) t q (field 18 14 w))
     mention-operator h =
         rw (is-kind, hw)
         (mentions-level t q e d (d - 1) level ∙ mentions-operator t q (mentions (d - 1) t q) e (operates h))
 
-    module _ (l r : ℕ) (b : Bool) (op : not o ≡ false) (hl : l ≡ field 4 14 w) (hb : b ≡ mentions (d - 1) t q l) where
+    module _ (l r : ℕ) (b : Bool) (op : o ≡ true) (hl : l ≡ field 4 14 w) (hb : b ≡ mentions (d - 1) t q l) where
       pub mention-left : b ≡ true → true ≡ mentions d t q e
       mention-left up = sym (rw (← hl, ← hb, up) at (mention-operator op))
 

@@ -15,6 +15,7 @@ use crate::sections::{
 use crate::state::Thing;
 use crate::{bits, word};
 use std::marker::Model;
+use std::ops::Range;
 
 #[derive(Drop)]
 pub struct Table<'a> {
@@ -155,6 +156,13 @@ impl<'a> Table<'a> {
         self.layout.list0
     }
 
+    // The place of list l.
+    pub fn list_place(&self, l: u32) -> usize
+        ensures { result ≡ rulebook.lists_from self.now.words + l }
+    {
+        self.layout.list0 + l as usize
+    }
+
     pub fn item0(&self) -> usize
         ensures { result ≡ rulebook.items_from self.now.words }
     {
@@ -263,6 +271,15 @@ impl<'a> Table<'a> {
             first_item: bits::<13, 11>(w),
             item_count: bits::<24, 8>(w),
         }
+    }
+
+    // The numbers of the items of list l.
+    pub fn items_of(&self, l: u32) -> Range<u32>
+        ensures from { result.start ≡ rulebook.first_item self.now.words l }
+        ensures to { result.end ≡ rulebook.first_item self.now.words l + rulebook.item_count self.now.words l }
+    {
+        let list = self.list(l);
+        list.first_item..list.first_item + list.item_count
     }
 
     pub fn item(&self, i: u32) -> Item

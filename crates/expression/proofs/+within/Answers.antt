@@ -2,10 +2,8 @@
 -- Assumes nothing.
 use mathlib.Core.Path.{◌∙◌}
 use mathlib.Core.Path.{sym}
-use native.Mathlib.Omega.{arith}
 use Rattle.rulebook.specs.Expressions.{expression_within}
 use Rattle.expression.proofs.Level.{within-condition, within-left-fails, within-not, within-right}
-use Prim.Native.Nat.{ℕ, ◌<◌}
 use Rattle.expression.proofs.+within.Goals as goal
 
 pub returns-then-levels-eq0 : goal.returns-then-levels-eq0
@@ -16,20 +14,20 @@ pub returns-then-not-is_operator : goal.returns-then-not-is_operator
 returns-then-not-is_operator t c =
     sym
     (within-condition _ _ _ _ _ _ c.if-levels-eq0.false c.expression_word-w.ensures
-    c.expression_kind-kind.ensures.value c.is_operator.ensures c.if-not-is_operator.true-raw)
+    c.expression_kind-kind.ensures.value c.is_operator.ensures c.if-not-is_operator.true)
 
 pub returns-then-not-within : goal.returns-then-not-within
 returns-then-not-within t c =
     within-left-fails _ _ _ _ _ _ c.if-levels-eq0.false c.expression_word-w.ensures
     c.expression_kind-kind.ensures.value c.is_operator.ensures _ 0 _
-    c.if-not-is_operator.false-raw c.left.ensures.value c.within.ensures c.if-not-within.true-raw
+    c.if-not-is_operator.false c.left.ensures.value c.within.ensures c.if-not-within.true
 
 pub returns-then-kind-eq-OPERATOR_NOT : goal.returns-then-kind-eq-OPERATOR_NOT
 returns-then-kind-eq-OPERATOR_NOT t c =
     within-not _ _ _ _ _ _ c.if-levels-eq0.false c.expression_word-w.ensures
     c.expression_kind-kind.ensures.value
-    c.is_operator.ensures _ 0 _ c.if-not-is_operator.false-raw
-    c.left.ensures.value c.within.ensures c.if-not-within.false-raw c.if-kind-eq-OPERATOR_NOT.true
+    c.is_operator.ensures _ 0 _ c.if-not-is_operator.false
+    c.left.ensures.value c.within.ensures c.if-not-within.false c.if-kind-eq-OPERATOR_NOT.true
 
 pub returns : goal.returns
 returns t c =
@@ -37,6 +35,6 @@ returns t c =
     ∙ within-right _ _ _ _ _ _ c.if-levels-eq0.false
     c.expression_word-w.ensures
     c.expression_kind-kind.ensures.value
-    c.is_operator.ensures _ _ _ c.if-not-is_operator.false-raw
-    c.left.ensures.value c.within.ensures c.if-not-within.false-raw
+    c.is_operator.ensures _ _ _ c.if-not-is_operator.false
+    c.left.ensures.value c.within.ensures c.if-not-within.false
     c.if-kind-eq-OPERATOR_NOT.false c.right.ensures.value

@@ -1,8 +1,15 @@
--- `names::held` meets its contract. Assumes nothing.
-use Rattle.rulebook.specs.Reasons.{held}
-use borrow.Author.Rules.{rules}
+-- `names::held` meets its contract: each walk by its test of one network or source. Assumes nothing.
+use Rattle.std.proofs.Common.{refl, arith, rules}
+use borrow.Author.Tests.{tests}
+use Rattle.rulebook.specs.Reasons.{network_has, source_has, held}
+use Rattle.walks.proofs.Ranges.{any-of_range}
 use Rattle.names.proofs.held.Goals as goal
 
 pub returns : goal.returns
-unfolding held
-returns c = rw (c.networks_hold-by_network.ensures, c.sources_hold-by_source.ensures)
+unfolding held network_has source_has
+returns c =
+    let t = c.args.t.now.words in
+    rw (
+      any-of_range (network_has t c.args.p) 0 c.args.n c.any.ensures.ran refl (omega arith) (λ x y h k. search (rules, tests)),
+      any-of_range (source_has t c.args.p) 0 c.args.k c.any-2.ensures.ran refl (omega arith) (λ x y h k. search (rules, tests)),
+    )

@@ -1,0 +1,2 @@
+-- What the contracts of expressions cite beside the rulebook.
+pub mod Tests

@@ -1,8 +1,0 @@
--- `fields::source_fields` meets its contract: the fields read are the rulebook's. Assumes nothing.
-use Rattle.rulebook.specs.Reasons.{own_fields}
-use borrow.Author.Rules.{rules}
-use Rattle.fields.proofs.source_fields.Goals as goal
-
-pub returns : goal.returns
-unfolding own_fields
-returns c = rw c.source_at-zero.ensures.zero.value

@@ -1,0 +1,2 @@
+-- Laws of the scan, in the form of its loop.
+pub mod Scan
