@@ -16,12 +16,12 @@ whole : (c : In_ok-t) → table_length c.in_ok-t.t.words ≡ length c.in_ok-t.t.
 unfolding exact_length
 whole c =
     let told = c.in_ok-t.ensures in
-    rw told.0 (sym (eqb-true _ _ (kept_of _ told.1).exact))
+    rw told.table (sym (eqb-true _ _ (kept_of _ (sym told.reason)).exact))
 
 pub returns-in_err-t : goal.returns-in_err-t
 returns-in_err-t c =
     let p = err_from_is_err_and c.from_residual.result c.from_residual.ensures.1 in
-    rw p.1 (no-shape _ _ _ (p.2 ∙ c.in_err-t.ensures) (some-refusal p.0))
+    rw p.1 (no-shape _ _ _ (p.2 ∙ c.in_err-t.ensures.reason) (some-refusal p.0))
 
 pub listing_room-requires : goal.listing_room-requires
 listing_room-requires c = whole (goal.at.listing_room-requires c).In_ok-t
@@ -29,7 +29,7 @@ listing_room-requires c = whole (goal.at.listing_room-requires c).In_ok-t
 pub returns-in_default : goal.returns-in_default
 returns-in_default c =
     let told = c.in_ok-t.ensures in
-    no_room _ _ told.1 (rw told.0 at c.in_default.ensures)
+    no_room _ _ (sym told.reason) (rw told.table at c.in_default.ensures)
 
 pub lay_listing-requires : goal.lay_listing-requires
 lay_listing-requires c = (whole (goal.at.lay_listing-requires c).In_ok-t, omega (arith, c.in-Some.ensures))
@@ -37,4 +37,4 @@ lay_listing-requires c = (whole (goal.at.lay_listing-requires c).In_ok-t, omega 
 pub returns : goal.returns
 returns c =
     let told = c.in_ok-t.ensures in
-    done _ _ told.1 (omega (arith, rw told.0 at c.in-Some.ensures)) (rw told.0 at c.lay_listing.ensures)
+    done _ _ (sym told.reason) (omega (arith, rw told.table at c.in-Some.ensures)) (rw told.table at c.lay_listing.ensures)
