@@ -12,7 +12,7 @@ ghost use Rattle.panel.specs.Printed.{numeral, line, line_at, part_lines, panel}
 ghost use Rattle.panel.specs.Promises.{number_of, bytes_of, Shows};
 ghost use Rattle.panel.specs.Inside.{part_number, Counted, Leaves, Fitting};
 
-use manager::Fit;
+use manager::NotAdmitted;
 use text::output::{places, put_decimal, put_hex_line, put_label};
 
 // A panel's parts, in table order, the newest step's words last.
@@ -289,9 +289,9 @@ fn check_fit(t: &[u32], s: &[u32]) -> Result<(), NotShown>
     ensures { Fitting t.now s.now result }
 {
     match manager::check_state(t, s) {
-        Fit::Fits => Ok(()),
-        Fit::BadTable => Err(NotShown::BadTable),
-        Fit::Unfit => Err(NotShown::UnfitState),
+        Ok(()) => Ok(()),
+        Err(NotAdmitted::BadTable) => Err(NotShown::BadTable),
+        Err(NotAdmitted::UnfitState) => Err(NotShown::UnfitState),
     }
 }
 
