@@ -155,6 +155,13 @@ impl<'a> Table<'a> {
         self.layout.list0
     }
 
+    // The place of list l.
+    pub fn list_place(&self, l: u32) -> usize
+        ensures { result ≡ rulebook.lists_from self.now.words + l }
+    {
+        self.layout.list0 + l as usize
+    }
+
     pub fn item0(&self) -> usize
         ensures { result ≡ rulebook.items_from self.now.words }
     {

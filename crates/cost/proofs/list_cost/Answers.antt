@@ -1,9 +1,5 @@
--- `cost::list_cost` meets its contract. The loop's invariant: the total with what the rest of the items cost is the list's cost, once held.
--- Assumes nothing.
-use Prim.Native.Nat.{ℕ, ◌+◌, ◌-◌, ◌≤◌}
-use mathlib.Core.Path.{◌≡◌, sym, ap, ◌∙◌}
-use native.Mathlib.Omega.{arith}
-use Rattle.rulebook.specs.Words.{sum}
+-- `cost::list_cost` meets its contract, by the laws of a total that is held. Assumes nothing.
+use Rattle.std.proofs.Common.{◌<◌, sym, ap, ◌∙◌, arith}
 use Rattle.rulebook.specs.Reasons.{item_cost}
 use Rattle.walks.proofs.Walks.{whole}
 use Rattle.cost.specs.Costs.{capped, cost_in}
@@ -11,31 +7,29 @@ use Rattle.cost.proofs.Capped.{absent-free, list-costs, cost-turn, cost-end}
 use Rattle.cost.proofs.list_cost.Goals as goal
 
 pub returns-then-lists-l : goal.returns-then-lists-l
-returns-then-lists-l c = ap capped (absent-free _ _ c.requires ((cost_in c.args.below.now)) _ c.if-lists-l.true)
+returns-then-lists-l c = ap capped (absent-free _ (cost_in c.args.below.now) _ (omega arith))
 
 pub loop-i-init : goal.loop-i-init
-loop-i-init c = let list = c.list_at-list.result in (omega arith, omega arith, rw (whole list.first_item list.item_count))
+loop-i-init c =
+    let items = c.items_of-i-items.ensures in
+    record { held = omega arith; says = rw (c.into_iter-i-iterator.ensures.into_iter_gives, items.from, items.to, whole) }
 
 pub loop-i-preserved : goal.loop-i-preserved
-loop-i-preserved c = (
-  omega arith,
-  omega (arith, c.cap-total.ensures),
-  c.loop-i.invariant.2
-      ∙ cost-turn (item_cost c.args.t.now ((cost_in c.args.below.now))) _ _ _ _ _ c.loop-i-test.true (ap capped c.item_cost.ensures.value)
-      c.cap-total.ensures,
-)
+loop-i-preserved c =
+    let step = c.in-Some.ensures.steps in
+    let more : c.loop-i.i-iterator.start < c.loop-i.i-iterator.end = let some = step.1.0 in omega arith in
+    let cost = rw step.1.1 at c.item_cost.ensures.value in
+    record {
+      held = omega arith;
+      says =
+          rw (step.0, step.1.2)
+          (c.loop-i.invariant.says
+          ∙ cost-turn (item_cost c.args.t.now.words (cost_in c.args.below.now)) _ _ _ _ _ more (ap capped cost) c.cap-total.ensures);
+    }
 
 pub returns : goal.returns
 returns c =
-    sym (ap capped (list-costs _ _ c.requires ((cost_in c.args.below.now)) _ _ c.list_at-list.ensures c.if-lists-l.false)
-    ∙ c.loop-i.invariant.2
-    ∙ cost-end _ _ _ _ c.loop-i-test.false c.loop-i.invariant.1)
-
-pub list_at-list-requires : goal.list_at-list-requires
-list_at-list-requires c = c.requires
-
-pub item_cost-requires : goal.item_cost-requires
-item_cost-requires c = c.requires
-
-pub cap-total-requires : goal.cap-total-requires
-cap-total-requires c = tt
+    let none = c.in-None.ensures.steps.1.0 in
+    sym (ap capped (list-costs _ (cost_in c.args.below.now) _ (omega arith))
+    ∙ c.loop-i.invariant.says
+    ∙ cost-end _ _ _ _ (omega arith) c.loop-i.invariant.held)
