@@ -4,6 +4,7 @@ use mathlib.Core.Path.{◌≡◌, sym, ap, ◌∙◌}
 use mathlib.Core.Bool.{Bool, true, false}
 use mathlib.Core.List.{List, ◌++◌}
 use native.Mathlib.Omega.{arith}
+use Rattle.std.specs.Prelude.{Err}
 use lib.ListN.{length, take, drop, length-drop, take-append-drop}
 use lib.Seq.{length-take-le}
 use Rattle.rulebook.specs.Table.{networks}
@@ -11,7 +12,7 @@ use Rattle.rulebook.specs.Reasons.{accepted}
 use Rattle.rulebook.specs.BusLog as rulebook
 use Rattle.rulebook.specs.BusLog.{Reading, unread, names_stand, read_lines, read_log, refused_line}
 use Rattle.buslog.specs.declared.reading.Cursor.{Cursor}
-use Rattle.buslog.specs.declared.reading.Ending.TheVariants.{BadTable, BadNames}
+use Rattle.buslog.specs.declared.reading.Halt.TheVariants.{BadTable, BadNames}
 use Rattle.buslog.specs.declared.reading.Step.{Step}
 use Rattle.buslog.specs.Promises.{cursor_as, ReadsLogIn, ReadsLog}
 use Rattle.buslog.specs.Inside.{Stops, ReadsTo, reading_of}
@@ -21,7 +22,7 @@ pub stand-as : (t names : List ℕ) (count : ℕ) (b : Bool) → count ≡ netwo
 stand-as t names count b n e = sym (e ∙ rw n)
 
 module _ (t names log : List ℕ) (c : Cursor) (out : List ℕ) where
-  pub no_table : accepted t ≡ false → (r : Step) → Stops BadTable c 0 0 r → ReadsLog t names log c out r out
+  pub no_table : accepted t ≡ false → (r : Step) → Stops (Err BadTable) c 0 0 r → ReadsLog t names log c out r out
   unfolding read_log refused_line
   no_table e r s =
       record {
@@ -36,7 +37,7 @@ module _ (t names log : List ℕ) (c : Cursor) (out : List ℕ) where
       }
 
   module _ (a : accepted t ≡ true) where
-    pub no_names : names_stand (networks t) names ≡ false → (r : Step) → Stops BadNames c 0 0 r → ReadsLog t names log c out r out
+    pub no_names : names_stand (networks t) names ≡ false → (r : Step) → Stops (Err BadNames) c 0 0 r → ReadsLog t names log c out r out
     unfolding read_log refused_line
     no_names e r s =
         record {

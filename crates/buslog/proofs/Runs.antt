@@ -1,4 +1,4 @@
--- Runs of bytes of one kind, and parts of a text. Assumes nothing.
+-- Runs of bytes of one kind. Assumes nothing.
 use Prim.Native.Nat.{ℕ, zero, suc, ◌+◌, ◌-◌, ◌<◌, ◌≤◌}
 use mathlib.Core.Path.{◌≡◌, refl, ap, ◌∙◌}
 use mathlib.Core.Bool.{Bool, true, false}
@@ -6,8 +6,8 @@ use mathlib.Core.List.{List, [], ◌∷◌}
 use native.Mathlib.Omega.{arith}
 use native.Mathlib.Numerals.{add-one}
 use Rattle.laws.proofs.Tests.{split}
-use lib.ListN.{length, get_or, take, drop}
-use lib.Seq.{drop-cons, drop-nil}
+use lib.ListN.{length, get_or, take, drop, length-drop}
+use lib.Seq.{drop-cons, drop-nil, take_all, length-take-le}
 use Rattle.rulebook.specs.BusLog.{run}
 use Rattle.buslog.specs.Inside.{part}
 
@@ -67,13 +67,9 @@ module _ (has : ℕ → Bool) where
         let more : length (run has (drop end text)) ≡ 0 = ap (λ (xs : List ℕ). length (run has xs)) (none_left text end h) ∙ ap length run_none in
         omega (arith, so.same, more)
 
--- parts of a text
+-- the part of a text behind a place
+pub all-behind : (text : List ℕ) (at : ℕ) → take (length text - at) (drop at text) ≡ drop at text
+all-behind text at = take_all (length text - at) (drop at text) (omega (arith, length-drop at text))
 
-module _ (text : List ℕ) where
-  pub part-more : (i to : ℕ) → i < to → to ≤ length text → part text i to ≡ get_or text i 0 ∷ part text (i + 1) to
-  part-more i to h l =
-      let q : to - i ≡ suc (to - (i + 1)) = omega arith in
-      rw (q, drop-cons text i 0 (omega arith), add-one)
-
-  pub part_none : (i to : ℕ) → to ≤ i → part text i to ≡ []
-  part_none i to h = let q : to - i ≡ 0 = omega arith in rw q
+pub length-part : (text : List ℕ) (at end : ℕ) → end < length text → length (part text at end) ≡ end - at
+length-part text at end h = length-take-le (end - at) (drop at text) (omega (arith, length-drop at text))

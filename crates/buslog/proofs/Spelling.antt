@@ -1,64 +1,96 @@
 -- A piece at a place, and the pieces of a line one behind the other. Assumes nothing.
-use Prim.Native.Nat.{ℕ, ◌+◌, ◌-◌, ◌*◌, ◌^◌, ◌≤◌, min}
+use Prim.Native.Nat.{ℕ, ◌+◌, ◌-◌, ◌*◌, ◌^◌, ◌<◌, ◌≤◌, min}
 use mathlib.Core.Path.{◌≡◌, refl, sym, ap, ◌∙◌}
 use mathlib.Core.Bool.{Bool, true, false, ◌&&◌, and_assoc}
 use mathlib.Core.List.{List}
 use native.Mathlib.Omega.{arith}
 use native.Mathlib.Nat.{mul-le-mul_left, pow-le-pow_right}
 use borrow.Author.Tests.{ltb-true, ltb-false, leb-true, eqb-true}
-use lib.ListN.{length, get_or, drop}
+use lib.ListN.{length, get_or, drop, get_or-eq_default}
 use lib.Seq.{drop-drop, get_or-drop}
 use lib.Dec.{eqb, ltb, leb}
+use denote.Ref.{Bor}
+use Rattle.text.proofs.Digits.{below}
 use Rattle.laws.proofs.Tests.{split, clash, and_left, and_right}
 use Rattle.rulebook.specs.BusLog.{Piece, bytes_of, stands, behind, opening, seconds, micros, gap, name, identifier, pairs}
-use Rattle.rulebook.specs.BusLog.{one_to_ten, six, three_or_eight, at_seconds, at_micros, at_gap, at_name, at_identifier, at_pairs}
+use Rattle.rulebook.specs.BusLog.{one_to_ten, six, three_or_eight, at_seconds, at_micros, at_gap, at_name, at_identifier}
 use Rattle.rulebook.specs.BusLog.{lines_behind, spelt, time, interface, tells_bus_off, is_bus_off, has_bit, error_bit, bus_off_bit}
-use Rattle.buslog.specs.declared.pieces.Found.{Found}
+use Rattle.buslog.specs.Pieces.{piece_of}
+use Rattle.buslog.specs.declared.pieces.Piece as declared
+use Rattle.buslog.specs.declared.pieces.Piece.TheVariants.{Opening, Seconds, Micros, Gap, Name, Identifier, Pairs, ListedName}
 use Rattle.buslog.specs.declared.lines.Stamp.{Stamp}
 use Rattle.buslog.specs.declared.lines.Frame.{Frame}
-use Rattle.buslog.specs.Inside.{part, Finds, Fits, Numbers, StampAt, FrameAt, ReadsLine}
-use Rattle.buslog.proofs.Runs.{run-front, none_left}
+use Rattle.buslog.specs.Inside.{part, Finds, Fits, Numbers, stamp_stands, StampAt, frame_stands, FrameAt, Says}
+use Rattle.buslog.proofs.Runs.{run-front, none_left, length-part}
 
 -- what is behind one byte more, or behind the end
-drop-next : (text : List ℕ) (end next : ℕ) → end ≤ length text → next ≡ min (end + 1) (length text) → drop next text ≡ drop (end + 1) text
-drop-next text end next h e =
+pub drop-next : (text : List ℕ) (end : ℕ) → drop (min (end + 1) (length text)) text ≡ drop (end + 1) text
+drop-next text end =
     split (ltb end (length text))
-    (λ l. let q : next ≡ end + 1 = omega (arith, ltb-true end (length text) l) in rw q)
-    (λ l. let q : next ≡ length text = omega (arith, ltb-false end (length text) l) in
+    (λ l. let q : min (end + 1) (length text) ≡ end + 1 = omega (arith, ltb-true end (length text) l) in rw q)
+    (λ l. let q : min (end + 1) (length text) ≡ length text = omega (arith, ltb-false end (length text) l) in
     rw q (none_left text (length text) (omega arith) ∙ sym (none_left text (end + 1) (omega (arith, ltb-false end (length text) l)))))
 
-pub finds : (p : Piece) (text : List ℕ) (at end next : ℕ) (sized : Bool) (b last : ℕ) → at ≤ length text
-    → (end ≡ at + length (bytes_of p (drop at text))) × (end ≤ length text) → sized ≡ p.size (end - at) → b ≡ get_or text end 0 → last ≡ p.end
-    → next ≡ min (end + 1) (length text) → Finds p text at (record { stands = sized && eqb b last; end = end; next = next })
-unfolding stands behind
-finds p text at end next sized b last h e s y l n =
-    let k = length (bytes_of p (drop at text)) in
-    let q : end - at ≡ k = omega (arith, e.0) in
-    let place : get_or (drop at text) k 0 ≡ get_or text end 0 = get_or-drop at text k 0 ∙ rw e.0 in
-    let r : end + 1 ≡ at + (k + 1) = omega (arith, e.0) in
-    record {
-      stood = rw (s, y, l, q, place);
-      ends = e.0;
-      bytes = rw q (run-front p.has (drop at text));
-      next = drop-next text end next e.1 n ∙ rw r (sym (drop-drop (k + 1) at text));
-      from = omega (arith, e.0);
-      to = e.1;
-      inside = omega arith;
-    }
+-- where the bytes of a piece end: their part of the text, and what is behind them
+
+module _ (p : Piece) (text : List ℕ) (at end : ℕ) (ends : end ≡ at + length (bytes_of p (drop at text))) where
+  pub bytes-part : part text at end ≡ bytes_of p (drop at text)
+  bytes-part = let q : end - at ≡ length (bytes_of p (drop at text)) = omega arith in rw q (run-front p.has (drop at text))
+
+  pub bytes-behind : drop (end + 1) text ≡ behind p (drop at text)
+  unfolding behind
+  bytes-behind =
+      let r : end + 1 ≡ at + (length (bytes_of p (drop at text)) + 1) = omega arith in
+      rw r (sym (drop-drop (length (bytes_of p (drop at text)) + 1) at text))
+
+  module _ (sized : Bool) (b last : ℕ) (s : sized ≡ p.size (end - at)) (y : b ≡ get_or text end 0) (l : last ≡ p.end) where
+    told : sized && eqb b last ≡ stands p (drop at text)
+    unfolding stands
+    told =
+        let k = length (bytes_of p (drop at text)) in
+        let q : end - at ≡ k = omega arith in
+        let place : get_or (drop at text) k 0 ≡ get_or text end 0 = get_or-drop at text k 0 ∙ rw ends in
+        rw (s, y, l, q, place)
+
+    pub no-piece : sized && eqb b last ≡ false → stands p (drop at text) ≡ false
+    no-piece e = sym told ∙ e
+
+    -- no piece ends with the byte 0, which is read past the end
+    pub a-piece : sized && eqb b last ≡ true → 0 < p.end → end ≤ length text → Finds p text at end
+    a-piece e some within =
+        let is : b ≡ last = eqb-true b last (and_right sized (eqb b last) e) in
+        record {
+          stood = sym told ∙ e;
+          bytes = bytes-part;
+          next = bytes-behind;
+          from = omega arith;
+          inside = below end (length text) (λ h. h) (λ h. absurd (omega (arith, is, y, l, get_or-eq_default text 0 {n = end} h)));
+        }
+
+-- each piece of the code ends with a byte that is not 0
+pub ends-some : (p : declared.Piece) → 0 < (piece_of p).end
+ends-some Opening = omega arith
+ends-some Seconds = omega arith
+ends-some Micros = omega arith
+ends-some Gap = omega arith
+ends-some Name = omega arith
+ends-some Identifier = omega arith
+ends-some Pairs = omega arith
+ends-some ListedName = omega arith
 
 -- a piece found at a place behind which ys stand
-pub record Over (p : Piece) (text : List ℕ) (at : ℕ) (ys : List ℕ) (r : Found) : Type 0 where
-  pub stood : r.stands ≡ stands p ys
-  pub bytes : part text at r.end ≡ bytes_of p ys
-  pub long : r.end - at ≡ length (bytes_of p ys)
-  pub next : drop r.next text ≡ behind p ys
+pub record Over (p : Piece) (text : List ℕ) (at : ℕ) (ys : List ℕ) (end : ℕ) : Type 0 where
+  pub stood : stands p ys ≡ true
+  pub bytes : part text at end ≡ bytes_of p ys
+  pub long : length (part text at end) ≡ length (bytes_of p ys)
+  pub next : drop (end + 1) text ≡ behind p ys
 
-pub over : (p : Piece) (text : List ℕ) (at : ℕ) (ys : List ℕ) (r : Found) → drop at text ≡ ys → Finds p text at r → Over p text at ys r
-over p text at ys r e f =
+pub over : (p : Piece) (text : List ℕ) (at : ℕ) (ys : List ℕ) (end : ℕ) → drop at text ≡ ys → Finds p text at end → Over p text at ys end
+over p text at ys end e f =
     record {
-      stood = f.stood ∙ ap (λ (xs : List ℕ). stands p xs) e;
+      stood = rw e at f.stood;
       bytes = f.bytes ∙ ap (λ (xs : List ℕ). bytes_of p xs) e;
-      long = let q : r.end - at ≡ length (bytes_of p (drop at text)) = omega (arith, f.ends) in q ∙ ap (λ (xs : List ℕ). length (bytes_of p xs)) e;
+      long = ap length (f.bytes ∙ ap (λ (xs : List ℕ). bytes_of p xs) e);
       next = f.next ∙ ap (λ (xs : List ℕ). behind p xs) e;
     }
 
@@ -94,146 +126,134 @@ three-or-eight n e =
 pub identifier-few : (ys : List ℕ) → stands identifier ys ≡ true → length (bytes_of identifier ys) ≤ 8
 identifier-few ys e = three-or-eight (length (bytes_of identifier ys)) (sized identifier ys e)
 
--- the pieces of a stamp, as they were found
+-- the pieces of a stamp, one behind the other: the first that does not stand, or all of them
 
-module _ (text : List ℕ) (at : ℕ) (a b c d : Found) (fa : Finds opening text at a) (fb : Finds seconds text a.next b) (fc : Finds micros text b.next c)
-    (fd : Finds gap text c.next d) where
+module _ (text : List ℕ) (at : ℕ) where
   abbrev line : List ℕ
   line = drop at text
 
-  oa : Over opening text at line a
-  oa = over opening text at line a refl fa
+  pub no-opening : stands opening line ≡ false → stamp_stands line ≡ false
+  unfolding stamp_stands
+  no-opening e = rw e
 
-  ob : Over seconds text a.next (at_seconds line) b
-  ob = over seconds text a.next (at_seconds line) b oa.next fb
+  module _ (a : ℕ) (fa : Finds opening text at a) where
+    oa : Over opening text at line a
+    oa = over opening text at line a refl fa
 
-  oc : Over micros text b.next (at_micros line) c
-  oc = over micros text b.next (at_micros line) c ob.next fc
+    pub no-seconds : stands seconds (drop (a + 1) text) ≡ false → stamp_stands line ≡ false
+    unfolding stamp_stands
+    no-seconds e = rw (oa.stood, rw oa.next at e)
 
-  od : Over gap text c.next (at_gap line) d
-  od = over gap text c.next (at_gap line) d oc.next fd
+    module _ (b : ℕ) (fb : Finds seconds text (a + 1) b) where
+      ob : Over seconds text (a + 1) (at_seconds line) b
+      ob = over seconds text (a + 1) (at_seconds line) b oa.next fb
 
-  all-stand : a.stands && b.stands && c.stands && d.stands
-      ≡ stands opening line && stands seconds (at_seconds line) && stands micros (at_micros line) && stands gap (at_gap line)
-  all-stand = rw (oa.stood, ob.stood, oc.stood, od.stood)
+      pub no-micros : stands micros (drop (b + 1) text) ≡ false → stamp_stands line ≡ false
+      unfolding stamp_stands
+      no-micros e = rw (oa.stood, ob.stood, rw ob.next at e)
 
-  pub no-stamp : a.stands && b.stands && c.stands && d.stands ≡ false → StampAt text at (record { stands = false; time = 0; next = d.next })
-  no-stamp e = record { stood = sym e ∙ all-stand; time = λ t. absurd-false t; next = od.next; inside = fd.inside }
+      module _ (c : ℕ) (fc : Finds micros text (b + 1) c) where
+        oc : Over micros text (b + 1) (at_micros line) c
+        oc = over micros text (b + 1) (at_micros line) c ob.next fc
 
-  module _ (e : a.stands && b.stands && c.stands && d.stands ≡ true) where
-    seconds-stand : stands seconds (at_seconds line) ≡ true
-    seconds-stand =
-        sym ob.stood ∙ and_right a.stands b.stands
-        (and_left (a.stands && b.stands) c.stands (and_left (a.stands && b.stands && c.stands) d.stands e))
+        pub no-gap : stands gap (drop (c + 1) text) ≡ false → stamp_stands line ≡ false
+        unfolding stamp_stands
+        no-gap e = rw (oa.stood, ob.stood, oc.stood, rw oc.next at e)
 
-    micros-stand : stands micros (at_micros line) ≡ true
-    micros-stand =
-        sym oc.stood ∙ and_right (a.stands && b.stands) c.stands (and_left (a.stands && b.stands && c.stands) d.stands e)
+        seconds-small : (0 + 29) * 10 ^ length (part text (a + 1) b) ≤ (0 + 29) * 10 ^ 10
+        seconds-small = few 10 (length (part text (a + 1) b)) 10 0 (omega arith) (omega (arith, ob.long, seconds-few (at_seconds line) ob.stood))
 
-    seconds-small : (0 + 29) * 10 ^ (b.end - a.next) ≤ (0 + 29) * 10 ^ 10
-    seconds-small = few 10 (b.end - a.next) 10 0 (omega arith) (omega (arith, ob.long, seconds-few (at_seconds line) seconds-stand))
+        pub seconds-fit : Fits (part text (a + 1) b) 10 0
+        seconds-fit = record { many = omega arith; small = omega (arith, seconds-small) }
 
-    pub seconds-fit : Fits text a.next b.end 10 0
-    seconds-fit = record { order = fb.from; inside = fb.to; digits = omega arith; small = omega (arith, seconds-small) }
+        module _ (whole : ℕ) (w : Numbers (part text (a + 1) b) 10 0 whole) where
+          pub micros-fit : Fits (part text (b + 1) c) 10 whole
+          micros-fit =
+              let q : length (part text (b + 1) c) ≡ 6 = oc.long ∙ micros-few (at_micros line) oc.stood in
+              record { many = omega arith; small = rw q (omega (arith, w.small, seconds-small)) }
 
-    module _ (whole : ℕ) (w : Numbers text a.next b.end 10 0 whole) where
-      pub micros-fit : Fits text b.next c.end 10 whole
-      micros-fit =
-          let q : c.end - b.next ≡ 6 = oc.long ∙ micros-few (at_micros line) micros-stand in
-          record {
-            order = fc.from;
-            inside = fc.to;
-            digits = omega arith;
-            small = rw q (omega (arith, w.small, seconds-small));
-          }
-
-      pub stamp : (t : ℕ) → Numbers text b.next c.end 10 whole t → StampAt text at (record { stands = true; time = t; next = d.next })
-      unfolding time
-      stamp t n =
-          record {
-            stood = sym e ∙ all-stand;
-            time = λ y. n.value ∙ rw (w.value, ob.bytes, oc.bytes);
-            next = od.next;
-            inside = fd.inside;
-          }
+          pub stamp : (d : ℕ) → Finds gap text (c + 1) d → (t : ℕ) → Numbers (part text (b + 1) c) 10 whole t
+              → StampAt text line (record { time = t; next = d + 1 })
+          unfolding stamp_stands time
+          stamp d fd t n =
+              let od : Over gap text (c + 1) (at_gap line) d = over gap text (c + 1) (at_gap line) d oc.next fd in
+              record {
+                stood = rw (oa.stood, ob.stood, oc.stood, od.stood);
+                time = n.value ∙ rw (w.value, ob.bytes, oc.bytes);
+                next = od.next;
+                inside = omega (arith, fd.inside);
+              }
 
 -- the pieces of a frame
 
-module _ (text : List ℕ) (at : ℕ) (a b : Found) (fa : Finds identifier text at a) (fb : Finds pairs text a.next b) where
+module _ (text : List ℕ) (at : ℕ) where
   abbrev frame_at : List ℕ
   frame_at = drop at text
 
-  ia : Over identifier text at frame_at a
-  ia = over identifier text at frame_at a refl fa
+  pub no-identifier : stands identifier frame_at ≡ false → frame_stands frame_at ≡ false
+  unfolding frame_stands
+  no-identifier e = rw e
 
-  ib : Over pairs text a.next (behind identifier frame_at) b
-  ib = over pairs text a.next (behind identifier frame_at) b ia.next fb
+  module _ (a : ℕ) (fa : Finds identifier text at a) where
+    ia : Over identifier text at frame_at a
+    ia = over identifier text at frame_at a refl fa
 
-  both-stand : a.stands && b.stands ≡ stands identifier frame_at && stands pairs (behind identifier frame_at)
-  both-stand = rw (ia.stood, ib.stood)
+    pub no-pairs : stands pairs (drop (a + 1) text) ≡ false → frame_stands frame_at ≡ false
+    unfolding frame_stands
+    no-pairs e = rw (ia.stood, rw ia.next at e)
 
-  pub no-frame : a.stands && b.stands ≡ false → FrameAt text at (record { stands = false; bus_off = false; next = b.next })
-  no-frame e = record { stood = sym e ∙ both-stand; told = λ t. absurd-false t; next = ib.next; inside = fb.inside }
+    identifier-small : (0 + 29) * 16 ^ length (part text at a) ≤ (0 + 29) * 16 ^ 8
+    identifier-small = few 16 (length (part text at a)) 8 0 (omega arith) (omega (arith, ia.long, identifier-few frame_at ia.stood))
 
-  module _ (e : a.stands && b.stands ≡ true) where
-    identifier-stands : stands identifier frame_at ≡ true
-    identifier-stands = sym ia.stood ∙ and_left a.stands b.stands e
+    pub identifier-fits : Fits (part text at a) 16 0
+    identifier-fits = record { many = omega arith; small = omega (arith, identifier-small) }
 
-    identifier-small : (0 + 29) * 16 ^ (a.end - at) ≤ (0 + 29) * 16 ^ 8
-    identifier-small = few 16 (a.end - at) 8 0 (omega arith) (omega (arith, ia.long, identifier-few frame_at identifier-stands))
-
-    pub identifier-fits : Fits text at a.end 16 0
-    identifier-fits = record { order = fa.from; inside = fa.to; digits = omega arith; small = omega (arith, identifier-small) }
-
-    pub frame : (n : ℕ) (off : Bool) → Numbers text at a.end 16 0 n → off ≡ eqb (a.end - at) 8 && has_bit error_bit n && has_bit bus_off_bit n
-        → FrameAt text at (record { stands = true; bus_off = off; next = b.next })
-    unfolding tells_bus_off
-    frame n off w o =
+    pub frame : (b : ℕ) → Finds pairs text (a + 1) b → (n : ℕ) (off : Bool) → Numbers (part text at a) 16 0 n
+        → off ≡ eqb (a - at) 8 && has_bit error_bit n && has_bit bus_off_bit n → FrameAt text frame_at (record { bus_off = off; next = b + 1 })
+    unfolding frame_stands tells_bus_off
+    frame b fb n off w o =
+        let ib : Over pairs text (a + 1) (behind identifier frame_at) b = over pairs text (a + 1) (behind identifier frame_at) b ia.next fb in
+        let q : a - at ≡ length (bytes_of identifier frame_at) = sym (length-part text at a fa.inside) ∙ ia.long in
         record {
-          stood = sym e ∙ both-stand;
-          told = λ y. o ∙ rw (ia.long, w.value, ia.bytes);
+          stood = rw (ia.stood, ib.stood);
+          told = o ∙ rw (q, w.value, ia.bytes);
           next = ib.next;
-          inside = fb.inside;
+          inside = omega (arith, fb.inside);
         }
 
 -- a whole line
 
-module _ (text : List ℕ) (at : ℕ) (s : Stamp) (n : Found) (f : Frame) (fs : StampAt text at s) (fn : Finds name text s.next n)
-    (ff : FrameAt text n.next f) where
+module _ (text : List ℕ) (at : ℕ) where
   abbrev whole-line : List ℕ
   whole-line = drop at text
 
-  on : Over name text s.next (at_name whole-line) n
-  on = over name text s.next (at_name whole-line) n fs.next fn
+  spelt-parts : spelt whole-line ≡ stamp_stands whole-line && stands name (at_name whole-line) && frame_stands (at_identifier whole-line)
+  unfolding spelt stamp_stands frame_stands
+  spelt-parts = simp and_assoc
 
-  frame-stood : f.stands ≡ stands identifier (at_identifier whole-line) && stands pairs (at_pairs whole-line)
-  frame-stood = ff.stood ∙ rw on.next
+  pub no-stamp : stamp_stands whole-line ≡ false → spelt whole-line ≡ false
+  no-stamp e = spelt-parts ∙ rw e
 
-  is-spelt : s.stands && n.stands && f.stands ≡ spelt whole-line
-  unfolding spelt
-  is-spelt = rw (fs.stood, on.stood, frame-stood) (simp and_assoc)
+  module _ (s : Stamp) (fs : StampAt text whole-line s) where
+    pub no-name : stands name (drop s.next text) ≡ false → spelt whole-line ≡ false
+    no-name e = spelt-parts ∙ rw (fs.stood, rw fs.next at e)
 
-  pub line-read-as : ReadsLine text at
-      (record {
-        spelt = s.stands && n.stands && f.stands;
-        time = s.time;
-        name = s.next;
-        name_end = n.end;
-        bus_off = f.bus_off;
-        next = f.next;
-      })
-  unfolding interface is_bus_off lines_behind
-  line-read-as =
-      record {
-        spelt = is-spelt;
-        says = λ y.
-            record {
-              time = fs.time (and_left s.stands n.stands (and_left (s.stands && n.stands) f.stands y));
-              name = on.bytes;
-              told = ff.told (and_right (s.stands && n.stands) f.stands y) ∙ rw on.next;
-              next = ff.next ∙ rw on.next;
-            };
-        from = fn.from;
-        to = fn.to;
-        inside = ff.inside;
-      }
+    module _ (n : ℕ) (fn : Finds name text s.next n) where
+      on : Over name text s.next (at_name whole-line) n
+      on = over name text s.next (at_name whole-line) n fs.next fn
+
+      pub no-frame : frame_stands (drop (n + 1) text) ≡ false → spelt whole-line ≡ false
+      no-frame e = spelt-parts ∙ rw (fs.stood, on.stood, rw on.next at e)
+
+      pub says : (f : Frame) → FrameAt text (drop (n + 1) text) f → (called : Bor (List ℕ)) → called.now ≡ part text s.next n
+          → Says text whole-line (record { time = s.time; name = called; bus_off = f.bus_off; next = f.next })
+      unfolding interface is_bus_off lines_behind
+      says f ff called c =
+          record {
+            spelt = spelt-parts ∙ rw (fs.stood, on.stood, rw on.next at ff.stood);
+            time = fs.time;
+            name = c ∙ on.bytes;
+            told = ff.told ∙ rw on.next;
+            next = ff.next ∙ rw on.next;
+            inside = ff.inside;
+          }

@@ -5,21 +5,23 @@ use mathlib.Core.Bool.{Bool, true, false, or-true}
 use mathlib.Core.List.{List}
 use native.Mathlib.Omega.{arith}
 use borrow.Author.Tests.{eq-eqb, ne_eqb, eqb-true, eqb-false}
+use Rattle.std.specs.Prelude.{Result, Ok, Err}
+use Rattle.std.specs.Result.{is_err}
 use lib.ListN.{length, drop, length-drop}
 use lib.Seq.{length-take-le, drop-drop}
 use lib.Dec.{eqb, leb}
-use Rattle.laws.proofs.Tests.{split}
+use Rattle.laws.proofs.Tests.{split, clash}
 use Rattle.rulebook.specs.Table.{networks}
 use Rattle.rulebook.specs.BusLog.{Cursor, Reading, spelt, time, goes_back, network_of, number_of, fault, line_events, room, read_line}
 use Rattle.rulebook.specs.BusLog.{read_lines, unread, lines_behind, behind, Piece, bytes_of, at_pairs, pairs}
-use Rattle.rulebook.specs.BusLog.{opening, seconds, micros, gap, name, identifier, at_seconds, at_micros, at_gap, at_name, at_identifier, listed_name, same}
+use Rattle.rulebook.specs.BusLog.{opening, seconds, micros, gap, name, identifier, at_seconds, at_micros, at_gap, at_name, at_identifier}
 use Rattle.buslog.specs.declared.lines.Line.{Line}
 use Rattle.buslog.specs.declared.reading.Cursor.{Cursor as CursorRead}
-use Rattle.buslog.specs.declared.reading.Ending.{Ending}
-use Rattle.buslog.specs.declared.reading.Ending.TheVariants.{Read, BadTable, BadNames, Misspelt, GoesBack, Unlisted, NoRoom}
+use Rattle.buslog.specs.declared.reading.Halt.{Halt}
+use Rattle.buslog.specs.declared.reading.Halt.TheVariants.{BadTable, BadNames, Misspelt, GoesBack, Unlisted, NoRoom}
 use Rattle.buslog.specs.declared.reading.Step.{Step}
 use Rattle.buslog.specs.Promises.{cursor_as, end_number}
-use Rattle.buslog.specs.Inside.{part, Says, Stops, events_of, fits, Gives, reading, reading_of, ReadsTo}
+use Rattle.buslog.specs.Inside.{Says, Stops, events_of, fits, Gives, reading, reading_of, ReadsTo}
 
 -- what refuses a line, in the document's order
 
@@ -44,21 +46,9 @@ module _ (t names : List ℕ) (c : Cursor) (line : List ℕ) where
 
 -- the network of the interface that the line names
 pub same-network : (t names log line : List ℕ) (l : Line) (count r : ℕ) → Says log line l → count ≡ networks t
-    → r ≡ number_of (part log l.name l.name_end) count (drop 0 names) → r ≡ network_of t names line
+    → r ≡ number_of l.name.now count names → r ≡ network_of t names line
 unfolding network_of
 same-network t names log line l count r says n e = e ∙ rw (says.name, n)
-
--- a number sought among k names is k or less
-
-network-few : (called : List ℕ) (k : ℕ) (names : List ℕ) → number_of called k names ≤ k
-unfolding number_of
-network-few called zero names = omega arith
-network-few called (suc k) names =
-    let later = network-few called k (behind listed_name names) in
-    split (same called (bytes_of listed_name names)) (λ e. rw (e, number_of) (omega arith)) (λ e. rw (e, number_of) (omega arith))
-
-pub few-networks : (called : List ℕ) (k : ℕ) (names : List ℕ) (r : ℕ) → r ≡ number_of called k names → k < 256 → r < 256
-few-networks called k names r e h = omega (arith, e, network-few called k names)
 
 pub back_as : (c : Cursor) (log line : List ℕ) (l : Line) (b : Bool) → Says log line l → b ≡ goes_back c l.time → goes_back c (time line) ≡ b
 back_as c log line l b says e = sym (e ∙ rw says.time)
@@ -72,7 +62,7 @@ module _ (t names log : List ℕ) (at : ℕ) (c : CursorRead) (out : List ℕ) (
   abbrev line : List ℕ
   line = drop at log
 
-  pub stops : (k : ℕ) (end : Ending) → fault t names (cursor_as c) line ≡ k → (k ≡ 0 → ⊥) → end_number end ≡ k → (r : Step) → Stops end c n at r
+  pub stops : (k : ℕ) (end : Result (Unit {0}) Halt) → fault t names (cursor_as c) line ≡ k → (k ≡ 0 → ⊥) → end_number end ≡ k → (r : Step) → Stops end c n at r
       → ReadsTo (read_line t names (length out) before) log out n r out
   unfolding read_line
   stops k end e some is r s =
@@ -208,15 +198,20 @@ module _ (t names : List ℕ) (words : ℕ) where
       ∙ sym (turn b r some good)))
       (λ y. refused-stays (suc a) r (eqb-false _ _ y) ∙ sym (refused-stays (suc b) r (eqb-false _ _ y)))
 
--- an ending of another case has another number than 0
-pub not-read : (r : Ending) → (r ≡ Read → ⊥) → end_number r ≡ 0 → ⊥
-not-read Read f z = f refl
-not-read BadTable f z = omega arith
-not-read BadNames f z = omega arith
-not-read Misspelt f z = omega arith
-not-read GoesBack f z = omega arith
-not-read Unlisted f z = omega arith
-not-read NoRoom f z = omega arith
+-- a step that is refused has another number than 0
+
+pub no-error : (end : Result (Unit {0}) Halt) → is_err end ≡ false → end_number end ≡ 0
+no-error (Ok u) e = refl
+no-error (Err h) e = clash refl e
+
+pub an-error : (end : Result (Unit {0}) Halt) → is_err end ≡ true → end_number end ≡ 0 → ⊥
+an-error (Ok u) e z = clash e refl
+an-error (Err BadTable) e z = omega arith
+an-error (Err BadNames) e z = omega arith
+an-error (Err Misspelt) e z = omega arith
+an-error (Err GoesBack) e z = omega arith
+an-error (Err Unlisted) e z = omega arith
+an-error (Err NoRoom) e z = omega arith
 
 -- reading stands at a place of the log, n events being written, and what is to come makes the whole
 
@@ -235,7 +230,7 @@ module _ (t names log : List ℕ) (from : Cursor) (out₀ : List ℕ) where
   read-begin = record { inside = omega arith; words = omega arith; long = refl; kept = refl; left = refl }
 
   module _ (c : CursorRead) (out : List ℕ) (n at : ℕ) (so : ReadTo (cursor_as c) out n at) where
-    pub read-end : length log ≤ at → (r : Step) → Stops Read c n at r → ReadsTo whole log out₀ 0 r out
+    pub read-end : length log ≤ at → (r : Step) → Stops (Ok tt) c n at r → ReadsTo whole log out₀ 0 r out
     read-end h r s =
         record {
           reading = rw (s.end, s.cursor, s.events, s.bytes)
@@ -287,12 +282,11 @@ module _ (t names log : List ℕ) (from : Cursor) (out₀ : List ℕ) where
             subst (λ (x : Reading). length x.rest < length (drop at log)) (sym is-next)
             (less-left t names (length out₀) before-it some_left (ap (λ (x : Reading). x.answer) (sym is-next) ∙ good))
 
-        pub line_on : r.end ≡ Read → length log - r.bytes < length log - at
-        line_on e = let less = line-less (rw e) in omega (arith, less, length-drop r.bytes log, length-drop at log)
+        pub line_on : end_number r.end ≡ 0 → length log - r.bytes < length log - at
+        line_on good = let less = line-less good in omega (arith, less, length-drop r.bytes log, length-drop at log)
 
-        pub read-on : r.end ≡ Read → ReadTo (cursor_as r.cursor) out' r.events r.bytes
-        read-on e =
-            let good : end_number r.end ≡ 0 = rw e in
+        pub read-on : end_number r.end ≡ 0 → ReadTo (cursor_as r.cursor) out' r.events r.bytes
+        read-on good =
             let less = line-less good in
             record {
               inside = took.inside;

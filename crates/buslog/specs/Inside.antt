@@ -1,14 +1,14 @@
 -- What the functions inside promise each other. A place is a number of bytes; `drop at text` is the text from it on.
-use Rattle.std.specs.Prelude.{ℕ, ◌+◌, ◌-◌, ◌*◌, ◌^◌, ◌≤◌, ◌<◌, min, ◌≡◌, Bool, true, cond, ◌&&◌, List, [], ◌∷◌, ◌++◌, length, take, drop, replicate, leb}
+use Rattle.std.specs.Prelude.{ℕ, ◌+◌, ◌-◌, ◌*◌, ◌^◌, ◌≤◌, ◌<◌, min, ◌≡◌, Bool, true, false, cond, ◌&&◌, List, [], ◌∷◌, ◌++◌, length, take, drop, replicate, leb}
+use Rattle.std.specs.Prelude.{Option, Some, None, Result}
 use Rattle.rulebook.specs.BusLog.{Piece, bytes_of, stands, behind, opening, seconds, micros, gap, identifier, pairs}
-use Rattle.rulebook.specs.BusLog.{at_seconds, at_micros, at_gap, at_name, lines_behind, spelt, number, time, interface}
+use Rattle.rulebook.specs.BusLog.{at_seconds, at_micros, at_gap, at_name, lines_behind, spelt, number, number_of, time, interface}
 use Rattle.rulebook.specs.BusLog.{tells_bus_off, is_bus_off, Cursor, ticks_due, line_read, more_given, tick_word, bus_off_word, Reading}
-use Rattle.buslog.specs.declared.pieces.Found.{Found}
 use Rattle.buslog.specs.declared.lines.Stamp.{Stamp}
 use Rattle.buslog.specs.declared.lines.Frame.{Frame}
 use Rattle.buslog.specs.declared.lines.Line.{Line}
 use Rattle.buslog.specs.declared.reading.Cursor.{Cursor as CursorRead}
-use Rattle.buslog.specs.declared.reading.Ending.{Ending}
+use Rattle.buslog.specs.declared.reading.Halt.{Halt}
 use Rattle.buslog.specs.declared.reading.Step.{Step}
 use Rattle.buslog.specs.Promises.{cursor_as, end_number}
 
@@ -16,67 +16,76 @@ use Rattle.buslog.specs.Promises.{cursor_as, end_number}
 abbrev pub part : List ℕ → ℕ → ℕ → List ℕ
 part text from to = take (to - from) (drop from text)
 
--- a piece at a place: whether it stands there, where its bytes end, and where the next one begins
-pub record Finds (p : Piece) (text : List ℕ) (at : ℕ) (r : Found) : Type 0 where
-  pub stood : r.stands ≡ stands p (drop at text)
-  pub ends : r.end ≡ at + length (bytes_of p (drop at text))
-  pub bytes : part text at r.end ≡ bytes_of p (drop at text)
-  pub next : drop r.next text ≡ behind p (drop at text)
-  pub from : at ≤ r.end
-  pub to : r.end ≤ length text
-  pub inside : r.next ≤ length text
+-- a piece that stands at a place: where its bytes end; the byte that ends it is there, and the next piece begins behind it
+
+pub record Finds (p : Piece) (text : List ℕ) (at end : ℕ) : Type 0 where
+  pub stood : stands p (drop at text) ≡ true
+  pub bytes : part text at end ≡ bytes_of p (drop at text)
+  pub next : drop (end + 1) text ≡ behind p (drop at text)
+  pub from : at ≤ end
+  pub inside : end < length text
+
+abbrev pub ReadsPiece : Piece → List ℕ → ℕ → Option ℕ → Type 0
+ReadsPiece p text at (Some end) = Finds p text at end
+ReadsPiece p text at None = stands p (drop at text) ≡ false
 
 -- a number that fits behind `start`: no byte is worth more than 255, so a digit of base 10 or more adds less than 29 digits of worth
-pub record Fits (text : List ℕ) (from to base start : ℕ) : Type 0 where
-  pub order : from ≤ to
-  pub inside : to ≤ length text
-  pub digits : 10 ≤ base
-  pub small : (start + 29) * base ^ (to - from) < 2 ^ 64
+pub record Fits (digits : List ℕ) (base start : ℕ) : Type 0 where
+  pub many : 10 ≤ base
+  pub small : (start + 29) * base ^ length digits < 2 ^ 64
 
-pub record Numbers (text : List ℕ) (from to base start r : ℕ) : Type 0 where
-  pub value : r ≡ number base start (part text from to)
-  pub small : r + 29 ≤ (start + 29) * base ^ (to - from)
+pub record Numbers (digits : List ℕ) (base start r : ℕ) : Type 0 where
+  pub value : r ≡ number base start digits
+  pub small : r + 29 ≤ (start + 29) * base ^ length digits
 
 -- the front of a line, up to its name
-pub record StampAt (text : List ℕ) (at : ℕ) (r : Stamp) : Type 0 where
-  pub stood : r.stands ≡ stands opening (drop at text) && stands seconds (at_seconds (drop at text)) && stands micros (at_micros (drop at text))
-      && stands gap (at_gap (drop at text))
-  pub time : r.stands ≡ true → r.time ≡ time (drop at text)
-  pub next : drop r.next text ≡ at_name (drop at text)
+
+unfoldable pub stamp_stands : List ℕ → Bool
+stamp_stands line =
+    stands opening line && stands seconds (at_seconds line) && stands micros (at_micros line) && stands gap (at_gap line)
+
+pub record StampAt (text line : List ℕ) (r : Stamp) : Type 0 where
+  pub stood : stamp_stands line ≡ true
+  pub time : r.time ≡ time line
+  pub next : drop r.next text ≡ at_name line
   pub inside : r.next ≤ length text
+
+abbrev pub ReadsStamp : List ℕ → ℕ → Option Stamp → Type 0
+ReadsStamp text at (Some r) = StampAt text (drop at text) r
+ReadsStamp text at None = stamp_stands (drop at text) ≡ false
 
 -- its end, from the identifier on
-pub record FrameAt (text : List ℕ) (at : ℕ) (r : Frame) : Type 0 where
-  pub stood : r.stands ≡ stands identifier (drop at text) && stands pairs (behind identifier (drop at text))
-  pub told : r.stands ≡ true → r.bus_off ≡ tells_bus_off (bytes_of identifier (drop at text))
-  pub next : drop r.next text ≡ behind pairs (behind identifier (drop at text))
+
+unfoldable pub frame_stands : List ℕ → Bool
+frame_stands line = stands identifier line && stands pairs (behind identifier line)
+
+pub record FrameAt (text line : List ℕ) (r : Frame) : Type 0 where
+  pub stood : frame_stands line ≡ true
+  pub told : r.bus_off ≡ tells_bus_off (bytes_of identifier line)
+  pub next : drop r.next text ≡ behind pairs (behind identifier line)
   pub inside : r.next ≤ length text
 
--- what a line says, if it is spelt right
+abbrev pub ReadsFrame : List ℕ → ℕ → Option Frame → Type 0
+ReadsFrame text at (Some r) = FrameAt text (drop at text) r
+ReadsFrame text at None = frame_stands (drop at text) ≡ false
+
+-- what a line says that is spelt right
 pub record Says (text line : List ℕ) (r : Line) : Type 0 where
+  pub spelt : spelt line ≡ true
   pub time : r.time ≡ time line
-  pub name : part text r.name r.name_end ≡ interface line
+  pub name : r.name.now ≡ interface line
   pub told : r.bus_off ≡ is_bus_off line
   pub next : drop r.next text ≡ lines_behind line
-
-pub record ReadsLine (text : List ℕ) (at : ℕ) (r : Line) : Type 0 where
-  pub spelt : r.spelt ≡ spelt (drop at text)
-  pub says : r.spelt ≡ true → Says text (drop at text) r
-  pub from : r.name ≤ r.name_end
-  pub to : r.name_end ≤ length text
   pub inside : r.next ≤ length text
 
--- bytes of two texts, from a place up to another in each
-pub record Parts (a : List ℕ) (from to : ℕ) (b : List ℕ) (from' to' : ℕ) : Type 0 where
-  pub order : from ≤ to
-  pub inside : to ≤ length a
-  pub order' : from' ≤ to'
-  pub inside' : to' ≤ length b
+abbrev pub ReadsLine : List ℕ → ℕ → Option Line → Type 0
+ReadsLine text at (Some r) = Says text (drop at text) r
+ReadsLine text at None = spelt (drop at text) ≡ false
 
-pub record Called (names : List ℕ) (at : ℕ) (text : List ℕ) (from to : ℕ) : Type 0 where
-  pub listed : at ≤ length names
-  pub order : from ≤ to
-  pub inside : to ≤ length text
+-- the number of the first of k names that is this one, or that none is
+abbrev pub IsNumberOf : List ℕ → ℕ → List ℕ → Option ℕ → Type 0
+IsNumberOf called k names (Some i) = (i ≡ number_of called k names) × (i < k)
+IsNumberOf called k names None = number_of called k names ≡ k
 
 -- ticks laid from a place on, as many as fit
 pub record GivesTicks (out : List ℕ) (at ticks r : ℕ) (out' : List ℕ) : Type 0 where
@@ -87,7 +96,7 @@ pub record GivesTicks (out : List ℕ) (at ticks r : ℕ) (out' : List ℕ) : Ty
 
 -- a step made of its parts, and one that ends at a line without room, behind the ticks that fitted
 
-pub record Stops (given : Ending) (c : CursorRead) (n at : ℕ) (r : Step) : Type 0 where
+pub record Stops (given : Result (Unit {0}) Halt) (c : CursorRead) (n at : ℕ) (r : Step) : Type 0 where
   pub end : r.end ≡ given
   pub cursor : r.cursor ≡ c
   pub events : r.events ≡ n

@@ -1,22 +1,22 @@
 -- What `read_log` promises: the table, the list, the log, the cursor and the output, the answer, and every lent word afterwards.
-use Rattle.std.specs.Prelude.{ℕ, ◌-◌, ◌/◌, ◌≤◌, ◌≡◌, List, [], ◌++◌, length, drop}
+use Rattle.std.specs.Prelude.{ℕ, ◌-◌, ◌/◌, ◌≤◌, ◌≡◌, List, [], ◌++◌, length, drop, Result, Ok, Err}
 use Rattle.rulebook.specs.BusLog as rulebook
 use Rattle.rulebook.specs.BusLog.{Reading, read_log, refused_line}
 use Rattle.buslog.specs.declared.reading.Cursor.{Cursor}
 use Rattle.buslog.specs.declared.reading.Step.{Step}
-use Rattle.buslog.specs.declared.reading.Ending.{Ending}
-use Rattle.buslog.specs.declared.reading.Ending.TheVariants.{Read, BadTable, BadNames, Misspelt, GoesBack, Unlisted, NoRoom}
+use Rattle.buslog.specs.declared.reading.Halt.{Halt}
+use Rattle.buslog.specs.declared.reading.Halt.TheVariants.{BadTable, BadNames, Misspelt, GoesBack, Unlisted, NoRoom}
 
 -- the answers' numbers, where numbers are wanted
 
-abbrev pub end_number : Ending → ℕ
-end_number Read = 0
-end_number BadTable = 1
-end_number NoRoom = 11
-end_number Misspelt = 12
-end_number BadNames = 13
-end_number GoesBack = 14
-end_number Unlisted = 15
+abbrev pub end_number : Result (Unit {0}) Halt → ℕ
+end_number (Ok u) = 0
+end_number (Err BadTable) = 1
+end_number (Err NoRoom) = 11
+end_number (Err Misspelt) = 12
+end_number (Err BadNames) = 13
+end_number (Err GoesBack) = 14
+end_number (Err Unlisted) = 15
 
 abbrev pub cursor_as : Cursor → rulebook.Cursor
 cursor_as c = record { lines = c.lines; first = c.first; last = c.last; given = c.given }

@@ -1,27 +1,23 @@
 // The list of the interfaces: one name a line, as many as the table has networks, all different.
-ghost use Rattle.std.specs.Prelude.{◌≡◌, drop};
-ghost use Rattle.rulebook.specs.BusLog.{number_of as number_in, names_stand};
-ghost use Rattle.buslog.specs.Inside.{part, Called};
+ghost use Rattle.std.specs.Prelude.{◌≡◌};
+ghost use Rattle.rulebook.specs.BusLog.{names_stand};
+ghost use Rattle.buslog.specs.Inside.{IsNumberOf};
 
-use crate::pieces::{Piece, read_piece, same};
+use crate::pieces::{Piece, bytes_end, read_piece};
 
-// The number of the first of the k names from a place on that is the one in the text; k where none is.
-pub fn number_of(names: &[u8], at: usize, k: usize, text: &[u8], from: usize, to: usize) -> usize
-    requires { Called names.now at text.now from to }
-    ensures { result ≡ number_in (part text.now from to) k (drop at names.now) }
+// The number of the first of k names that is this one. Whether the names stand is not asked.
+pub fn number_of(names: &[u8], k: usize, name: &[u8]) -> Option<usize>
+    ensures { IsNumberOf name.now k names.now result }
 {
-    let mut p = at;
-    let mut i = 0;
-    while i < k {
-        let listed = read_piece(names, p, Piece::ListedName);
-        let end = listed.end;
-        if same(text, from, to, names, p, end) {
-            return i;
+    let mut p = 0;
+    for i in 0..k {
+        let end = bytes_end(names, p, Piece::ListedName);
+        if &names[p..end] == name {
+            return Some(i);
         }
-        p = listed.next;
-        i += 1;
+        p = (end + 1).min(names.len());
     }
-    k
+    None
 }
 
 // Whether a list is k different names.
@@ -29,19 +25,14 @@ pub fn stand(names: &[u8], k: usize) -> bool
     ensures { result ≡ names_stand k names.now }
 {
     let mut p = 0;
-    let mut left = k;
-    while 0 < left {
-        let listed = read_piece(names, p, Piece::ListedName);
-        let end = listed.end;
-        let next = listed.next;
-        left -= 1;
-        if !listed.stands {
+    for left in (0..k).rev() {
+        let Some(end) = read_piece(names, p, Piece::ListedName) else {
+            return false;
+        };
+        if number_of(&names[end + 1..], left, &names[p..end]).is_some() {
             return false;
         }
-        if number_of(names, next, left, names, p, end) != left {
-            return false;
-        }
-        p = next;
+        p = end + 1;
     }
     p == names.len()
 }

@@ -1,110 +1,82 @@
-// A line of a log: whether it is spelt right, and what it says.
+// A line of a log that is spelt right, and what it says.
 ghost use Rattle.std.specs.Prelude.{◌≡◌, ◌≤◌, ◌&&◌, length, eqb};
 ghost use Rattle.rulebook.specs.BusLog.{has_bit, error_bit, bus_off_bit};
-ghost use Rattle.buslog.specs.Inside.{StampAt, FrameAt, ReadsLine};
+ghost use Rattle.buslog.specs.Inside.{ReadsStamp, ReadsFrame, ReadsLine};
 
 use crate::pieces::{Piece, read_number, read_piece};
 
-// The front of a line: whether it stands, its time in microseconds, and where its name begins.
+// The front of a line: its time in microseconds, and where its name begins.
 #[derive(Clone, Copy)]
 struct Stamp {
-    stands: bool,
     time: u64,
     next: usize,
 }
 
-fn read_stamp(text: &[u8], at: usize) -> Stamp
+fn read_stamp(text: &[u8], at: usize) -> Option<Stamp>
     requires { at ≤ length text.now }
-    ensures { StampAt text.now at result }
+    ensures { ReadsStamp text.now at result }
 {
-    let opening = read_piece(text, at, Piece::Opening);
-    let from = opening.next;
-    let seconds = read_piece(text, from, Piece::Seconds);
-    let point = seconds.end;
-    let behind = seconds.next;
-    let micros = read_piece(text, behind, Piece::Micros);
-    let closing = micros.end;
-    let gap = read_piece(text, micros.next, Piece::Gap);
-    let next = gap.next;
-    if !(opening.stands & seconds.stands & micros.stands & gap.stands) {
-        return Stamp {
-            stands: false,
-            time: 0,
-            next,
-        };
-    }
-    let whole = read_number(text, from, point, 10, 0);
-    let time = read_number(text, behind, closing, 10, whole);
-    Stamp {
-        stands: true,
+    let bracket = read_piece(text, at, Piece::Opening)?;
+    let point = read_piece(text, bracket + 1, Piece::Seconds)?;
+    let closing = read_piece(text, point + 1, Piece::Micros)?;
+    let gap = read_piece(text, closing + 1, Piece::Gap)?;
+    let whole = read_number(&text[bracket + 1..point], 10, 0);
+    let time = read_number(&text[point + 1..closing], 10, whole);
+    Some(Stamp {
         time,
-        next,
-    }
+        next: gap + 1,
+    })
 }
 
-// The end of a line, from its identifier on: whether it stands, whether it tells of a bus-off, and where the next line begins.
+// The end of a line, from its identifier on: whether it tells of a bus-off, and where the next line begins.
 #[derive(Clone, Copy)]
 struct Frame {
-    stands: bool,
     bus_off: bool,
     next: usize,
 }
 
 // Whether an identifier of so many digits is a bus-off's: eight of them, with the error bit and the bus-off bit.
+#[tactic(auto, unfolding(rulebook::specs::BusLog::has_bit))]
 fn tells_bus_off(digits: usize, number: u64) -> bool
     ensures { result ≡ eqb digits 8 && has_bit error_bit number && has_bit bus_off_bit number }
 {
     (digits == 8) & (number / 536870912 % 2 == 1) & (number / 64 % 2 == 1)
 }
 
-fn read_frame(text: &[u8], at: usize) -> Frame
+fn read_frame(text: &[u8], at: usize) -> Option<Frame>
     requires { at ≤ length text.now }
-    ensures { FrameAt text.now at result }
+    ensures { ReadsFrame text.now at result }
 {
-    let identifier = read_piece(text, at, Piece::Identifier);
-    let end = identifier.end;
-    let pairs = read_piece(text, identifier.next, Piece::Pairs);
-    let next = pairs.next;
-    if !(identifier.stands & pairs.stands) {
-        return Frame {
-            stands: false,
-            bus_off: false,
-            next,
-        };
-    }
-    let number = read_number(text, at, end, 16, 0);
-    Frame {
-        stands: true,
-        bus_off: tells_bus_off(end - at, number),
-        next,
-    }
+    let hash = read_piece(text, at, Piece::Identifier)?;
+    let newline = read_piece(text, hash + 1, Piece::Pairs)?;
+    let number = read_number(&text[at..hash], 16, 0);
+    Some(Frame {
+        bus_off: tells_bus_off(hash - at, number),
+        next: newline + 1,
+    })
 }
 
-// A line: whether it is spelt right, and then its time, where its interface's name stands, whether it tells of a bus-off, and where the next line begins.
+// A line: its time, its interface's name, whether it tells of a bus-off, and where the next line begins.
 #[derive(Clone, Copy)]
-pub struct Line {
-    pub spelt: bool,
+pub struct Line<'a> {
     pub time: u64,
-    pub name: usize,
-    pub name_end: usize,
+    pub name: &'a [u8],
     pub bus_off: bool,
     pub next: usize,
 }
 
-pub fn read_line(text: &[u8], at: usize) -> Line
+// The line at a place; None where it is not spelt right.
+pub fn read_line(text: &[u8], at: usize) -> Option<Line<'_>>
     requires { at ≤ length text.now }
     ensures { ReadsLine text.now at result }
 {
-    let stamp = read_stamp(text, at);
-    let name = stamp.next;
-    let called = read_piece(text, name, Piece::Name);
-    let frame = read_frame(text, called.next);
-    Line {
-        spelt: stamp.stands & called.stands & frame.stands,
+    let stamp = read_stamp(text, at)?;
+    let space = read_piece(text, stamp.next, Piece::Name)?;
+    let frame = read_frame(text, space + 1)?;
+    Some(Line {
         time: stamp.time,
-        name,
-        name_end: called.end,
+        name: &text[stamp.next..space],
         bus_off: frame.bus_off,
         next: frame.next,
-    }
+    })
 }

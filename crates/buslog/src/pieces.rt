@@ -1,14 +1,13 @@
-// The pieces of a line, each read at a place: bytes of one kind, and the byte that ends them. Nothing here can fail: whether a piece stands at a place is
-// said beside where it ends.
-ghost use Rattle.std.specs.Prelude.{◌≡◌, ◌+◌, ◌≤◌, min, length, drop};
-ghost use Rattle.rulebook.specs.BusLog.{digit, hex_digit, name_byte, bytes_of, value as value_of, same as same_as};
+// The pieces of a line, each read at a place: bytes of one kind, and the byte that ends them.
+ghost use Rattle.std.specs.Prelude.{◌≡◌, ◌+◌, ◌≤◌, length, drop};
+ghost use Rattle.rulebook.specs.BusLog.{name_byte, bytes_of, value as value_of};
 ghost use Rattle.buslog.specs.Pieces.{piece_of};
-ghost use Rattle.buslog.specs.Inside.{part, Finds, Fits, Numbers, Parts};
+ghost use Rattle.buslog.specs.Inside.{ReadsPiece, Fits, Numbers};
 
 use text::input::byte;
 
 // The pieces of a log's line in their order, and a name's line in the list of the interfaces.
-#[derive(Clone, Copy)]
+#[derive(Clone, Copy, Debug, PartialEq, Eq)]
 pub enum Piece {
     Opening,
     Seconds,
@@ -20,53 +19,38 @@ pub enum Piece {
     ListedName,
 }
 
-fn is_digit(b: u8) -> bool
-    ensures { result ≡ digit b }
-{
-    (48 <= b) & (b <= 57)
-}
-
-fn is_hex_digit(b: u8) -> bool
-    ensures { result ≡ hex_digit b }
-{
-    is_digit(b) | ((65 <= b) & (b <= 70)) | ((97 <= b) & (b <= 102))
-}
-
+#[tactic(auto, unfolding(rulebook::specs::BusLog::name_byte))]
 fn is_name_byte(b: u8) -> bool
     ensures { result ≡ name_byte b }
 {
-    !(b == 32) & !(b == 10)
+    (b != b' ') & (b != b'\n')
 }
 
 // Whether a byte is of the piece's kind.
+#[tactic(auto, unfolding(rulebook::specs::BusLog::no_byte, rulebook::specs::BusLog::digit, rulebook::specs::BusLog::hex_digit))]
 fn has(p: Piece, b: u8) -> bool
     ensures { result ≡ (piece_of p).has b }
 {
     match p {
-        Piece::Opening => false,
-        Piece::Seconds => is_digit(b),
-        Piece::Micros => is_digit(b),
-        Piece::Gap => false,
-        Piece::Name => is_name_byte(b),
-        Piece::Identifier => is_hex_digit(b),
-        Piece::Pairs => is_hex_digit(b),
-        Piece::ListedName => is_name_byte(b),
+        Piece::Opening | Piece::Gap => false,
+        Piece::Seconds | Piece::Micros => b.is_ascii_digit(),
+        Piece::Name | Piece::ListedName => is_name_byte(b),
+        Piece::Identifier | Piece::Pairs => b.is_ascii_hexdigit(),
     }
 }
 
 // Whether a piece may have so many bytes.
+#[tactic(auto, unfolding(rulebook::specs::BusLog::none, rulebook::specs::BusLog::one_to_ten, rulebook::specs::BusLog::six, rulebook::specs::BusLog::one_to_fifteen, rulebook::specs::BusLog::three_or_eight, rulebook::specs::BusLog::up_to_eight_pairs))]
 fn may_have(p: Piece, n: usize) -> bool
     ensures { result ≡ (piece_of p).size n }
 {
     match p {
-        Piece::Opening => n == 0,
+        Piece::Opening | Piece::Gap => n == 0,
         Piece::Seconds => (1 <= n) & (n <= 10),
         Piece::Micros => n == 6,
-        Piece::Gap => n == 0,
-        Piece::Name => (1 <= n) & (n <= 15),
+        Piece::Name | Piece::ListedName => (1 <= n) & (n <= 15),
         Piece::Identifier => (n == 3) | (n == 8),
         Piece::Pairs => (n % 2 == 0) & (n <= 16),
-        Piece::ListedName => (1 <= n) & (n <= 15),
     }
 }
 
@@ -78,109 +62,58 @@ fn ending(p: Piece) -> u8
         Piece::Opening => b'(',
         Piece::Seconds => b'.',
         Piece::Micros => b')',
-        Piece::Gap => b' ',
-        Piece::Name => b' ',
+        Piece::Gap | Piece::Name => b' ',
         Piece::Identifier => b'#',
-        Piece::Pairs => b'\n',
-        Piece::ListedName => b'\n',
+        Piece::Pairs | Piece::ListedName => b'\n',
     }
 }
 
 // Where the bytes of a piece end that begin at a place.
-fn bytes_end(text: &[u8], at: usize, p: Piece) -> usize
+pub fn bytes_end(text: &[u8], at: usize, p: Piece) -> usize
     requires { at ≤ length text.now }
     ensures { (result ≡ at + length (bytes_of (piece_of p) (drop at text.now))) × (result ≤ length text.now) }
 {
-    let mut end = at;
-    while end < text.len() {
+    for end in at..text.len() {
         if !has(p, text[end]) {
             return end;
         }
-        end += 1;
     }
-    end
+    text.len()
 }
 
-// The place behind the byte at a place, and the end where there is none.
-fn step_over(at: usize, end: usize) -> usize
-    requires { at ≤ end }
-    ensures { result ≡ min (at + 1) end }
-{
-    if at < end { at + 1 } else { at }
-}
-
-// Whether a piece stands at a place, where its bytes end, and where what is behind it begins: at the text's end where nothing ends the piece.
-#[derive(Clone, Copy)]
-pub struct Found {
-    pub stands: bool,
-    pub end: usize,
-    pub next: usize,
-}
-
-pub fn read_piece(text: &[u8], at: usize, p: Piece) -> Found
+// Where the bytes of the piece end that stands at a place; the byte that ends it is there.
+pub fn read_piece(text: &[u8], at: usize, p: Piece) -> Option<usize>
     requires { at ≤ length text.now }
-    ensures { Finds (piece_of p) text.now at result }
+    ensures { ReadsPiece (piece_of p) text.now at result }
 {
     let end = bytes_end(text, at, p);
-    let sized = may_have(p, end - at);
-    let ended = byte(text, end) == ending(p);
-    let next = step_over(end, text.len());
-    Found {
-        stands: sized & ended,
-        end,
-        next,
+    if may_have(p, end - at) & (byte(text, end) == ending(p)) {
+        Some(end)
+    } else {
+        None
     }
 }
 
-// What a decimal or hex digit is worth, in either case.
-fn value(b: u8) -> u64
-    ensures { (result ≡ value_of b) × (result ≤ 255) }
+// What a decimal or hex digit is worth, in either case. Not by `to_digit`: `Numbers` promises the rulebook's worth of other bytes too.
+#[tactic(auto, unfolding(rulebook::specs::BusLog::value))]
+fn value(b: u8) -> u8
+    ensures { result ≡ value_of b }
 {
-    if b < 48 {
-        return 0;
+    match b {
+        0..58 => b.saturating_sub(b'0'),
+        58..71 => b - 55,
+        _ => b.saturating_sub(87),
     }
-    if b < 58 {
-        return (b - 48) as u64;
-    }
-    if b < 71 {
-        return (b - 55) as u64;
-    }
-    if b < 87 {
-        return 0;
-    }
-    (b - 87) as u64
 }
 
-// The number that the bytes from a place up to another spell in a base, behind a number that is read already.
-pub fn read_number(text: &[u8], from: usize, to: usize, base: u64, start: u64) -> u64
-    requires { Fits text.now from to base start }
-    ensures { Numbers text.now from to base start result }
+// The number that digits spell in a base, behind a number that is read already.
+pub fn read_number(digits: &[u8], base: u64, start: u64) -> u64
+    requires { Fits digits.now base start }
+    ensures { Numbers digits.now base start result }
 {
     let mut n = start;
-    let mut i = from;
-    while i < to {
-        n = n * base + value(text[i]);
-        i += 1;
+    for b in digits {
+        n = n * base + u64::from(value(*b));
     }
     n
-}
-
-// Whether the bytes of two texts, from a place up to another in each, are the same.
-pub fn same(a: &[u8], from: usize, to: usize, b: &[u8], from_b: usize, to_b: usize) -> bool
-    requires { Parts a.now from to b.now from_b to_b }
-    ensures { result ≡ same_as (part a.now from to) (part b.now from_b to_b) }
-{
-    let mut i = from;
-    let mut j = from_b;
-    while i < to {
-        if to_b <= j {
-            return false;
-        }
-        if a[i] != b[j] {
-            return false;
-        }
-        i += 1;
-        j += 1;
-    }
-    j == to_b
 }

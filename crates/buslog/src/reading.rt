@@ -1,21 +1,16 @@
 // A log's lines read one after the other from a cursor on, in one pass: what each gives is written, and the first that is refused ends it.
-ghost use Rattle.std.specs.Prelude.{◌≡◌, ◌+◌, ◌^◌, ◌<◌, ◌≤◌, min, length, set};
+ghost use Rattle.std.specs.Prelude.{◌≡◌, ◌^◌, ◌<◌, ◌≤◌, length};
 ghost use Rattle.rulebook.specs.BusLog.{zero_time, ticks_due, goes_back, line_read, bus_off_word, read_line, read_lines, unread};
 ghost use Rattle.rulebook.specs.BusLog.{next_line as line_behind};
-ghost use Rattle.words.specs.Sections.{Laid};
 ghost use Rattle.buslog.specs.Promises.{cursor_as, end_number, line_of, ReadsLog};
 ghost use Rattle.buslog.specs.Inside.{GivesTicks, Stops, NoRoomAt, Gives, ReadsTo, reading};
 
 use crate::interfaces;
 use crate::lines::{Line, read_line};
-use tables::Checked;
-use words::sections::{Layout, network_at, read_accepted};
-
-// The most that 64 bits have.
-const MOST: u64 = 18446744073709551615;
+use words::table::Table;
 
 // Where reading stands: lines read, the times of the first and of the last of them, and ticks given. Before a log's first line all are 0.
-#[derive(Clone, Copy)]
+#[derive(Clone, Copy, Debug, PartialEq, Eq)]
 pub struct Cursor {
     pub lines: u64,
     pub first: u64,
@@ -23,10 +18,9 @@ pub struct Cursor {
     pub given: u64,
 }
 
-// What reading ended with: every line is read, or what refused the table, the list or the line behind those read.
-#[derive(Clone, Copy)]
-pub enum Ending {
-    Read,
+// What refused the table, the list or the line behind those read.
+#[derive(Clone, Copy, Debug, PartialEq, Eq)]
+pub enum Halt {
     BadTable,
     BadNames,
     Misspelt,
@@ -36,24 +30,24 @@ pub enum Ending {
 }
 
 // An answer's number.
-pub fn number(end: Ending) -> u32
+pub fn number(end: Result<(), Halt>) -> u32
     ensures { result ≡ end_number end }
 {
     match end {
-        Ending::Read => 0,
-        Ending::BadTable => 1,
-        Ending::BadNames => 13,
-        Ending::Misspelt => 12,
-        Ending::GoesBack => 14,
-        Ending::Unlisted => 15,
-        Ending::NoRoom => 11,
+        Ok(()) => 0,
+        Err(Halt::BadTable) => 1,
+        Err(Halt::BadNames) => 13,
+        Err(Halt::Misspelt) => 12,
+        Err(Halt::GoesBack) => 14,
+        Err(Halt::Unlisted) => 15,
+        Err(Halt::NoRoom) => 11,
     }
 }
 
-// What reading came to: its ending, the cursor, how many events are written, and how many bytes of the log are read.
-#[derive(Clone, Copy)]
+// What reading came to: whether every line is read or what refused one, the cursor, how many events are written, and how many bytes of the log are read.
+#[derive(Clone, Copy, Debug, PartialEq, Eq)]
 pub struct Step {
-    pub end: Ending,
+    pub end: Result<(), Halt>,
     pub cursor: Cursor,
     pub events: usize,
     pub bytes: usize,
@@ -63,27 +57,22 @@ pub struct Step {
 fn next_line(lines: u64) -> u64
     ensures { result ≡ line_behind lines }
 {
-    if lines < MOST { lines + 1 } else { lines }
+    lines.saturating_add(1)
 }
 
 // The line that an answer refuses; 0 where it refuses none.
+#[tactic(auto, unfolding(rulebook::specs::BusLog::refused_line))]
 pub fn refused_line(step: Step) -> u64
     ensures { result ≡ line_of step }
 {
-    let end = step.end;
-    let behind = next_line(step.cursor.lines);
-    match end {
-        Ending::Read => 0,
-        Ending::BadTable => 0,
-        Ending::BadNames => 0,
-        Ending::Misspelt => behind,
-        Ending::GoesBack => behind,
-        Ending::Unlisted => behind,
-        Ending::NoRoom => behind,
+    match step.end {
+        Ok(()) | Err(Halt::BadTable | Halt::BadNames) => 0,
+        Err(_) => next_line(step.cursor.lines),
     }
 }
 
 // The time from which ticks are counted: the first line's.
+#[tactic(auto, unfolding(rulebook::specs::BusLog::zero_time))]
 fn zero_time(c: Cursor, time: u64) -> u64
     ensures { result ≡ zero_time (cursor_as c) time }
 {
@@ -92,21 +81,16 @@ fn zero_time(c: Cursor, time: u64) -> u64
 
 // How many ticks come before a line of that time: the whole 10 milliseconds passed, but for those given. That the time is one of 64 bits is said for a
 // caller that has it in a struct.
+#[tactic(auto, unfolding(rulebook::specs::BusLog::ticks_due))]
 fn ticks_due(c: Cursor, time: u64) -> u64
     ensures { (result ≡ ticks_due (cursor_as c) time) × (time < 2 ^ 64) }
 {
-    let zero = zero_time(c, time);
-    if time < zero {
-        return 0;
-    }
-    let passed = (time - zero) / 10000;
-    if passed < c.given {
-        return 0;
-    }
-    passed - c.given
+    let passed = time.saturating_sub(zero_time(c, time)) / 10000;
+    passed.saturating_sub(c.given)
 }
 
 // Whether a time is before that of the line before.
+#[tactic(auto, unfolding(rulebook::specs::BusLog::goes_back))]
 fn goes_back(c: Cursor, time: u64) -> bool
     ensures { result ≡ goes_back (cursor_as c) time }
 {
@@ -114,27 +98,15 @@ fn goes_back(c: Cursor, time: u64) -> bool
 }
 
 // The cursor behind a line of that time.
+#[tactic(auto, unfolding(rulebook::specs::BusLog::line_read))]
 fn line_read(c: Cursor, time: u64) -> Cursor
     ensures { cursor_as result ≡ line_read (cursor_as c) time }
 {
-    let due = ticks_due(c, time);
-    let first = zero_time(c, time);
     Cursor {
         lines: next_line(c.lines),
-        first,
+        first: zero_time(c, time),
         last: time,
-        given: c.given + due,
-    }
-}
-
-// How many ticks fit into so much room.
-fn fitting(ticks: u64, room: usize) -> usize
-    ensures { result ≡ min ticks room }
-{
-    if ticks < room as u64 {
-        ticks as usize
-    } else {
-        room
+        given: c.given + ticks_due(c, time),
     }
 }
 
@@ -143,21 +115,17 @@ fn give_ticks(out: &mut [u32], at: usize, ticks: u64) -> usize
     requires { at ≤ length out.old }
     ensures { GivesTicks out.old at ticks result out.new }
 {
-    let end = at + fitting(ticks, out.len() - at);
-    let mut n = at;
-    while n < end {
-        out[n] = 0;
-        n += 1;
-    }
+    let end = at + (ticks as usize).min(out.len() - at);
+    out[at..end].fill(0);
     end
 }
 
 // The event word of a network's bus-off, under its owner.
-fn bus_off_word(t: &[u32], h: Layout, n: usize) -> u32
-    requires { Laid t.now h × (n < 256) }
-    ensures { result ≡ bus_off_word t.now n }
+fn bus_off_word(t: &Table, n: usize) -> u32
+    requires { n < 256 }
+    ensures { result ≡ bus_off_word t.now.words n }
 {
-    let network = network_at(t, h, n as u32);
+    let network = t.network(n as u32);
     5 * 268435456 + network.owner * 16777216 + n as u32 * 65536
 }
 
@@ -165,54 +133,37 @@ fn bus_off_word(t: &[u32], h: Layout, n: usize) -> u32
 fn no_room(c: Cursor, given: u64, events: usize, bytes: usize) -> Step
     ensures { NoRoomAt c given events bytes result }
 {
-    let cursor = Cursor {
-        lines: c.lines,
-        first: c.first,
-        last: c.last,
-        given,
-    };
     Step {
-        end: Ending::NoRoom,
-        cursor,
+        end: Err(Halt::NoRoom),
+        cursor: Cursor { given, ..c },
         events,
         bytes,
     }
 }
 
-// Lays a word at a place, and returns the place behind it.
-fn lay(out: &mut [u32], at: usize, w: u32) -> usize
-    requires { at < length out.old }
-    ensures { (result ≡ at + 1) × (out.new ≡ set out.old at w) }
-{
-    out[at] = w;
-    at + 1
-}
-
 // Gives what a line at a place gives, behind n events: the ticks, then a bus-off of the network where it tells of one.
 fn give(
-    t: &[u32],
-    h: Layout,
+    t: &Table,
     network: usize,
     at: usize,
-    line: Line,
+    line: Line<'_>,
     c: Cursor,
     out: &mut [u32],
     n: usize,
 ) -> Step
-    requires { Laid t.now h × (network < 256) × (n ≤ length out.old) }
-    ensures { Gives t.now network at line (cursor_as c) out.old n result out.new }
+    requires { (network < 256) × (n ≤ length out.old) }
+    ensures { Gives t.now.words network at line.entry (cursor_as c) out.old n result out.new }
 {
     let due = ticks_due(c, line.time);
     let events = give_ticks(out, n, due);
-    let fitted = (events - n) as u64;
-    let given = c.given + fitted;
-    if fitted < due {
+    let given = c.given + (events - n) as u64;
+    if ((events - n) as u64) < due {
         return no_room(c, given, events, at);
     }
     let cursor = line_read(c, line.time);
     if !line.bus_off {
         return Step {
-            end: Ending::Read,
+            end: Ok(()),
             cursor,
             events,
             bytes: line.next,
@@ -221,17 +172,17 @@ fn give(
     if events == out.len() {
         return no_room(c, given, events, at);
     }
-    let behind = lay(out, events, bus_off_word(t, h, network));
+    out[events] = bus_off_word(t, network);
     Step {
-        end: Ending::Read,
+        end: Ok(()),
         cursor,
-        events: behind,
+        events: events + 1,
         bytes: line.next,
     }
 }
 
 // A step that ends at a place with the events and the cursor that the line before left.
-fn stopped(end: Ending, cursor: Cursor, events: usize, bytes: usize) -> Step
+fn stopped(end: Result<(), Halt>, cursor: Cursor, events: usize, bytes: usize) -> Step
     ensures { Stops end cursor events bytes result }
 {
     Step {
@@ -244,8 +195,7 @@ fn stopped(end: Ending, cursor: Cursor, events: usize, bytes: usize) -> Step
 
 // Reads the line at a place, behind n events: what refuses it, in the document's order, or what it gives.
 fn take_line(
-    t: &[u32],
-    h: Layout,
+    t: &Table,
     names: &[u8],
     log: &[u8],
     at: usize,
@@ -253,60 +203,54 @@ fn take_line(
     out: &mut [u32],
     n: usize,
 ) -> Step
-    requires { Laid t.now h × (at ≤ length log.now) × (n ≤ length out.old) }
-    ensures { ReadsTo (read_line t.now names.now (length out.old)
+    requires { (at ≤ length log.now) × (n ≤ length out.old) }
+    ensures { ReadsTo (read_line t.now.words names.now (length out.old)
         (reading 0 (cursor_as c) out.old n log.now at)) log.now out.old n result out.new }
 {
-    let line = read_line(log, at);
-    if !line.spelt {
-        return stopped(Ending::Misspelt, c, n, at);
-    }
+    let Some(line) = read_line(log, at) else {
+        return stopped(Err(Halt::Misspelt), c, n, at);
+    };
     if goes_back(c, line.time) {
-        return stopped(Ending::GoesBack, c, n, at);
+        return stopped(Err(Halt::GoesBack), c, n, at);
     }
-    let count = h.networks as usize;
-    let network = interfaces::number_of(names, 0, count, log, line.name, line.name_end);
-    if network == count {
-        return stopped(Ending::Unlisted, c, n, at);
-    }
-    give(t, h, network, at, line, c, out, n)
+    let Some(network) = interfaces::number_of(names, t.networks() as usize, line.name) else {
+        return stopped(Err(Halt::Unlisted), c, n, at);
+    };
+    give(t, network, at, line, c, out, n)
 }
 
 // Reads the lines of a log from a cursor on, to its end or to the first that is refused.
-fn read_lines(t: &[u32], h: Layout, names: &[u8], log: &[u8], from: Cursor, out: &mut [u32]) -> Step
-    requires { Laid t.now h }
-    ensures { ReadsTo (read_lines (length log.now) t.now names.now (length out.old)
+fn read_lines(t: &Table, names: &[u8], log: &[u8], from: Cursor, out: &mut [u32]) -> Step
+    ensures { ReadsTo (read_lines (length log.now) t.now.words names.now (length out.old)
         (unread (cursor_as from) log.now)) log.now out.old 0 result out.new }
 {
     let mut at = 0;
     let mut n = 0;
     let mut c = from;
+    // no range goes over the log: where a line ends is known once it is read
     while at < log.len() {
-        let step = take_line(t, h, names, log, at, c, out, n);
-        let end = step.end;
-        let Ending::Read = end else {
+        let step = take_line(t, names, log, at, c, out, n);
+        if step.end.is_err() {
             return step;
-        };
+        }
         at = step.bytes;
         n = step.events;
-        let behind = step.cursor;
-        c = behind;
+        c = step.cursor;
     }
-    stopped(Ending::Read, c, n, at)
+    stopped(Ok(()), c, n, at)
 }
 
 // Reads a log, or a part of one that ends behind a line, from a cursor on: gives its events at the front of the lent words. A refusal keeps the events
 // written before it. Reading can go on behind the bytes read, with the cursor, in another output.
-pub fn read_log(t: &[u32], names: &[u8], log: &[u8], from: Cursor, out: &mut [u32]) -> Step
-    ensures { ReadsLog t.now names.now log.now from out.old result out.new }
+pub fn read_log(words: &[u32], names: &[u8], log: &[u8], from: Cursor, out: &mut [u32]) -> Step
+    ensures { ReadsLog words.now names.now log.now from out.old result out.new }
 {
-    let checked = tables::check(t);
-    let Checked::Accepted(_) = checked else {
-        return stopped(Ending::BadTable, from, 0, 0);
+    let Ok(_) = tables::check(words) else {
+        return stopped(Err(Halt::BadTable), from, 0, 0);
     };
-    let h = read_accepted(t);
-    if !interfaces::stand(names, h.networks as usize) {
-        return stopped(Ending::BadNames, from, 0, 0);
+    let t = Table::accepted(words);
+    if !interfaces::stand(names, t.networks() as usize) {
+        return stopped(Err(Halt::BadNames), from, 0, 0);
     }
-    read_lines(t, h, names, log, from, out)
+    read_lines(&t, names, log, from, out)
 }

@@ -201,9 +201,9 @@ module _ (t depths costs : List ℕ) (d l w : ℕ) (is : w ≡ word depths l) wh
   cost-kept r e h = h ∙ sym (rw (ne_eqb (word depths l) (d + 1) (rw is at e)))
 
 -- B, where the loop begins
-pub bound-start : (t : List ℕ) (n : ℕ) → n ≡ lists t → capped (bound t) ≡ capped (0 + sum 0 (n - 0) (cost_within 7 t))
+pub bound-start : (t : List ℕ) → capped (bound t) ≡ capped (0 + sum 0 (lists t - 0) (cost_within 7 t))
 unfolding bound
-bound-start t n e = rw (e, sub-zero, zero-add)
+bound-start t = rw (sub-zero, zero-add)
 
 -- the cost of a list, as the array has it
 pub cost-is : (t costs : List ℕ) → Costs 7 t costs → Nested t → (l x : ℕ) → l < lists t → x ≡ cost_in costs l → capped x ≡ capped (cost_within 7 t l)

@@ -31,10 +31,7 @@ fn cost_in(costs: &[u32], l: u32) -> u32
 fn chosen_cost(costs: &[u32], l: u32) -> u32
     ensures { Field (cond (eqb l no_list) 0 (cost_in costs.now l)) 4098 result }
 {
-    if l == NO_LIST {
-        return 0;
-    }
-    cost_in(costs, l)
+    if l == NO_LIST { 0 } else { cost_in(costs, l) }
 }
 
 fn rule_cost(t: &Table, below: &[u32], r: u32) -> u32
@@ -65,8 +62,9 @@ fn list_cost(t: &Table, below: &[u32], l: u32) -> u32
     if t.lists() <= l {
         return 0;
     }
+    let list = t.list(l);
     let mut total: u32 = 1;
-    for i in t.items_of(l) {
+    for i in list.first_item..list.first_item + list.item_count {
         total = cap(total + item_cost(t, below, i));
     }
     total

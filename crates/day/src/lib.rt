@@ -6,15 +6,13 @@ ghost use Rattle.std.specs.Prelude.{◌+◌, ◌*◌, ◌≤◌, ◌<◌, length
 ghost use Rattle.rulebook.specs.State.{thing, state_length};
 ghost use Rattle.text.specs.Lines.{decimal};
 ghost use Rattle.text.specs.Puts.{PutAt};
-ghost use Rattle.words.specs.Sections.{Inside};
 ghost use Rattle.words.specs.State.{thing_of};
 ghost use Rattle.day.specs.Printed.{trace_line, trace_lines, number as number_of, named, thing_line, space};
 ghost use Rattle.day.specs.Promises.{PlaysPart, LaysState, LaysEnd};
 
-use text::number::least;
 use text::output::{put_decimal, put_hex_line, put_label};
-use words::sections::{Layout, read_layout};
-use words::state::{Thing, thing_at};
+use words::state::Thing;
+use words::table::Table;
 
 // The most words that the state of an accepted table has: 64 ports, 256 rules, 8 networks and 32 sources.
 const MOST_WORDS: usize = 360;
@@ -41,10 +39,8 @@ fn lay_trace(out: &mut [u8], trace: &[u32], count: usize) -> usize
     ensures { PutAt (trace_lines (take count trace.now)) out.old 0 result out.new }
 {
     let mut at = 0;
-    let mut i = 0;
-    while i < count {
+    for i in 0..count {
         at = lay_trace_word(out, at, trace[i]);
-        i += 1;
     }
     at
 }
@@ -71,12 +67,11 @@ pub fn play_part(
     ensures { PlaysPart t.now s.old trace.old events.now out.old result
         s.new trace.new out.new }
 {
-    let room = least(trace.len(), out.len() / 15);
+    let room = trace.len().min(out.len() / 15);
     let played = manager::play(t, s, &mut trace[..room], events);
     let taken = played.taken;
     let visits = played.visits;
-    let end = played.end;
-    let number = manager::end_number(end);
+    let number = manager::end_number(played.end);
     let bytes = lay_trace(out, trace, played.count);
     Part {
         taken,
@@ -109,12 +104,11 @@ fn lay_name(out: &mut [u8], at: usize, thing: Thing) -> usize
 }
 
 // Lays the line of the i-th word of a state, which is w.
-fn lay_state_word(t: &[u32], h: Layout, i: usize, w: u32, out: &mut [u8], at: usize) -> usize
-    requires { Inside t.now h (state_length t.now) i × (i < 1000) × (at + 21 ≤ length out.old) }
-    ensures { PutAt (thing_line (thing t.now i) w) out.old at result out.new }
+fn lay_state_word(t: &Table, i: usize, w: u32, out: &mut [u8], at: usize) -> usize
+    requires { (i < state_length t.now.words) × (i < 1000) × (at + 21 ≤ length out.old) }
+    ensures { PutAt (thing_line (thing t.now.words i) w) out.old at result out.new }
 {
-    let thing = thing_at(t, h, i);
-    let next = lay_name(out, at, thing);
+    let next = lay_name(out, at, t.thing(i));
     put_hex_line(out, next, w)
 }
 
@@ -123,8 +117,8 @@ fn lay_state_word(t: &[u32], h: Layout, i: usize, w: u32, out: &mut [u8], at: us
 pub fn lay_state(t: &[u32], s: &[u32], out: &mut [u8]) -> usize
     ensures { LaysState t.now s.now out.old result out.new }
 {
-    let h = read_layout(t);
-    let words = words::state::length(t, h);
+    let table = Table::read(t);
+    let words = table.state_length();
     if out.len() < MOST_STATE {
         return 0;
     }
@@ -135,10 +129,8 @@ pub fn lay_state(t: &[u32], s: &[u32], out: &mut [u8]) -> usize
         return 0;
     }
     let mut at = 0;
-    let mut i = 0;
-    while i < words {
-        at = lay_state_word(t, h, i, s[i], out, at);
-        i += 1;
+    for i in 0..words {
+        at = lay_state_word(&table, i, s[i], out, at);
     }
     at
 }

@@ -2,123 +2,90 @@
 // told on standard error by the function that meets it, so a caller only ends.
 #![tactic(auto)]
 
-ghost use Rattle.std.specs.Prelude.{◌≡◌, ◌+◌, ◌≤◌, length, take};
+ghost use Rattle.std.specs.Prelude.{◌≡◌, ◌+◌, ◌≤◌, length, take, IfOk, IfSome};
 ghost use Rattle.files.specs.Counts.{IsPrefixLen};
-ghost use Rattle.files.specs.Holds.{Holds, Fills};
+ghost use Rattle.files.specs.Holds.{Holds, FillsIf};
 
 pub mod faults;
 pub mod space;
 
-use faults::{NOT_TEXT, TOO_LONG, fail, say_bytes};
+use faults::{NOT_TEXT, TOO_LONG, fail, say_bytes, told};
 use std::env::{Env, FillError};
 use std::fs;
 use std::io::{self, Print, Read};
 use text::input::read_words;
-use text::number::least;
 
-// An argument in the lent bytes: how many they are, 0 where it is missing, and whether it has more than were lent, which counts as 0 too.
-#[derive(Clone, Copy)]
-pub struct Argument {
-    pub bytes: usize,
-    pub too_long: bool,
-}
-
-// Puts the i-th argument at the front of the lent bytes.
-pub fn read_argument(rt: HostRuntime, i: usize, word: &mut [u8]) -> Argument
-    ensures { IsPrefixLen result.bytes word.new }
+// Puts the i-th argument at the front of the lent bytes. One that is empty counts as one that is not there.
+pub fn read_argument(rt: HostRuntime, i: usize, word: &mut [u8]) -> Result<usize, FillError>
+    ensures { IfOk result (λ n. IsPrefixLen n word.new) }
 {
-    match rt.arg(i, word) {
-        Ok(bytes) => Argument {
-            bytes,
-            too_long: false,
-        },
-        Err(FillError::NotPresent) => Argument {
-            bytes: 0,
-            too_long: false,
-        },
-        Err(FillError::TooLong) => Argument {
-            bytes: 0,
-            too_long: true,
-        },
+    match rt.arg(i, word)? {
+        0 => Err(FillError::NotPresent),
+        n => Ok(n),
     }
 }
 
 // Tells of an argument that is not there, or empty, or longer than a path can be.
-pub fn missing(rt: HostRuntime, argument: Argument, name: &[u8], usage: &[u8]) {
-    if argument.too_long {
-        fail(rt, name, io::Error::from_raw_os_error(TOO_LONG));
-        return;
+pub fn missing(rt: HostRuntime, why: FillError, name: &[u8], usage: &[u8]) {
+    match why {
+        FillError::TooLong => fail(rt, name, io::Error::from_raw_os_error(TOO_LONG)),
+        FillError::NotPresent => {
+            say_bytes(rt, b"herringcart: ");
+            say_bytes(rt, name);
+            say_bytes(rt, b" is missing: ");
+            say_bytes(rt, usage);
+            say_bytes(rt, b"\n");
+        }
     }
-    say_bytes(rt, b"herringcart: ");
-    say_bytes(rt, name);
-    say_bytes(rt, b" is missing: ");
-    say_bytes(rt, usage);
-    say_bytes(rt, b"\n");
 }
 
-// How many bytes were read into a block, and whether a read failed, which is told apart from the end of the file.
+// A file that is open for reading, and the name by which a read that fails is told.
 #[derive(Clone, Copy)]
-pub struct Filled {
-    pub failed: bool,
-    pub bytes: usize,
+pub struct Source<'a> {
+    pub file: &'a fs::File,
+    pub name: &'a [u8],
 }
 
-// Reads once, into the block from a place on. A read that fails is told.
-fn read_some(
-    rt: HostRuntime,
-    source: &fs::File,
-    name: &[u8],
-    block: &mut [u8],
-    from: usize,
-) -> Filled
-    requires { from ≤ length block.old }
-    ensures { (from + result.bytes ≤ length block.old) × (take from block.new ≡ take from block.old) }
-{
-    let part = &mut block[from..];
-    let mut reader = source;
-    match reader.read(part) {
-        Ok(bytes) => Filled {
-            failed: false,
-            bytes,
-        },
-        Err(error) => {
-            fail(rt, name, error);
-            Filled {
-                failed: true,
-                bytes: 0,
+impl Source<'_> {
+    // Reads once, into the block from a place on: how many bytes, none of them at the file's end; nothing where the read fails, which is told.
+    fn read_some(self, rt: HostRuntime, block: &mut [u8], from: usize) -> Option<usize>
+        requires { from ≤ length block.old }
+        ensures read { IfSome result (λ n. from + n ≤ length block.old) }
+        ensures stay { take from block.new ≡ take from block.old }
+    {
+        let mut reader = self.file;
+        told(rt, self.name, reader.read(&mut block[from..]))
+    }
+
+    // Reads on behind the first `from` bytes of the block, which stay, until it is full or the file ends, so that only a file's last block can
+    // end inside a word, from a pipe too. It counts those bytes with those read. Nothing where a read fails, which is told.
+    pub fn read_on(self, rt: HostRuntime, block: &mut [u8], from: usize) -> Option<usize>
+        ensures { FillsIf from result block.old block.new }
+    {
+        let mut bytes = from.min(block.len());
+        // no `for`: each read says how far it came
+        while bytes < block.len() {
+            let n = self.read_some(rt, block, bytes)?;
+            if n == 0 {
+                break;
             }
+            bytes += n;
         }
+        Some(bytes)
+    }
+
+    // Reads the next block: no bytes at the file's end, and nothing where a read fails, which is told.
+    pub fn read_block(self, rt: HostRuntime, block: &mut [u8]) -> Option<usize>
+        ensures { IfSome result (λ n. IsPrefixLen n block.new) }
+    {
+        self.read_on(rt, block, 0)
     }
 }
 
-// Reads into the block from a place on until it is full or the file ends, so that only a file's last block can end inside a word, from a pipe
-// too. It counts the bytes before the place with those read.
-fn fill(rt: HostRuntime, source: &fs::File, name: &[u8], block: &mut [u8], from: usize) -> Filled
-    ensures { Fills from result.bytes block.old block.new }
-{
-    let mut bytes = least(from, block.len());
-    while bytes < block.len() {
-        let got = read_some(rt, source, name, block, bytes);
-        let n = got.bytes;
-        if n == 0 {
-            return Filled {
-                failed: got.failed,
-                bytes,
-            };
-        }
-        bytes += n;
-    }
-    Filled {
-        failed: false,
-        bytes,
-    }
-}
-
-// A file, how many bytes of the lent path name it, and how many of its own stand in the lent block; no source where it cannot be opened
-// or read.
+// A file, how many bytes of the lent path name it, and how many of its own stand in the lent block.
 #[derive(Drop)]
 pub struct File {
-    pub source: Option<fs::File>,
+    pub source: fs::File,
     pub named: usize,
     pub bytes: usize,
 }
@@ -129,17 +96,11 @@ fn open_path(rt: HostRuntime, path: &[u8]) -> Option<fs::File> {
         fail(rt, path, io::Error::from_raw_os_error(NOT_TEXT));
         return None;
     };
-    match fs::File::open(&rt, name) {
-        Ok(source) => Some(source),
-        Err(error) => {
-            fail(rt, path, error);
-            None
-        }
-    }
+    told(rt, path, fs::File::open(&rt, name))
 }
 
-// Opens the file that the i-th argument names and reads its first block. Where the argument is missing, its `name` and the program's
-// `usage` are told.
+// Opens the file that the i-th argument names and reads its first block. What fails is told; of a missing argument its `name` and the
+// program's `usage`.
 pub fn open(
     rt: HostRuntime,
     i: usize,
@@ -147,105 +108,47 @@ pub fn open(
     usage: &[u8],
     path: &mut [u8],
     block: &mut [u8],
-) -> File
-    ensures { Holds result path.new block.new }
+) -> Option<File>
+    ensures { IfSome result (λ r. Holds r path.new block.new) }
 {
-    let argument = read_argument(rt, i, path);
-    let named = argument.bytes;
-    if named == 0 {
-        missing(rt, argument, name, usage);
-        return File {
-            source: None,
-            named,
-            bytes: 0,
-        };
-    }
-    let Some(source) = open_path(rt, &path[..named]) else {
-        return File {
-            source: None,
-            named,
-            bytes: 0,
-        };
+    let named = match read_argument(rt, i, path) {
+        Ok(named) => named,
+        Err(why) => {
+            missing(rt, why, name, usage);
+            return None;
+        }
     };
-    let filled = fill(rt, &source, &path[..named], block, 0);
-    let bytes = filled.bytes;
-    if filled.failed {
-        return File {
-            source: None,
-            named,
-            bytes,
-        };
-    }
-    File {
-        source: Some(source),
+    let source = open_path(rt, &path[..named])?;
+    let first = Source {
+        file: &source,
+        name: &path[..named],
+    };
+    let bytes = first.read_block(rt, block)?;
+    Some(File {
+        source,
         named,
         bytes,
-    }
+    })
 }
 
-// Reads the next block of the file with that name: no bytes at its end, and none where a read fails.
-pub fn read_block(rt: HostRuntime, source: &fs::File, name: &[u8], block: &mut [u8]) -> Filled
-    ensures { IsPrefixLen result.bytes block.new }
-{
-    let filled = fill(rt, source, name, block, 0);
-    if filled.failed {
-        return Filled {
-            failed: true,
-            bytes: 0,
-        };
-    }
-    filled
-}
-
-// Reads the file with that name on behind the first `from` bytes of the block, which stay, and counts both; the count stays what it is where
-// the file ends or a read fails, which is told.
-pub fn read_on(
-    rt: HostRuntime,
-    source: &fs::File,
-    name: &[u8],
-    block: &mut [u8],
-    from: usize,
-) -> Filled
-    ensures { Fills from result.bytes block.old block.new }
-{
-    fill(rt, source, name, block, from)
-}
-
-// Writes to standard output; false where it cannot.
+// Writes to standard output; false where it cannot, which is told.
 pub fn print(rt: HostRuntime, out: &[u8]) -> bool {
-    match Print::write_all(&rt.stdout(), out) {
-        Ok(()) => true,
-        Err(error) => {
-            fail(rt, b"standard output", error);
-            false
-        }
-    }
+    let written = Print::write_all(&rt.stdout(), out);
+    told(rt, b"standard output", written).is_some()
 }
 
-// Whether a table's file could be read, and how many words of it were.
-#[derive(Clone, Copy)]
-pub struct Table {
-    pub read: bool,
-    pub words: usize,
-}
-
-// Reads the table that the first argument names into the lent words.
-pub fn read_table(rt: HostRuntime, usage: &[u8], path: &mut [u8], words: &mut [u32]) -> Table
-    ensures { IsPrefixLen result.words words.new }
+// Reads the table that the first argument names into the lent words, and says how many; nothing where it cannot be read, which is told.
+pub fn read_table(
+    rt: HostRuntime,
+    usage: &[u8],
+    path: &mut [u8],
+    words: &mut [u32],
+) -> Option<usize>
+    ensures { IfSome result (λ n. IsPrefixLen n words.new) }
 {
     let mut bytes = space::table_bytes();
-    let file = open(rt, 1, b"TABLE", usage, path, &mut bytes);
-    let n = file.bytes;
-    if file.source.is_none() {
-        return Table {
-            read: false,
-            words: 0,
-        };
-    }
-    Table {
-        read: true,
-        words: read_words(&bytes[..n], words),
-    }
+    let file = open(rt, 1, b"TABLE", usage, path, &mut bytes)?;
+    Some(read_words(&bytes[..file.bytes], words))
 }
 
 // Prints the reason and the place of a table that is refused.

@@ -1,16 +1,15 @@
 -- Each verdict is given exactly when its case holds. Assumes nothing.
 use Prim.Native.Nat.{ℕ, zero, suc, ◌<◌, ◌≤◌}
 use mathlib.Core.Path.{◌≡◌, refl, sym, ap, subst, ◌∙◌}
-use mathlib.Core.Bool.{true, false}
 use mathlib.Core.Logic.{◌⊎◌, inl, inr}
 use mathlib.Core.List.{List, [], ◌∷◌}
 use native.Mathlib.Omega.{arith}
 use lib.ListN.{length, get_or, take, drop}
-use lib.Seq.{take_all, take-length}
+use lib.Seq.{take_all}
 use lib.Dec.{eqb}
 use borrow.Author.Tests.{eqb-true, eqb-false, eq-eqb, ne_eqb, lt-ltb, le-ltb}
 use Rattle.rulebook.specs.Step.{Result}
-use Rattle.rulebook.specs.Hold.{Held, parting, held_states, held_traces, beside, held_by, told, as_ordered, refused, traces_part, theirs_stops, ours_stops, states_part}
+use Rattle.rulebook.specs.Hold.{Held, parting, held_states, held_traces, beside, held_by, told, as_ordered, states_part}
 use Rattle.laws.proofs.Tests.{split}
 use Rattle.text.proofs.Digits.{below}
 use Rattle.hold.specs.Cases.{PartAt, StopsAt, Apart, Case, refuses, traces, theirs-stop, ours-stop, states, yes, Exactly, Yes}

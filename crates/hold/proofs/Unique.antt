@@ -2,12 +2,11 @@
 -- Assumes nothing.
 use Prim.Native.Nat.{ℕ}
 use mathlib.Core.Path.{◌≡◌, refl, sym, ap, ◌∙◌}
-use mathlib.Core.List.{List, [], ◌++◌}
-use native.Mathlib.Omega.{arith}
+use mathlib.Core.List.{List, []}
 use lib.ListN.{length, take, drop}
 use lib.Seq.{take-length, take-append_seam}
 use Rattle.rulebook.specs.Step.{Result, step}
-use Rattle.rulebook.specs.Hold.{Held, held_against, held_by, told, as_ordered}
+use Rattle.rulebook.specs.Hold.{held_against, told, as_ordered}
 use Rattle.manager.specs.Promises.{TakesEventIn}
 use Rattle.hold.specs.Promises.{HoldsIn, HoldsForC, part_of}
 use Rattle.hold.specs.Cases.{Case, refuses, traces, theirs-stop, ours-stop, states, yes}

@@ -1,31 +1,25 @@
 -- The verdicts, one after the other, and the words that go with them. Assumes nothing.
 use Prim.Native.Nat.{ℕ, ◌<◌, ◌≤◌, min}
 use mathlib.Core.Path.{◌≡◌, refl, sym, ap, ◌∙◌}
-use mathlib.Core.List.{List, ◌++◌}
+use mathlib.Core.List.{List}
 use native.Mathlib.Omega.{arith}
-use lib.ListN.{length, take, drop, length-append, drop_of_length-le}
-use lib.Seq.{take_all, take-length, drop-length, take-append_seam}
+use lib.ListN.{length, take, drop, length-append}
+use lib.Seq.{take-append_seam}
 use borrow.Author.Tests.{eq-eqb, ne_eqb, lt-ltb, le-ltb}
+use Rattle.std.proofs.lemmas.List.{take_min, drop_min}
 use Rattle.rulebook.specs.Step.{step}
 use Rattle.rulebook.specs.Hold.{parting, held_states, held_traces, beside, held_by, held_against}
 use Rattle.rulebook.specs.Hold.{as_ordered, refused, traces_part, theirs_stops, ours_stops, states_part}
-use Rattle.text.proofs.Digits.{below}
 use Rattle.manager.specs.Promises.{TakesEventIn}
 use Rattle.hold.specs.Promises.{TellsVerdictIn, HoldsIn}
 
--- what a recording does not have is left out
+-- what a recording does not have is left out; to go when `telling` cites the library's two
 
 pub front-least : (ws : List ℕ) (n : ℕ) → take (min n (length ws)) ws ≡ take n ws
-front-least ws n =
-    below n (length ws)
-    (λ h. let m : min n (length ws) ≡ n = omega arith in rw m)
-    (λ h. let m : min n (length ws) ≡ length ws = omega arith in rw m (take-length ws ∙ sym (take_all n ws h)))
+front-least ws n = take_min n ws
 
 pub tail-least : (ws : List ℕ) (n : ℕ) → drop (min n (length ws)) ws ≡ drop n ws
-tail-least ws n =
-    below n (length ws)
-    (λ h. let m : min n (length ws) ≡ n = omega arith in rw m)
-    (λ h. let m : min n (length ws) ≡ length ws = omega arith in rw m (drop-length ws ∙ sym (drop_of_length-le ws h)))
+tail-least ws n = drop_min n ws
 
 module _ (ours theirs : List ℕ) (k : ℕ) (is : k ≡ parting ours theirs) where
   pub states-ours : k < length ours → TellsVerdictIn (held_states (parting ours theirs) ours theirs) states_part k

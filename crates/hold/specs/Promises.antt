@@ -1,7 +1,7 @@
 -- What `hold` and `part` promise: their input, their result, and every lent word afterwards; first over numbers, as `gateway` hands them to C
 -- (..In), then over the verdict that the numbers are of.
 use Rattle.std.specs.Prelude.{ℕ, ◌≡◌, cond, ◌||◌, List, [], ◌++◌, length, take, drop, eqb}
-use Rattle.rulebook.specs.Step.{Result, step}
+use Rattle.rulebook.specs.Step.{step}
 use Rattle.rulebook.specs.Hold.{parting, held_states, held_against, as_ordered, refused, traces_part, theirs_stops, ours_stops, states_part}
 use Rattle.rulebook.specs.Hold as rulebook
 use Rattle.hold.specs.declared.Verdict.{Verdict}

@@ -7,11 +7,9 @@ ghost use Rattle.std.specs.Prelude.{◌≡◌, ◌≤◌, length, take, drop};
 ghost use Rattle.rulebook.specs.Hold.{parting as parting_of, beside};
 ghost use Rattle.hold.specs.Promises.{number_of, given_by, TellsVerdict, TellsStates, Holds, HandsBack};
 
-use events::Answer;
-use text::number::least;
 
 // What is said of a supplier's recording: a refused event has our answer's number, the others the number of a word.
-#[derive(Clone, Copy)]
+#[derive(Clone, Copy, Debug, PartialEq, Eq)]
 pub enum Verdict {
     AsOrdered,
     Refused(u32),
@@ -42,10 +40,10 @@ pub fn given(verdict: Verdict) -> usize
     match verdict {
         Verdict::AsOrdered => 0,
         Verdict::Refused(answer) => answer as usize,
-        Verdict::TracesPart(k) => k,
-        Verdict::TheirsStops(k) => k,
-        Verdict::OursStops(k) => k,
-        Verdict::StatesPart(k) => k,
+        Verdict::TracesPart(k)
+        | Verdict::TheirsStops(k)
+        | Verdict::OursStops(k)
+        | Verdict::StatesPart(k) => k,
     }
 }
 
@@ -53,17 +51,12 @@ pub fn given(verdict: Verdict) -> usize
 fn parting(ours: &[u32], theirs: &[u32]) -> usize
     ensures { result ≡ parting_of ours.now theirs.now }
 {
-    let mut k = 0;
-    while k < ours.len() {
-        if theirs.len() <= k {
+    for (k, word) in ours.iter().enumerate() {
+        if theirs.get(k) != Some(word) {
             return k;
         }
-        if ours[k] != theirs[k] {
-            return k;
-        }
-        k += 1;
     }
-    k
+    ours.len()
 }
 
 // The states, where the traces are the same.
@@ -71,10 +64,7 @@ fn compare_states(ours: &[u32], theirs: &[u32]) -> Verdict
     ensures { TellsStates ours.now theirs.now result }
 {
     let k = parting(ours, theirs);
-    if k < ours.len() {
-        return Verdict::StatesPart(k);
-    }
-    if k < theirs.len() {
+    if k < ours.len().max(theirs.len()) {
         return Verdict::StatesPart(k);
     }
     Verdict::AsOrdered
@@ -85,20 +75,16 @@ pub fn compare(ours: &[u32], state: &[u32], theirs: &[u32], their_state: &[u32])
     ensures { TellsVerdict (beside ours.now state.now theirs.now their_state.now) result }
 {
     let at = parting(ours, theirs);
-    if at < ours.len() {
-        if at < theirs.len() {
-            return Verdict::TracesPart(at);
-        }
-        return Verdict::TheirsStops(at);
+    match (at < ours.len(), at < theirs.len()) {
+        (true, true) => Verdict::TracesPart(at),
+        (true, false) => Verdict::TheirsStops(at),
+        (false, true) => Verdict::OursStops(at),
+        (false, false) => compare_states(state, their_state),
     }
-    if at < theirs.len() {
-        return Verdict::OursStops(at);
-    }
-    compare_states(state, their_state)
 }
 
 // The verdict on a supplier's recording, and what our own step reports: its count, which says how much of the trace is ours, and its visits.
-#[derive(Clone, Copy)]
+#[derive(Clone, Copy, Debug, PartialEq, Eq)]
 pub struct Held {
     pub verdict: Verdict,
     pub count: usize,
@@ -122,7 +108,7 @@ pub fn hold(
     let answer = manager::take_event(t, s, trace, outcomes, e);
     let count = events::count(answer);
     let visits = events::visits(answer);
-    let Answer::Done(_) = answer else {
+    let Ok(_) = answer else {
         return Held {
             verdict: Verdict::Refused(events::number(answer)),
             count,
@@ -138,19 +124,17 @@ pub fn hold(
 }
 
 // The first words of a recording, all of them where it has no more.
-fn front<'a>(words: &'a [u32], to: usize) -> &'a [u32]
+fn front(words: &[u32], to: usize) -> &[u32]
     ensures { result.now ≡ take to words.now }
 {
-    let end = least(to, words.len());
-    &words[..end]
+    &words[..to.min(words.len())]
 }
 
 // The tail of a recording from a word on, empty where it has no such word.
-fn tail<'a>(words: &'a [u32], from: usize) -> &'a [u32]
+fn tail(words: &[u32], from: usize) -> &[u32]
     ensures { result.now ≡ drop from words.now }
 {
-    let start = least(from, words.len());
-    &words[start..]
+    &words[from.min(words.len())..]
 }
 
 // The part that goes with a verdict: the supplier's words from where the traces part, or the rest of whichever recording is longer, the
@@ -158,13 +142,10 @@ fn tail<'a>(words: &'a [u32], from: usize) -> &'a [u32]
 pub fn part<'a>(held: Held, trace: &'a [u32], theirs: &'a [u32]) -> &'a [u32]
     ensures { HandsBack held trace.now theirs.now result.now }
 {
-    let verdict = held.verdict;
-    match verdict {
+    match held.verdict {
         Verdict::TracesPart(k) => tail(theirs, k),
         Verdict::TheirsStops(k) => tail(front(trace, held.count), k),
         Verdict::OursStops(k) => tail(theirs, k),
-        Verdict::AsOrdered => front(theirs, 0),
-        Verdict::Refused(_) => front(theirs, 0),
-        Verdict::StatesPart(_) => front(theirs, 0),
+        Verdict::AsOrdered | Verdict::Refused(_) | Verdict::StatesPart(_) => &[],
     }
 }

@@ -17,8 +17,9 @@ use borrow.Author.Tests.{le-leb}
 use Rattle.laws.proofs.Tests.{split}
 use Rattle.text.proofs.Lay.{front-laid}
 use Rattle.text.proofs.Digits.{below}
-use Rattle.listing.specs.declared.reading.Reading.{Reading}
-use Rattle.listing.specs.declared.reading.Reading.TheVariants.{Words, Line, NoRoom}
+use Rattle.std.specs.Prelude.{Result, Ok, Err}
+use Rattle.listing.specs.declared.reading.Unread.{Unread}
+use Rattle.listing.specs.declared.reading.Unread.TheVariants.{Line, NoRoom}
 use Rattle.listing.specs.Lines.{first_lines, listing, Listable, ListingOf, BadLine}
 use Rattle.listing.specs.Promises.{list_answer, Reads, ReadsWords, RefusesRoom}
 use Rattle.listing.specs.Back.{ReadsBack, ListsBack, AcceptsExactly, OneReading, OneListing, CheckReason}
@@ -56,11 +57,11 @@ one-bad : (text : List ℕ) (j k : ℕ) → BadLine text j → BadLine text k �
 one-bad text j k a b =
     below j k (λ h. absurd (one-before text j k a b h)) (λ h. below k j (λ l. absurd (one-before text k j b a l)) (λ l. omega arith))
 
-words-one : (text lent : List ℕ) (m n : ℕ) (a b : List ℕ) → ReadsWords text lent m a → ReadsWords text lent n b → (Words m ≡ Words n) × (a ≡ b)
+words-one : (text lent : List ℕ) (m n : ℕ) (a b : List ℕ) → ReadsWords text lent m a → ReadsWords text lent n b → ◌≡◌ {A = Result ℕ Unread} (Ok m) (Ok n) × (a ≡ b)
 words-one text lent m n a b x y =
     let t = one-table-lists text x.table y.table x.listed y.listed in
     let e : m ≡ n = x.count ∙ ap length t ∙ sym y.count in
-    (ap Words e, x.words ∙ rw (t, e) (sym y.words))
+    (ap Ok e, x.words ∙ rw (t, e) (sym y.words))
 
 words-room : (text lent : List ℕ) (n : ℕ) (a b : List ℕ) → ReadsWords text lent n a → RefusesRoom text lent b → ⊥
 words-room text lent n a b x y =
@@ -68,15 +69,15 @@ words-room text lent n a b x y =
     omega (arith, x.count, x.inside, y.short, ap length t)
 
 pub one-reading : OneReading
-one-reading text lent (Words m) (Words n) a b x y = words-one text lent m n a b x y
-one-reading text lent (Words m) (Line k) a b x y = absurd (y.bad.none x.table x.listed)
-one-reading text lent (Words m) NoRoom a b x y = absurd (words-room text lent m a b x y)
-one-reading text lent (Line j) (Words n) a b x y = absurd (x.bad.none y.table y.listed)
-one-reading text lent (Line j) (Line k) a b x y = (ap Line (one-bad text j k x.bad y.bad), x.kept ∙ sym y.kept)
-one-reading text lent (Line j) NoRoom a b x y = absurd (x.bad.none y.table y.listed)
-one-reading text lent NoRoom (Words n) a b x y = absurd (words-room text lent n b a y x)
-one-reading text lent NoRoom (Line k) a b x y = absurd (y.bad.none x.table x.listed)
-one-reading text lent NoRoom NoRoom a b x y = (refl, x.kept ∙ sym y.kept)
+one-reading text lent (Ok m) (Ok n) a b x y = words-one text lent m n a b x y
+one-reading text lent (Ok m) (Err (Line k)) a b x y = absurd (y.bad.none x.table x.listed)
+one-reading text lent (Ok m) (Err NoRoom) a b x y = absurd (words-room text lent m a b x y)
+one-reading text lent (Err (Line j)) (Ok n) a b x y = absurd (x.bad.none y.table y.listed)
+one-reading text lent (Err (Line j)) (Err (Line k)) a b x y = (ap (λ (l : ℕ). Err (Line l)) (one-bad text j k x.bad y.bad), x.kept ∙ sym y.kept)
+one-reading text lent (Err (Line j)) (Err NoRoom) a b x y = absurd (x.bad.none y.table y.listed)
+one-reading text lent (Err NoRoom) (Ok n) a b x y = absurd (words-room text lent n b a y x)
+one-reading text lent (Err NoRoom) (Err (Line k)) a b x y = absurd (y.bad.none x.table x.listed)
+one-reading text lent (Err NoRoom) (Err NoRoom) a b x y = (refl, x.kept ∙ sym y.kept)
 
 pub one-listing : OneListing
 one-listing t out k n l m a b x y = (x.answer ∙ sym y.answer, x.count ∙ sym y.count, x.bytes ∙ sym y.bytes)
@@ -88,7 +89,7 @@ of-itself t l = record { listable = l; same = refl }
 
 pub reads-back : ReadsBack
 reads-back t lent r lent' l room x =
-    one-reading (listing t) lent r (Words (length t)) lent' (t ++ drop (length t) lent) x
+    one-reading (listing t) lent r (Ok (length t)) lent' (t ++ drop (length t) lent) x
     (record { table = t; listed = of-itself t l; count = refl; inside = room; words = refl })
 
 pub lists_back : ListsBack
@@ -100,13 +101,13 @@ lists_back text lent n lent' out k m out' x y room =
     let e : m ≡ length text = y.count ∙ rw (z, is) in
     record { answer = y.answer ∙ z; count = e; bytes = rw (y.bytes, z, is, e) (front-laid out text) }
 
-accepts : (text lent : List ℕ) (r : Reading) (lent' : List ℕ) → Reads text lent r lent' → ((k : ℕ) → r ≡ Line k → ⊥) → (t : List ℕ) × ListingOf text t
-accepts text lent (Words n) lent' x no_line = (x.table, x.listed)
-accepts text lent (Line k) lent' x no_line = absurd (no_line k refl)
-accepts text lent NoRoom lent' x no_line = (x.table, x.listed)
+accepts : (text lent : List ℕ) (r : Result ℕ Unread) (lent' : List ℕ) → Reads text lent r lent' → ((k : ℕ) → r ≡ Err (Line k) → ⊥) → (t : List ℕ) × ListingOf text t
+accepts text lent (Ok n) lent' x no_line = (x.table, x.listed)
+accepts text lent (Err (Line k)) lent' x no_line = absurd (no_line k refl)
+accepts text lent (Err NoRoom) lent' x no_line = (x.table, x.listed)
 
-refuses : (text lent : List ℕ) (r : Reading) (lent' : List ℕ) → Reads text lent r lent' → (t : List ℕ) → ListingOf text t → (k : ℕ) → r ≡ Line k → ⊥
-refuses text lent r lent' x t is k e = (subst (λ (s : Reading). Reads text lent s lent') e x).bad.none t is
+refuses : (text lent : List ℕ) (r : Result ℕ Unread) (lent' : List ℕ) → Reads text lent r lent' → (t : List ℕ) → ListingOf text t → (k : ℕ) → r ≡ Err (Line k) → ⊥
+refuses text lent r lent' x t is k e = (subst (λ (s : Result ℕ Unread). Reads text lent s lent') e x).bad.none t is
 
 pub accepts-exactly : AcceptsExactly
 accepts-exactly text lent r lent' x = (accepts text lent r lent' x, λ found. refuses text lent r lent' x found.0 found.1)

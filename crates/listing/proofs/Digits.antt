@@ -8,7 +8,10 @@ use borrow.Author.Tests.{le-leb, lt-leb, lt-ltb}
 use Rattle.text.specs.Lines.{hex_digit, decimal}
 use Rattle.text.proofs.Digits.{below, worth, value_from, value}
 use Rattle.text.proofs.Decimal.{decimal-one, decimal-more, decimal-says}
-use Rattle.listing.specs.Inside.{digit_of}
+use Rattle.std.specs.Prelude.{Option, Some, None, MatchOption}
+use Rattle.std.specs.Option.{SomeIff}
+use Rattle.std.specs.Char.{digit_value as digit_of_char, NotDecimalDigitIn, IsDigitOf}
+use Rattle.listing.specs.Inside.{digit_of, ReadsDigit}
 
 module _ (b : ℕ) where
   pub no-digit-below : b < 48 → 10 ≡ digit_of b
@@ -104,3 +107,13 @@ front_below v n rest e m no-e same =
 
 pub decimal-one-to-one : (v n : ℕ) → decimal v ≡ decimal n → v ≡ n
 decimal-one-to-one v n e = sym (decimal-says v) ∙ ap (value 10) e ∙ decimal-says n
+
+-- the digit at a place, as the library reads it
+
+module _ (text : List ℕ) (at c : ℕ) (is : c ≡ get_or text at 0) where
+  pub reads_digit : (r : Option ℕ) → SomeIff r (digit_of_char c < 10) (digit_of_char c) → MatchOption r (NotDecimalDigitIn 10 c) (IsDigitOf c)
+      → ReadsDigit text at r
+  reads_digit (Some d) small cases =
+      let low : (48 ≤ c) × (c ≤ 57) × (48 + d ≡ c) = grind arith in
+      (omega (arith, digit_value c low.0 low.1, ap digit_of is), omega arith)
+  reads_digit None large cases = rw (← is) (digit_or c (λ d e. absurd (omega (arith, cases d.low d.high, d.high))) (λ n e. omega arith))

@@ -4,7 +4,7 @@ use mathlib.Core.Path.{◌≡◌, refl, sym, ap, ◌∙◌}
 use mathlib.Core.List.{List, [], ◌∷◌, ◌++◌}
 use native.Mathlib.Omega.{arith}
 use lib.ListN.{length, get_or, drop, length-append}
-use lib.Pow.{pow-add, shl-shr}
+use lib.Pow.{pow_pos, pow-add, shl-shr}
 use Rattle.rulebook.specs.Words.{digit, field}
 use Rattle.rulebook.specs.Listing.{form, fields_from, fields_of}
 use Rattle.text.specs.Lines.{decimal}
@@ -60,6 +60,11 @@ module _ (f w : ℕ) where
       module _ (there : k < length widths) where
         fits : next + length (piece k there) ≤ length out
         fits = omega (arith, length-next k there, a.place, a.long)
+
+        pub unit-some : (size : ℕ) → size ≡ 2 ^ get_or widths k 0 → 0 < unit / size
+        unit-some size s =
+            rw (next-unit (bits k widths) (get_or widths k 0) unit size (width-there f k there).within a.per s)
+            (pow_pos (32 - (bits k widths + get_or widths k 0)))
 
         -- the byte that ends it, and its value by unit and size
         pub laid_next : (size n : ℕ) (o' : List ℕ) (end v : ℕ) → size ≡ 2 ^ get_or widths k 0

@@ -7,7 +7,6 @@ pub mod Laying
 pub mod Lists
 pub mod Packing
 pub mod Cases
-pub mod Names
 pub mod ByKind
 pub mod OneLine
 pub mod Places

@@ -1,44 +1,24 @@
 -- Lines one behind the other: how long they are, what they leave of a room, and a listing laid. Assumes nothing.
 use Prim.Native.Nat.{ℕ, zero, suc, ◌+◌, ◌-◌, ◌*◌, ◌/◌, ◌^◌, ◌<◌, ◌≤◌}
-use mathlib.Core.Path.{◌≡◌, refl, sym, ap, subst, ◌∙◌}
+use mathlib.Core.Path.{◌≡◌, refl, sym, ap, ◌∙◌}
 use mathlib.Core.List.{List, [], ◌∷◌, ◌++◌}
 use native.Mathlib.Nat.{mod-lt, zero-add}
 use native.Mathlib.Numerals.{add-one}
 use native.Mathlib.Omega.{arith}
-use lib.ListN.{length, get_or, take, replicate, length-append}
-use lib.Seq.{take-take, take_at}
+use lib.ListN.{length, get_or, length-append}
 use lib.Pow.{pow_pos, pow_mono}
 use borrow.Author.Tests.{ne_eqb, lt-ltb, le-ltb}
 use Rattle.rulebook.specs.Words.{digit, field}
-use Rattle.rulebook.specs.Listing.{form, kind_form, by_kind, fields_from, fields_of, shape_reason}
-use Rattle.text.specs.Puts.{PutAt}
+use Rattle.rulebook.specs.Listing.{form, fields_from, fields_of, shape_reason}
+use Rattle.text.specs.Puts.{Put, PutAt}
 use Rattle.text.proofs.Decimal.{decimal-within}
 use Rattle.text.proofs.Lay.{lay-none}
-use Rattle.text.proofs.Puts.{put-more, put-length}
-use Rattle.listing.specs.declared.writing.Room.{Room}
-use Rattle.listing.specs.declared.writing.Room.TheVariants.{Left, Short}
+use Rattle.text.proofs.Puts.{one-put, put-more, put-length}
 use Rattle.listing.specs.Lines.{spelt, line, line_at, first_lines, listing}
-use Rattle.listing.specs.Inside.{padded, Leaves}
-use Rattle.listing.specs.Promises.{list_answer, ListsIn}
+use Rattle.listing.specs.declared.writing.NotListed.{NotListed}
+use Rattle.listing.specs.declared.writing.NotListed.TheVariants.{TooShort, WrongEdition, WrongCounts, WrongLength, NoRoom}
+use Rattle.listing.specs.Promises.{refusal_number, list_answer, ListsIn}
 use Rattle.listing.proofs.Widths.{short-name, few-fields, narrow}
-
--- the name at the front of its bytes
-pub name-there : (f n : ℕ) (bytes : List ℕ) → bytes ≡ padded 11 (form f).name → n ≡ length (form f).name → take n bytes ≡ (form f).name
-unfolding padded
-name-there f n bytes e is =
-    let short = short-name f in
-    rw (e, is)
-    (take-take (length (form f).name) 11 ((form f).name ++ replicate 11 0) short ∙ take_at (form f).name (replicate 11 0) (length (form f).name) refl)
-
--- the form of a line, by the form at its place and the word's kind
-pub form-of-line : {r g k w' : ℕ} (f w : ℕ) → r ≡ kind_form g k → g ≡ f → k ≡ field 0 4 w' → w' ≡ w → r ≡ by_kind f w
-form-of-line f w e a b c = e ∙ rw (a, b, c)
-
-pub same_line : {r w' : ℕ} (f w : ℕ) → r ≡ by_kind f w → w' ≡ w → line r w' ≡ line (by_kind f w) w
-same_line f w e b = rw (e, b)
-
-pub put_as : {xs ys out : List ℕ} {at n : ℕ} {o : List ℕ} → xs ≡ ys → PutAt xs out at n o → PutAt ys out at n o
-put_as {out = out} {at = at} {n = n} {o = o} e p = subst (λ (zs : List ℕ). PutAt zs out at n o) e p
 
 -- No line is longer than 47 bytes: 11 of the name, and six for each of six fields.
 
@@ -65,6 +45,24 @@ line-short f w =
     let few = few-fields f in
     let fields = spelt-short 0 (form f).widths w (λ k h. narrow f k h) in
     simp length-append (omega arith)
+
+-- a name is laid, and its line's fields fit behind it; with them its line is laid
+
+module _ (f w : ℕ) {before out name : List ℕ} {at next : ℕ} (room : at + length (line f w) ≤ length before) (is : name ≡ (form f).name)
+    (laid : Put name before at next out) where
+  name-room : at + length (form f).name + length (spelt (fields_of f w)) ≤ length before
+  unfolding line
+  name-room = omega (arith, length-append (form f).name (spelt (fields_of f w)))
+
+  its-name : PutAt (form f).name before at next out
+  its-name = one-put {line = (form f).name} (omega (arith, name-room)) (rw is at laid)
+
+  pub name_fits : next + length (spelt (fields_of f w)) ≤ length out
+  name_fits = omega (arith, name-room, its-name.place, put-length {xs = (form f).name} (omega (arith, name-room)) its-name)
+
+  pub name_put : {behind : ℕ} {after : List ℕ} → PutAt (spelt (fields_of f w)) out next behind after → PutAt (line f w) before at behind after
+  unfolding line
+  name_put fields = put-more {xs = (form f).name} {ys = spelt (fields_of f w)} (omega (arith, name-room)) its-name fields
 
 -- nothing laid
 put-none : (out : List ℕ) (at : ℕ) → PutAt [] out at at out
@@ -149,13 +147,14 @@ module _ (t : List ℕ) where
   pub left_end : (room left : ℕ) → (i : ℕ) → i ≡ length t → LeftOf room left i → left + length (listing t) ≡ room
   left_end room left i e so = rw all_lines (rw e at so)
 
-pub left-of : (xs : List ℕ) (room : ℕ) {left : ℕ} {r : Room} → r ≡ Left left → Leaves xs room r → left + length xs ≡ room
-left-of xs room e l = subst (λ (r : Room). Leaves xs room r) e l
-
-pub short-of : (xs : List ℕ) (room : ℕ) {r : Room} → r ≡ Short → Leaves xs room r → room < length xs
-short-of xs room e l = subst (λ (r : Room). Leaves xs room r) e l
-
 -- the answers
+
+pub some-refusal : (n : NotListed) → refusal_number n ≡ 0 → ⊥
+some-refusal TooShort z = omega arith
+some-refusal WrongEdition z = omega arith
+some-refusal WrongCounts z = omega arith
+some-refusal WrongLength z = omega arith
+some-refusal NoRoom z = omega arith
 
 module _ (t out : List ℕ) where
   refused : (k : ℕ) → list_answer t (length out) ≡ k → (k ≡ 0 → ⊥) → ListsIn t out k 0 out

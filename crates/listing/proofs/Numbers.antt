@@ -58,13 +58,12 @@ module _ (text : List ℕ) where
   pub step-on : (p b : ℕ) → p < length text → get_or text p 0 ≡ b → drop p text ≡ b ∷ drop (p + 1) text
   step-on p b h e = rw (add-one, drop-cons text p 0 h, e)
 
--- so far `value` is told up to p, and d is the digit there
-pub record Begun (text : List ℕ) (at size value p d : ℕ) : Type 0 where
+-- so far `value` is told up to p
+pub record Begun (text : List ℕ) (at size value p : ℕ) : Type 0 where
   pub from : at ≤ p
   pub inside : p ≤ length text
   pub small : value < size
   pub same : drop at text ≡ leading value ++ drop p text
-  pub digit : d ≡ digit_at text p
 
 module _ (text : List ℕ) (at size end : ℕ) (asked : Spelling text at size end) where
   no_end : Digit end → ⊥
@@ -76,32 +75,36 @@ module _ (text : List ℕ) (at size end : ℕ) (asked : Spelling text at size en
   abbrev Stands : ℕ → List ℕ → Type 0
   Stands v rest = drop at text ≡ (decimal v ++ end ∷ []) ++ rest
 
-  pub begin : (d : ℕ) → d ≡ digit_at text at → Begun text at size 0 at d
+  pub begin : Begun text at size 0 at
   unfolding leading
-  begin d e = record { from = omega arith; inside = asked.inside; small = omega (arith, asked.some); same = refl; digit = e }
+  begin = record { from = omega arith; inside = asked.inside; small = omega (arith, asked.some); same = refl }
 
-  module _ (first : digit_at text at ≡ 0 → ⊥) (value p d : ℕ) (so : Begun text at size value p d) where
+  -- behind that, d is the digit at p, where the first is not 0
+  module _ (first : get_or text at 0 ≡ 48 → ⊥) (value p d : ℕ) (so : Begun text at size value p) (digit : d ≡ digit_at text p) where
+    not-zero : digit_at text at ≡ 0 → ⊥
+    not-zero z = first (omega (arith, (is_digit (get_or text at 0) (omega arith)).1))
+
     -- where nothing is told yet, the digit at p is the first
     is-first : value ≡ 0 → d ≡ digit_at text at
     unfolding leading
     is-first z =
         let same : drop at text ≡ drop p text = rw z at so.same in
-        so.digit ∙ ap digit_of (sym (here text p) ∙ ap head (sym same) ∙ here text at)
+        digit ∙ ap digit_of (sym (here text p) ∙ ap head (sym same) ∙ here text at)
 
     module _ (small : d < 10) where
       there : p < length text
-      there = digit-inside text p (omega (arith, so.digit))
+      there = digit-inside text p (omega (arith, digit))
 
       longer : drop at text ≡ leading (value * 10 + d) ++ drop (p + 1) text
       longer =
-          let is = (is_digit (get_or text p 0) (omega (arith, so.digit))).1 in
-          let b : get_or text p 0 ≡ 48 + d = omega (arith, so.digit) in
+          let is = (is_digit (get_or text p 0) (omega (arith, digit))).1 in
+          let b : get_or text p 0 ≡ 48 + d = omega (arith, digit) in
           so.same
-          ∙ rw (step-on text p (48 + d) there b, leading-more value d small (λ z e. first (sym (is-first z) ∙ e)))
+          ∙ rw (step-on text p (48 + d) there b, leading-more value d small (λ z e. not-zero (sym (is-first z) ∙ e)))
           (sym (append_assoc (leading value) ((48 + d) ∷ []) (drop (p + 1) text)))
 
-      pub step : value * 10 + d < size → Begun text at size (value * 10 + d) (p + 1) (digit_at text (p + 1))
-      step h = record { from = omega (arith, so.from); inside = omega (arith, there); small = h; same = longer; digit = refl }
+      pub step : value * 10 + d < size → Begun text at size (value * 10 + d) (p + 1)
+      step h = record { from = omega (arith, so.from); inside = omega (arith, there); small = h; same = longer }
 
       pub too_large : size ≤ value * 10 + d → (v : ℕ) (rest : List ℕ) → v < size → Stands v rest → ⊥
       too_large h v rest small stands =
@@ -111,7 +114,7 @@ module _ (text : List ℕ) (at size end : ℕ) (asked : Spelling text at size en
 
     module _ (past : 10 ≤ d) where
       no_more : Digit (head (drop p text)) → ⊥
-      no_more x = is_none (get_or text p 0) (omega (arith, so.digit)) (rw (here text p) at x)
+      no_more x = is_none (get_or text p 0) (omega (arith, digit)) (rw (here text p) at x)
 
       pub nothing-told : value ≡ 0 → (v : ℕ) (rest : List ℕ) → v < size → Stands v rest → ⊥
       unfolding leading value_of value_from
@@ -144,12 +147,9 @@ module _ (text : List ℕ) (at size end : ℕ) (asked : Spelling text at size en
 
   -- a zero at the front
 
-  module _ (zero-there : digit_at text at ≡ 0) where
-    is_zero : get_or text at 0 ≡ 48
-    is_zero = omega (arith, (is_digit (get_or text at 0) (omega arith)).1)
-
+  module _ (is_zero : get_or text at 0 ≡ 48) where
     at-inside : at < length text
-    at-inside = digit-inside text at (omega arith)
+    at-inside = byte_inside text at 48 is_zero (omega arith)
 
     pub zero-alone : get_or text (at + 1) 0 ≡ end → HasNumber size end text at 0 (at + 2)
     zero-alone e =

@@ -51,6 +51,9 @@ module _ (t : List ℕ) (i : ℕ) where
       (split (ltb i (rules_from t)) (λ d. rw d)
       (λ d. rw d (split (ltb i (lists_from t)) (λ e. rw e) (λ e. rw e (split (ltb i (items_from t)) (λ f. rw f) (λ f. rw f))))))))))))
 
+  pub on-header : part t i ≡ in_header → i < 3
+  on-header e = below i 3 (λ h. h) (λ h. absurd (true≢false (ap in-header (sym e) ∙ outside h)))
+
   bounded : (p : Part) → Outside p → place_form t i p < 13
   unfolding place_form
   bounded in_header o = absurd (true≢false o)

@@ -3,11 +3,11 @@ use Prim.Native.Nat.{ℕ, zero, suc, ◌+◌, ◌-◌, ◌^◌, ◌<◌, ◌≤�
 use mathlib.Core.Path.{◌≡◌, refl, ◌∙◌}
 use mathlib.Core.Bool.{Bool, true, false, ◌&&◌, ◌||◌, cond}
 use mathlib.Core.Logic.{◌⊎◌, inl, inr, ⊎_elim}
-use mathlib.Core.List.{List, [], ◌∷◌, ◌++◌}
+use mathlib.Core.List.{List, [], ◌∷◌}
 use native.Mathlib.Numerals.{add-one}
 use native.Mathlib.Omega.{arith}
-use lib.ListN.{length, get_or, drop, replicate, get_or-append, drop_of_length-le, length-map}
-use lib.Seq.{drop-cons, get_or-take}
+use lib.ListN.{length, get_or, drop, drop_of_length-le, length-map}
+use lib.Seq.{drop-cons}
 use lib.Pow.{pow_pos, pow_mono}
 use lib.Dec.{eqb, leb, ltb}
 use borrow.Author.Tests.{eqb-true, leb-true, lt-ltb, le-ltb}
@@ -16,7 +16,7 @@ use Rattle.text.proofs.Digits.{below}
 use Rattle.rulebook.specs.Words.{field}
 use Rattle.rulebook.specs.Listing.{Form, of, form, forms, fields_from, fields_of}
 use Rattle.listing.specs.Lines.{ending}
-use Rattle.listing.specs.Inside.{padded, sizes_of, power}
+use Rattle.listing.specs.Inside.{sizes_of, power}
 
 -- A test of every form, computed over them all.
 
@@ -140,23 +140,6 @@ module _ (f : ℕ) where
     pub narrow : get_or of-form k 0 ≤ 16
     narrow = width-there.most
 
-    -- the size that stands in the row
-    pub size-there : (row : List ℕ) → row ≡ padded 6 (sizes_of of-form) → get_or row k 0 ≡ 2 ^ get_or of-form k 0
-    unfolding padded sizes_of
-    size-there row e =
-        let few = few-fields f in
-        rw e
-        (get_or-take 6 (sizes_of of-form ++ replicate 6 0) k 0 (omega arith)
-        ∙ get_or-append (sizes_of of-form) (replicate 6 0) 0 k (rw (length-map of-form power) there)
-        ∙ size-at k of-form there)
-
-    module _ (row : List ℕ) (is : row ≡ padded 6 (sizes_of of-form)) where
-      pub size-some : 1 ≤ get_or row k 0
-      size-some = rw (size-there row is) (pow_pos (get_or of-form k 0))
-
-      pub size-most : get_or row k 0 ≤ 65536
-      size-most = rw (size-there row is) (pow_mono {j = 16} narrow)
-
     -- what stands behind the k-th field
     pub ends-field : (from w : ℕ) → cond (ltb (k + 1) (length of-form)) 32 10 ≡ ending (fields_from from (drop (k + 1) of-form) w)
     unfolding ending fields_from
@@ -179,3 +162,27 @@ module _ (f : ℕ) where
   pub fields-all : (w : ℕ) → fields_of f w ≡ fields_from (bits 0 of-form) (drop 0 of-form) w
   unfolding fields_of bits
   fields-all w = refl
+
+-- a form's sizes in a row, as the code has them, and what ends the k-th field
+
+module _ (f : ℕ) (row : List ℕ) (is : row ≡ sizes_of (form f).widths) where
+  pub row-length : length row ≡ length (form f).widths
+  unfolding sizes_of
+  row-length = rw is (length-map (form f).widths power)
+
+  module _ (k : ℕ) (in-row : k < length row) where
+    pub field-there : k < length (form f).widths
+    field-there = rw row-length at in-row
+
+    pub size-there : get_or row k 0 ≡ 2 ^ get_or (form f).widths k 0
+    size-there = rw is (size-at k (form f).widths field-there)
+
+    pub size-some : 1 ≤ get_or row k 0
+    size-some = rw size-there (pow_pos (get_or (form f).widths k 0))
+
+    pub size-most : get_or row k 0 ≤ 65536
+    size-most = rw size-there (pow_mono {j = 16} (narrow f k field-there))
+
+    pub ends-row : (end from w : ℕ) → end ≡ cond (ltb (k + 1) (length row)) 32 10
+        → end ≡ ending (fields_from from (drop (k + 1) (form f).widths) w)
+    ends-row end from w e = e ∙ rw row-length (ends-field f k field-there from w)

@@ -1,20 +1,20 @@
 -- There and back, each said of calls: of every result that the promises of `list` and `read` allow. Proved in proofs/Back, proofs/Window and proofs/Named.
-use Rattle.std.specs.Prelude.{ℕ, ◌*◌, ◌≤◌, ◌<◌, ◌≡◌, cond, List, [], ◌∷◌, ◌++◌, ◌↔◌, length, take, drop, eqb}
+use Rattle.std.specs.Prelude.{ℕ, ◌*◌, ◌≤◌, ◌<◌, ◌≡◌, cond, List, [], ◌∷◌, ◌++◌, ◌↔◌, length, take, drop, eqb, Result, Ok, Err}
 use Rattle.rulebook.specs.Words.{word, between}
 use Rattle.rulebook.specs.Table
 use Rattle.rulebook.specs.Table.{Part, in_header, at_port, at_network, at_waits, at_source, at_expression, at_rule, at_list, at_item, part}
 use Rattle.rulebook.specs.Reasons.{check}
 use Rattle.rulebook.specs.Expressions.{operator}
 use Rattle.rulebook.specs.Listing.{by_kind, form_at, fields_of, shape_reason}
-use Rattle.listing.specs.declared.reading.Reading.{Reading}
-use Rattle.listing.specs.declared.reading.Reading.TheVariants as reading
+use Rattle.listing.specs.declared.reading.Unread.{Unread}
+use Rattle.listing.specs.declared.reading.Unread.TheVariants as unread
 use Rattle.listing.specs.Lines.{listing, Listable, ListingOf, BadLine}
 use Rattle.listing.specs.Promises.{ListsIn, Reads}
 
 -- "Reading a listing gives the same words", for every table that lists
 abbrev pub ReadsBack : Type 0
-ReadsBack = (t lent : List ℕ) (r : Reading) (lent' : List ℕ) → Listable t → length t ≤ length lent → Reads (listing t) lent r lent'
-    → (r ≡ reading.Words (length t)) × (lent' ≡ t ++ drop (length t) lent)
+ReadsBack = (t lent : List ℕ) (r : Result ℕ Unread) (lent' : List ℕ) → Listable t → length t ≤ length lent → Reads (listing t) lent r lent'
+    → (r ≡ Ok (length t)) × (lent' ≡ t ++ drop (length t) lent)
 
 -- "listing what was read gives the same bytes", for every text that reads
 pub record SameBytes (text : List ℕ) (k m : ℕ) (out' : List ℕ) : Type 0 where
@@ -23,19 +23,19 @@ pub record SameBytes (text : List ℕ) (k m : ℕ) (out' : List ℕ) : Type 0 wh
   pub bytes : take m out' ≡ text
 
 abbrev pub ListsBack : Type 0
-ListsBack = (text lent : List ℕ) (n : ℕ) (lent' out : List ℕ) (k m : ℕ) (out' : List ℕ) → Reads text lent (reading.Words n) lent'
+ListsBack = (text lent : List ℕ) (n : ℕ) (lent' out : List ℕ) (k m : ℕ) (out' : List ℕ) → Reads text lent (Ok n) lent'
     → ListsIn (take n lent') out k m out' → length text ≤ length out
     → SameBytes text k m out'
 
 -- "The reader accepts exactly the listings": a text is refused with a line exactly if it is no listing
 abbrev pub AcceptsExactly : Type 0
-AcceptsExactly = (text lent : List ℕ) (r : Reading) (lent' : List ℕ) → Reads text lent r lent'
-    → ((k : ℕ) → r ≡ reading.Line k → ⊥) ↔ ((t : List ℕ) × ListingOf text t)
+AcceptsExactly = (text lent : List ℕ) (r : Result ℕ Unread) (lent' : List ℕ) → Reads text lent r lent'
+    → ((k : ℕ) → r ≡ Err (unread.Line k) → ⊥) ↔ ((t : List ℕ) × ListingOf text t)
 
 -- two results that a promise allows are equal
 
 abbrev pub OneReading : Type 0
-OneReading = (text lent : List ℕ) (r s : Reading) (a b : List ℕ) → Reads text lent r a → Reads text lent s b → (r ≡ s) × (a ≡ b)
+OneReading = (text lent : List ℕ) (r s : Result ℕ Unread) (a b : List ℕ) → Reads text lent r a → Reads text lent s b → (r ≡ s) × (a ≡ b)
 
 abbrev pub OneListing : Type 0
 OneListing = (t out : List ℕ) (k n l m : ℕ) (a b : List ℕ) → ListsIn t out k n a → ListsIn t out l m b → (k ≡ l) × (n ≡ m) × (a ≡ b)

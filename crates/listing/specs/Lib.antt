@@ -4,3 +4,4 @@ pub mod Promises
 pub mod Back
 pub mod Marked
 pub mod Inside
+pub mod Forms

@@ -1,106 +1,85 @@
 // A table's listing laid into lent bytes: refused with reason 1 to 4 where one holds, then where the bytes are too few, and then nothing is written.
 ghost use Rattle.std.specs.Prelude.{◌≡◌, ◌+◌, ◌<◌, ◌≤◌, length};
 ghost use Rattle.text.specs.Puts.{PutAt};
-ghost use Rattle.tables.specs.Finding.{shape_number};
-ghost use Rattle.words.specs.Sections.{Whole};
+ghost use Rattle.tables.specs.Finding.{fault_of, fault_finding};
 ghost use Rattle.rulebook.specs.Listing.{fields_of};
+ghost use Rattle.rulebook.specs.Table.{table_length};
+ghost use Rattle.listing.specs.Forms.{form_number};
 ghost use Rattle.listing.specs.Lines.{spelt, line, line_at, listing};
-ghost use Rattle.listing.specs.Promises.{listed_number, bytes_of as bytes_in, Lists};
+ghost use Rattle.listing.specs.Promises.{refusal_number, listed_number, bytes_of as bytes_in, Lists};
 ghost use Rattle.listing.specs.Inside.{Leaves};
 
-use crate::forms::{ending, fields, form_at, letters, name, of_kind, sizes};
-use tables::Shape;
+use crate::forms::{Form, ending, form_at, name, of_kind, sizes};
+use tables::Misshapen;
 use text::output::{put_decimal, put_label};
-use words::sections::Layout;
-use words::table::expression_kind;
+use words::expressions::expression_kind;
+use words::table::Table;
 use words::word;
 
 // Lays a word's fields, spelt in a form. What is above a field in the word is a multiple of unit times size.
-fn lay_fields(out: &mut [u8], at: usize, f: usize, w: u32) -> usize
-    requires { at + length (spelt (fields_of f w)) ≤ length out.old }
-    ensures { PutAt (spelt (fields_of f w)) out.old at result out.new }
+fn lay_fields(out: &mut [u8], at: usize, f: Form, w: u32) -> usize
+    requires { at + length (spelt (fields_of (form_number f) w)) ≤ length out.old }
+    ensures { PutAt (spelt (fields_of (form_number f) w)) out.old at result out.new }
 {
-    let n = fields(f);
     let row = sizes(f);
     let mut next = at;
     let mut unit: u64 = 4294967296;
-    let mut k = 0;
-    while k < n {
-        let size = row[k] as u64;
+    for (k, size) in row.iter().enumerate() {
+        let size = u64::from(*size);
         unit /= size;
-        next = put_decimal(out, next, w as u64 / unit % size, ending(k, n));
-        k += 1;
+        next = put_decimal(out, next, u64::from(w) / unit % size, ending(k, row.len()));
     }
     next
 }
 
 // Lays a word's line in a form.
-fn lay_form(out: &mut [u8], at: usize, f: usize, w: u32) -> usize
-    requires { at + length (line f w) ≤ length out.old }
-    ensures { PutAt (line f w) out.old at result out.new }
+fn lay_form(out: &mut [u8], at: usize, f: Form, w: u32) -> usize
+    requires { at + length (line (form_number f) w) ≤ length out.old }
+    ensures { PutAt (line (form_number f) w) out.old at result out.new }
 {
-    let bytes = name(f);
-    let n = letters(f);
-    let next = put_label(out, at, &bytes[..n]);
+    let next = put_label(out, at, name(f));
     lay_fields(out, next, f, w)
 }
 
 // Lays the line of the word at a place.
-fn lay_line(out: &mut [u8], at: usize, t: &[u32], h: Layout, i: usize) -> usize
-    requires { Whole t.now h × (i < length t.now) × (at + length (line_at t.now i) ≤ length out.old) }
-    ensures { PutAt (line_at t.now i) out.old at result out.new }
+fn lay_line(out: &mut [u8], at: usize, t: &Table, i: usize) -> usize
+    requires { (i < table_length t.now.words) × (at + length (line_at t.now.words i) ≤ length out.old) }
+    ensures { PutAt (line_at t.now.words i) out.old at result out.new }
 {
-    let w = word(t, i);
-    let f = of_kind(form_at(t, h, i), expression_kind(w));
+    let w = word(t.words(), i);
+    let f = of_kind(form_at(t, i), expression_kind(w));
     lay_form(out, at, f, w)
 }
 
-// What lines leave of a room, or that they do not fit.
-#[derive(Clone, Copy)]
-enum Room {
-    Left(usize),
-    Short,
-}
-
-// What a listing leaves of a room: each line is laid into bytes of our own for its length.
-fn listing_room(t: &[u32], h: Layout, room: usize) -> Room
-    requires { Whole t.now h }
-    ensures { Leaves (listing t.now) room result }
+// What a listing leaves of a room, or None where it does not fit: each line is laid into bytes of our own for its length.
+fn listing_room(t: &Table, room: usize) -> Option<usize>
+    requires { table_length t.now.words ≡ length t.now.words }
+    ensures { Leaves (listing t.now.words) room result }
 {
-    let n = t.len();
     let mut left = room;
-    let mut i = 0;
-    while i < n {
+    for i in 0..t.length() {
         let mut bytes = [0u8; 64];
-        let long = lay_line(&mut bytes, 0, t, h, i);
-        if left < long {
-            return Room::Short;
-        }
-        left -= long;
-        i += 1;
+        let long = lay_line(&mut bytes, 0, t, i);
+        left = left.checked_sub(long)?;
     }
-    Room::Left(left)
+    Some(left)
 }
 
 // Lays a whole listing at the front.
-fn lay_listing(out: &mut [u8], t: &[u32], h: Layout) -> usize
-    requires { Whole t.now h × (length (listing t.now) ≤ length out.old) }
-    ensures { PutAt (listing t.now) out.old 0 result out.new }
+fn lay_listing(out: &mut [u8], t: &Table) -> usize
+    requires { (table_length t.now.words ≡ length t.now.words) × (length (listing t.now.words) ≤ length out.old) }
+    ensures { PutAt (listing t.now.words) out.old 0 result out.new }
 {
-    let n = t.len();
     let mut next = 0;
-    let mut i = 0;
-    while i < n {
-        next = lay_line(out, next, t, h, i);
-        i += 1;
+    for i in 0..t.length() {
+        next = lay_line(out, next, t, i);
     }
     next
 }
 
-// What `list` answers: the listing is laid, so many bytes; or what refused it.
-#[derive(Clone, Copy)]
-pub enum Listed {
-    Bytes(usize),
+// What refuses a listing: reason 1 to 4, or that the lent bytes are too few.
+#[derive(Clone, Copy, Debug, PartialEq, Eq)]
+pub enum NotListed {
     TooShort,
     WrongEdition,
     WrongCounts,
@@ -108,58 +87,47 @@ pub enum Listed {
     NoRoom,
 }
 
+impl From<Misshapen> for NotListed {
+    ghost from_gives = { λ m n. refusal_number n ≡ (fault_finding (fault_of m)).reason };
+
+    fn from(misshapen: Misshapen) -> NotListed {
+        match misshapen {
+            Misshapen::TooShort => NotListed::TooShort,
+            Misshapen::WrongEdition => NotListed::WrongEdition,
+            Misshapen::WrongCounts => NotListed::WrongCounts,
+            Misshapen::WrongLength => NotListed::WrongLength,
+        }
+    }
+}
+
 // An answer's number.
-pub fn number(listed: Listed) -> u32
+pub fn number(listed: Result<usize, NotListed>) -> u32
     ensures { result ≡ listed_number listed }
 {
     match listed {
-        Listed::Bytes(_) => 0,
-        Listed::TooShort => 1,
-        Listed::WrongEdition => 2,
-        Listed::WrongCounts => 3,
-        Listed::WrongLength => 4,
-        Listed::NoRoom => 11,
+        Ok(_) => 0,
+        Err(NotListed::TooShort) => 1,
+        Err(NotListed::WrongEdition) => 2,
+        Err(NotListed::WrongCounts) => 3,
+        Err(NotListed::WrongLength) => 4,
+        Err(NotListed::NoRoom) => 11,
     }
 }
 
 // How many bytes were laid; 0 in a refusal.
-pub fn bytes(listed: Listed) -> usize
+pub fn bytes(listed: Result<usize, NotListed>) -> usize
     ensures { result ≡ bytes_in listed }
 {
-    match listed {
-        Listed::Bytes(n) => n,
-        Listed::TooShort => 0,
-        Listed::WrongEdition => 0,
-        Listed::WrongCounts => 0,
-        Listed::WrongLength => 0,
-        Listed::NoRoom => 0,
-    }
+    listed.unwrap_or(0)
 }
 
-// The answer where reason 1 to 4 holds.
-fn misshapen(shape: Shape) -> Listed
-    ensures { (listed_number result ≡ shape_number shape) × (bytes_in result ≡ 0) }
+// Lays a table's listing at the front of the lent bytes and answers how many they are, or refuses and changes none of them.
+pub fn list(words: &[u32], out: &mut [u8]) -> Result<usize, NotListed>
+    ensures { Lists words.now out.old result out.new }
 {
-    match shape {
-        Shape::Shaped(_) => Listed::Bytes(0),
-        Shape::TooShort => Listed::TooShort,
-        Shape::WrongEdition => Listed::WrongEdition,
-        Shape::WrongCounts => Listed::WrongCounts,
-        Shape::WrongLength => Listed::WrongLength,
-    }
-}
-
-// Lays a table's listing at the front of the lent bytes, or refuses and changes none of them.
-pub fn list(t: &[u32], out: &mut [u8]) -> Listed
-    ensures { Lists t.now out.old result out.new }
-{
-    let shape = tables::check_shape(t);
-    let Shape::Shaped(h) = shape else {
-        return misshapen(shape);
+    let t = tables::check_shape(words)?;
+    let Some(_) = listing_room(&t, out.len()) else {
+        return Err(NotListed::NoRoom);
     };
-    let room = listing_room(t, h, out.len());
-    let Room::Left(_) = room else {
-        return Listed::NoRoom;
-    };
-    Listed::Bytes(lay_listing(out, t, h))
+    Ok(lay_listing(out, &t))
 }

@@ -1,37 +1,16 @@
 -- The answers of `show`, one after the other, and that two results it allows are equal. Assumes nothing.
-use Prim.Native.Nat.{ℕ, ◌<◌, ◌≤◌, ◌+◌}
-use mathlib.Core.Path.{◌≡◌, refl, sym, ap, subst, ◌∙◌}
+use Prim.Native.Nat.{ℕ, ◌<◌, ◌≤◌}
+use mathlib.Core.Path.{◌≡◌, sym, ◌∙◌}
 use mathlib.Core.Bool.{true, false}
-use mathlib.Core.List.{List, [], ◌∷◌}
+use mathlib.Core.List.{List}
 use native.Mathlib.Nat.{zero-add}
 use native.Mathlib.Omega.{arith}
 use lib.ListN.{length}
 use borrow.Author.Tests.{eq-eqb, ne_eqb, lt-ltb, le-ltb}
 use Rattle.rulebook.specs.Step.{refused_state}
 use Rattle.text.specs.Puts.{PutAt}
-use Rattle.manager.specs.declared.Fit.{Fit}
-use Rattle.manager.specs.declared.Fit.TheVariants.{Fits, BadTable, Unfit}
-use Rattle.manager.specs.Answers.{state_number}
 use Rattle.panel.specs.Printed.{operator, panel, answer}
-use Rattle.panel.specs.declared.Who.{Who}
-use Rattle.panel.specs.declared.Who.TheVariants.{Operator, Other}
-use Rattle.panel.specs.Inside.{Judges}
 use Rattle.panel.specs.Promises.{ShowsIn}
-
--- a state check's answer that is not `Fits` is 1 or 2
-
-pub not-fitting : (r : Fit) → (r ≡ Fits → ⊥) → state_number r ≡ 0 → ⊥
-not-fitting Fits f z = f refl
-not-fitting BadTable f z = omega arith
-not-fitting Unfit f z = omega arith
-
--- whose number it is, by the answer
-
-pub operator-of : (o : ℕ) {r : Who} → r ≡ Operator → Judges o r → operator o ≡ true
-operator-of o e j = subst (λ (r : Who). Judges o r) e j
-
-pub other-of : (o : ℕ) {r : Who} → r ≡ Other → Judges o r → operator o ≡ false
-other-of o e j = subst (λ (r : Who). Judges o r) e j
 
 module _ (o : ℕ) (t s ws out : List ℕ) where
   -- a refusal with a number other than 0: nothing is laid

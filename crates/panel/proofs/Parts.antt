@@ -1,42 +1,31 @@
 -- A part's numbers, words and lines, part by part, and how long they are. Assumes nothing.
-use Prim.Native.Nat.{ℕ, zero, suc, ◌+◌, ◌-◌, ◌<◌, ◌≤◌}
-use mathlib.Core.Path.{◌≡◌, refl, sym, ap, ◌∙◌}
+use Prim.Native.Nat.{ℕ, suc, ◌+◌, ◌-◌, ◌<◌, ◌≤◌}
+use mathlib.Core.Path.{◌≡◌, sym, ap, ◌∙◌}
 use mathlib.Core.Bool.{Bool, true, false}
-use mathlib.Core.List.{List, [], ◌∷◌, ◌++◌, append-nil}
+use mathlib.Core.List.{List, [], ◌∷◌, ◌++◌}
 use native.Mathlib.Omega.{arith}
 use lib.ListN.{length, length-append}
 use lib.Dec.{eqb}
-use borrow.Author.Tests.{ne_eqb}
 use Rattle.text.specs.Lines.{decimal, places}
 use Rattle.text.proofs.Digits.{length_digits, length-hex}
 use Rattle.text.proofs.Decimal.{decimal-within}
 use Rattle.panel.specs.declared.Counts.{Counts}
-use Rattle.panel.specs.Printed.{by_part, count, label, numeral, line, line_at, lines, owner, shown_word}
-use Rattle.panel.specs.Inside.{Counted, There}
-
--- behind the tests for the other three comes the trace
-pub by-trace : {A : Type 0} (part : ℕ) (a b c d : A) → (part ≡ 0 → ⊥) → (part ≡ 1 → ⊥) → (part ≡ 2 → ⊥) → by_part part a b c d ≡ d
-unfolding by_part
-by-trace part a b c d p n s = rw (ne_eqb part 0 p, ne_eqb part 1 n, ne_eqb part 2 s)
-
--- `trace `
-pub trace-name : (part i : ℕ) → (part ≡ 0 → ⊥) → (part ≡ 1 → ⊥) → (part ≡ 2 → ⊥) → label part ++ numeral part i ≡ 116 ∷ 114 ∷ 97 ∷ 99 ∷ 101 ∷ 32 ∷ []
-unfolding label numeral
-trace-name part i p n s = rw (by-trace part _ _ _ _ p n s, by-trace part _ _ _ _ p n s)
+use Rattle.panel.specs.Printed.{the_ports, the_networks, the_sources, by_part, count, label, numeral, line, line_at, lines, owner, shown_word}
+use Rattle.panel.specs.Inside.{Counted}
 
 -- a thing's number is small
-module _ (t ws : List ℕ) (c : Counts) (i : ℕ) where
-  pub port-small : {part : ℕ} → There part t ws c i → part ≡ 0 → i < 256
+module _ (t ws : List ℕ) (c : Counts) (counted : Counted t c) (i : ℕ) where
+  pub port-small : i < count the_ports t ws → i < 256
   unfolding count by_part
-  port-small h e = let inside = rw e at h.inside in let few = h.counted.few_ports in omega (arith, h.counted.ports)
+  port-small h = omega (arith, counted.ports, counted.few_ports)
 
-  pub network-small : {part : ℕ} → There part t ws c i → part ≡ 1 → i < 256
+  pub network-small : i < count the_networks t ws → i < 256
   unfolding count by_part
-  network-small h e = let inside = rw e at h.inside in let few = h.counted.few_networks in omega (arith, h.counted.networks)
+  network-small h = omega (arith, counted.networks, counted.few_networks)
 
-  pub source-small : {part : ℕ} → There part t ws c i → part ≡ 2 → i < 256
+  pub source-small : i < count the_sources t ws → i < 256
   unfolding count by_part
-  source-small h e = let inside = rw e at h.inside in let few = h.counted.few_sources in omega (arith, h.counted.sources)
+  source-small h = omega (arith, counted.sources, counted.few_sources)
 
 -- a number below 1,000 and the space behind it
 pub numeral-short : (i : ℕ) → i < 1000 → length (decimal i ++ 32 ∷ []) ≤ 4

@@ -1,6 +1,6 @@
 -- Q-13's last sentence: a panel is the same wherever the operator's things and words are. Assumes nothing.
 use Prim.Native.Nat.{ℕ, zero, suc, ◌+◌, ◌<◌}
-use mathlib.Core.Path.{◌≡◌, refl, sym, ap, ◌∙◌}
+use mathlib.Core.Path.{◌≡◌, refl, sym, ◌∙◌}
 use mathlib.Core.Bool.{Bool, true, false, cond, not}
 use mathlib.Core.List.{List, [], ◌∷◌, ◌++◌}
 use native.Mathlib.Nat.{add-zero}
@@ -13,10 +13,10 @@ use Rattle.rulebook.specs.Lists.{trace_owner, own}
 use Rattle.rulebook.specs.Step.{refused_state}
 use Rattle.text.specs.Puts.{lay}
 use Rattle.text.proofs.Lay.{front-laid, behind-laid}
-use Rattle.panel.specs.Printed.{by_part, count, owner, shown_word, label, numeral, line, line_at, lines, part_lines, panel, answer}
+use Rattle.panel.specs.Printed.{by_part, count, owner, shown_word, numeral, line, line_at, lines, part_lines, panel, answer}
 use Rattle.panel.specs.Printed.{the_ports, the_networks, the_sources, the_trace, operator}
 use Rattle.panel.specs.Promises.{ShowsIn}
-use Rattle.panel.specs.Same.{SameThings, SameWords, SamePrint, PrintsAlike}
+use Rattle.panel.specs.Same.{SameThings, SameWords, PrintsAlike}
 
 -- lines go by what each is
 lines_same : (f g : ℕ → List ℕ) (i j n : ℕ) → ((k : ℕ) → k < n → f (i + k) ≡ g (j + k)) → lines i n f ≡ lines j n g

@@ -1,13 +1,11 @@
 -- How long a panel can be: at most 21 bytes for each of the 104 things that an accepted table can have, 15 for a trace word. Assumes nothing.
 use Prim.Native.Nat.{ℕ, zero, suc, ◌+◌, ◌*◌, ◌<◌, ◌≤◌}
-use mathlib.Core.Path.{◌≡◌, refl, ap, ◌∙◌}
 use mathlib.Core.Bool.{Bool, true, false, cond}
 use mathlib.Core.List.{List, [], ◌++◌}
 use native.Mathlib.Omega.{arith}
 use lib.ListN.{length, length-append}
 use lib.Dec.{eqb}
 use Rattle.rulebook.specs.Table.{ports, networks, sources}
-use Rattle.text.specs.Lines.{decimal}
 use Rattle.panel.specs.Printed.{by_part, count, owner, shown_word, label, numeral, line, line_at, lines, part_lines, panel}
 use Rattle.panel.specs.Printed.{the_ports, the_networks, the_sources, the_trace}
 use Rattle.panel.proofs.Parts.{numeral-short, length-line}

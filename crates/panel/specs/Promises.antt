@@ -1,28 +1,28 @@
 -- What `show` promises: its input, its answer, and every lent byte afterwards; first over the answer's number k and the bytes n, as
 -- `gateway` hands them to C (..In), then over the answer that they are of.
-use Rattle.std.specs.Prelude.{ℕ, ◌≤◌, ◌≡◌, Bool, cond, List, length, eqb}
+use Rattle.std.specs.Prelude.{ℕ, ◌≤◌, ◌≡◌, cond, List, length, eqb, Result, Ok, Err}
 use Rattle.text.specs.Puts.{lay}
-use Rattle.panel.specs.declared.Shown.{Shown}
-use Rattle.panel.specs.declared.Shown.TheVariants.{Laid, NoOperator, BadTable, UnfitState, NoRoom}
+use Rattle.panel.specs.declared.NotShown.{NotShown}
+use Rattle.panel.specs.declared.NotShown.TheVariants.{NoOperator, BadTable, UnfitState, NoRoom}
 use Rattle.panel.specs.Printed.{panel}
 use Rattle.panel.specs.Printed as printed
 
 -- The answers in documents 01's and 02's numbers. That too little room has 11 is Q-4's number for an output that is too short.
 
-abbrev pub number_of : Shown → ℕ
-number_of (Laid n) = 0
-number_of NoOperator = 9
-number_of BadTable = 1
-number_of UnfitState = 2
-number_of NoRoom = 11
+abbrev pub refusal_number : NotShown → ℕ
+refusal_number NoOperator = 9
+refusal_number BadTable = 1
+refusal_number UnfitState = 2
+refusal_number NoRoom = 11
+
+abbrev pub number_of : Result ℕ NotShown → ℕ
+number_of (Ok n) = 0
+number_of (Err e) = refusal_number e
 
 -- how many bytes were laid
-abbrev pub bytes_of : Shown → ℕ
-bytes_of (Laid n) = n
-bytes_of NoOperator = 0
-bytes_of BadTable = 0
-bytes_of UnfitState = 0
-bytes_of NoRoom = 0
+abbrev pub bytes_of : Result ℕ NotShown → ℕ
+bytes_of (Ok n) = n
+bytes_of (Err e) = 0
 
 -- `show` of operator o, table t, state s and the trace words ws in the lent bytes `out`: the lines stand at its front, the bytes behind
 -- them are as they were, and a refusal changes none
@@ -33,5 +33,5 @@ pub record ShowsIn (o : ℕ) (t s ws out : List ℕ) (k n : ℕ) (out' : List �
   -- follows; here for a caller that writes them
   pub inside : n ≤ length out
 
-abbrev pub Shows : ℕ → List ℕ → List ℕ → List ℕ → List ℕ → Shown → List ℕ → Type 0
+abbrev pub Shows : ℕ → List ℕ → List ℕ → List ℕ → List ℕ → Result ℕ NotShown → List ℕ → Type 0
 Shows o t s ws out r out' = ShowsIn o t s ws out (number_of r) (bytes_of r) out'

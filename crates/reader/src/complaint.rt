@@ -4,30 +4,28 @@ ghost use Rattle.std.specs.Prelude.{◌+◌, ◌≤◌, ◌≡◌, length};
 use crate::space;
 use files::faults::say_bytes;
 use listing::forms;
-use listing::reading::{Line, read_line};
-use text::number::{least, past};
+use listing::forms::Form;
+use listing::reading::read_line;
 use text::output::{put_decimal, put_label};
 use words::sections::read_layout;
 
 // The most bytes of a line that are shown.
 const MOST: usize = 80;
 
-// In the place of a form: behind a listing's last line.
-const END: usize = 13;
-
 // Where a line begins: behind as many newlines as there are lines before it, and at the end of a text that has fewer. Lines count from 1.
 fn line_start(text: &[u8], line: usize) -> usize
     ensures { result ≤ length text.now }
 {
-    let mut left = past(line, 1);
-    let mut i = 0;
-    while 0 < left && i < text.len() {
-        if text[i] == b'\n' {
+    let mut left = line.saturating_sub(1);
+    for (i, b) in text.iter().enumerate() {
+        if left == 0 {
+            return i;
+        }
+        if *b == b'\n' {
             left -= 1;
         }
-        i += 1;
     }
-    i
+    text.len()
 }
 
 // How many bytes stand from a place on before a newline, or before the end of a text that has none.
@@ -35,25 +33,16 @@ fn line_length(text: &[u8], from: usize) -> usize
     requires { from ≤ length text.now }
     ensures { from + result ≤ length text.now }
 {
-    let mut i = from;
-    while i < text.len() {
-        if text[i] == b'\n' {
-            return i - from;
-        }
-        i += 1;
-    }
-    i - from
+    let rest = &text[from..];
+    rest.iter().position(|b| *b == b'\n').unwrap_or(rest.len())
 }
 
 // A byte as it is shown: a question mark where it is no printable one.
 fn shown(b: u8) -> u8 {
-    if b < 32 {
-        return b'?';
+    match b {
+        b' '..=b'~' => b,
+        _ => b'?',
     }
-    if 126 < b {
-        return b'?';
-    }
-    b
 }
 
 // Lays bytes, and a number with a byte that ends it. What is laid stays inside the room.
@@ -77,14 +66,11 @@ fn put_shown(out: &mut [u8], at: usize, text: &[u8], from: usize, n: usize) -> u
     requires { (at ≤ length out.old) × (from + n ≤ length text.now) }
     ensures { result ≤ length out.new }
 {
-    let mut next = at;
-    let mut i = 0;
-    while i < n && next < out.len() {
-        out[next] = shown(text[from + i]);
-        next += 1;
-        i += 1;
+    let n = n.min(out.len() - at);
+    for (room, b) in out[at..].iter_mut().zip(&text[from..from + n]) {
+        *room = shown(*b);
     }
-    next
+    at + n
 }
 
 // Lays what stands in the line that begins at a place. Where the file is longer than the window, the window may cut its last line short; no bad line
@@ -97,7 +83,7 @@ fn put_line(out: &mut [u8], at: usize, text: &[u8], from: usize) -> usize
         return put(out, at, b"the listing ends");
     }
     let n = line_length(text, from);
-    let next = put_shown(out, at, text, from, least(n, MOST));
+    let next = put_shown(out, at, text, from, n.min(MOST));
     if MOST < n {
         return put(out, next, b" ..");
     }
@@ -107,23 +93,22 @@ fn put_line(out: &mut [u8], at: usize, text: &[u8], from: usize) -> usize
     next
 }
 
-// The least that each field of a form may be. Only a header's counts and an operator's kind have limits of their own.
-fn lows(f: usize) -> [u32; 6] {
+// The least that the first fields of a form may be; 0 for the others. Only a header's counts and an operator's kind have limits of their own.
+fn lows(f: Form) -> &'static [u32] {
     match f {
-        0 => [1, 1, 0, 0, 0, 0],
-        1 => [1, 1, 0, 0, 0, 0],
-        8 => [4, 0, 0, 0, 0, 0],
-        _ => [0; 6],
+        Form::FirstHeader | Form::SecondHeader => &[1, 1],
+        Form::Operator => &[4],
+        _ => &[],
     }
 }
 
-// One more than the most that it may be.
-fn ends(f: usize) -> [u32; 6] {
+// One more than the most that each field of a form may be.
+fn ends(f: Form) -> &'static [u32] {
     match f {
-        0 => [3, 65, 9, 33, 0, 0],
-        1 => [513, 257, 0, 0, 0, 0],
-        2 => [256, 2048, 0, 0, 0, 0],
-        8 => [9, 16384, 16384, 0, 0, 0],
+        Form::FirstHeader => &[3, 65, 9, 33],
+        Form::SecondHeader => &[513, 257],
+        Form::ThirdHeader => &[256, 2048],
+        Form::Operator => &[9, 16384, 16384],
         _ => forms::sizes(f),
     }
 }
@@ -135,25 +120,20 @@ fn put_limits(out: &mut [u8], at: usize, low: u32, past_high: u32, end: u8) -> u
 {
     let next = put_number(out, at, low as u64, b'.');
     let next = put(out, next, b".");
-    put_number(out, next, past(past_high as usize, 1) as u64, end)
+    put_number(out, next, past_high.saturating_sub(1) as u64, end)
 }
 
 // Lays a form: the section's name and the limits of each field, and a byte that ends them.
-fn put_form(out: &mut [u8], at: usize, f: usize, end: u8) -> usize
+fn put_form(out: &mut [u8], at: usize, f: Form, end: u8) -> usize
     requires { at ≤ length out.old }
     ensures { result ≤ length out.new }
 {
-    let bytes = forms::name(f);
-    let letters = forms::letters(f);
-    let low = lows(f);
-    let past_high = ends(f);
-    let n = forms::fields(f);
-    let mut next = put(out, at, &bytes[..letters]);
-    let mut k = 0;
-    while k < n {
-        let behind = if k + 1 < n { b' ' } else { end };
-        next = put_limits(out, next, low[k], past_high[k], behind);
-        k += 1;
+    let past_highs = ends(f);
+    let mut next = put(out, at, forms::name(f));
+    for (k, past_high) in past_highs.iter().enumerate() {
+        let low = lows(f).get(k).copied().unwrap_or(0);
+        let behind = if k + 1 < past_highs.len() { b' ' } else { end };
+        next = put_limits(out, next, low, *past_high, behind);
     }
     next
 }
@@ -164,47 +144,44 @@ fn read_header(text: &[u8]) -> [u32; 3]
 {
     let mut header = [0; 3];
     let mut at = 0;
-    let mut i = 0;
-    while i < 3 {
-        let line = read_line(text, at, i);
-        let Line::Word(w, next) = line else {
+    for i in 0..3 {
+        let Some((w, next)) = read_line(text, at, forms::of_header(i)) else {
             return header;
         };
         header[i] = w;
         at = next;
-        i += 1;
     }
     header
 }
 
-// The form that a line has to have, by the good lines before it; END behind the last one.
-fn form_at_line(text: &[u8], line: usize) -> usize {
-    let i = past(line, 1);
+// The form that a line has to have, by the good lines before it; none behind the last one.
+fn form_at_line(text: &[u8], line: usize) -> Option<Form> {
+    let i = line.saturating_sub(1);
     if i < 3 {
-        return i;
+        return Some(forms::of_header(i));
     }
     let header = read_header(text);
     let h = read_layout(&header);
     if i < h.length {
-        return forms::form_at(&header, h, i);
+        return Some(forms::form_at(&header, h, i));
     }
-    END
+    None
 }
 
 // Lays what was expected in a line of that form. An expression's kind decides which of two forms its line has.
-fn put_expected(out: &mut [u8], at: usize, f: usize) -> usize
+fn put_expected(out: &mut [u8], at: usize, expected: Option<Form>) -> usize
     requires { at ≤ length out.old }
     ensures { result ≤ length out.new }
 {
-    if f == END {
-        return put(out, at, b"the end of the listing\n");
+    match expected {
+        None => put(out, at, b"the end of the listing\n"),
+        Some(Form::Condition) => {
+            let next = put_form(out, at, Form::Condition, b';');
+            let next = put(out, next, b" kinds 4 to 8: ");
+            put_form(out, next, Form::Operator, b'\n')
+        }
+        Some(f) => put_form(out, at, f, b'\n'),
     }
-    if f != forms::CONDITION {
-        return put_form(out, at, f, b'\n');
-    }
-    let next = put_form(out, at, f, b';');
-    let next = put(out, next, b" kinds 4 to 8: ");
-    put_form(out, next, forms::OPERATOR, b'\n')
 }
 
 // Lays the two lines that tell of a bad one.

@@ -9,7 +9,7 @@ mod complaint;
 mod space;
 
 use files::faults::say_bytes;
-use listing::reading::Reading;
+use listing::reading::Unread;
 
 // Writes a table's words.
 fn print_words(rt: HostRuntime, t: &[u32])
@@ -28,11 +28,10 @@ fn complain_of_room(rt: HostRuntime) {
 // Reads a listing and writes its table's words, or tells of its first bad line.
 fn read_listing(rt: HostRuntime, text: &[u8]) {
     let mut words = files::space::table_words();
-    let reading = listing::reading::read(text, &mut words);
-    match reading {
-        Reading::Words(n) => print_words(rt, &words[..n]),
-        Reading::Line(k) => complaint::complain(rt, text, k),
-        Reading::NoRoom => complain_of_room(rt),
+    match listing::reading::read(text, &mut words) {
+        Ok(n) => print_words(rt, &words[..n]),
+        Err(Unread::Line(k)) => complaint::complain(rt, text, k),
+        Err(Unread::NoRoom) => complain_of_room(rt),
     }
 }
 

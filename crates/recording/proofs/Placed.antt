@@ -67,6 +67,10 @@ module _ (bytes : List ℕ) (at : ℕ) (lent : List ℕ) where
   pub no-answer-read : at < length bytes → is_answer bytes at ≡ false → ReadsRecordingIn bytes at lent no_answer 0 0 at lent
   no-answer-read h a = nothing_read no_answer (at-no-answer (length lent) bytes at h a)
 
+  -- the words' lines end inside the log
+  pub words-inside : (n : ℕ) (after : List ℕ) → is_answer bytes at ≡ true → ReadsWords bytes (at + 2) lent n after → at + 2 + 9 * n ≤ length bytes
+  words-inside n after is words = omega (arith, words.count, count-inside bytes (length lent) (at + 2) (answer-inside bytes at is))
+
   pub read : at < length bytes → is_answer bytes at ≡ true → (f a n to : ℕ) (after : List ℕ) → ReadsWords bytes (at + 2) lent n after
       → to ≡ at + 2 + 9 * n → f ≡ found_behind bytes to → a ≡ byte bytes at - 48
       → ReadsRecordingIn bytes at lent f a n to after

@@ -4,12 +4,12 @@ use mathlib.Core.Path.{◌≡◌, refl, sym, ◌∙◌}
 use mathlib.Core.Bool.{Bool, true, false, ◌&&◌, true≢false}
 use mathlib.Core.List.{List}
 use native.Mathlib.Nat.{pow-suc, pow-le-pow_right}
+use native.Mathlib.Numerals.{add-one}
 use native.Mathlib.Omega.{arith}
 use lib.ListN.{length, get_or-eq_default}
 use lib.Dec.{eqb, leb}
 use borrow.Author.Tests.{lt-ltb, le-ltb, ltb-true, le-leb, lt-leb, eq-eqb, ne_eqb, eqb-true}
-use Rattle.recording.specs.declared.Spelt.{Spelt}
-use Rattle.recording.specs.declared.Spelt.TheVariants as spelt
+use Rattle.std.proofs.Common.{Option, Some, None, ◌⊎◌, inl, inr}
 use Rattle.recording.specs.Log.{byte, within, hex_value, hex_digits, hex_number, is_answer, is_word}
 use Rattle.recording.specs.Promises.{ReadsHex, ReadsWord}
 use Rattle.text.proofs.Digits.{below}
@@ -120,16 +120,27 @@ module _ (bytes : List ℕ) (at : ℕ) where
       let most : 16 ^ k ≤ 16 ^ 8 = pow-le-pow_right (omega arith) h in
       omega arith
 
+  -- one digit more, which still fits a word
+  pub one-digit : (k v d : ℕ) {b : ℕ} → k < 8 → hex_digits k bytes at ≡ true → v ≡ hex_number k bytes at → b ≡ byte bytes (at + k)
+      → (d ≡ hex_value b) × (d < 16)
+      → (hex_digits (k + 1) bytes at ≡ true) × (v * 16 + d ≡ hex_number (k + 1) bytes at) × (v * 16 + d < 2 ^ 32)
+  one-digit k v d h all number is digit =
+      let value : d ≡ hex_value (byte bytes (at + k)) = rw is at digit.0 in
+      let more = digits_more k all (omega arith) in
+      let sum : v * 16 + d ≡ hex_number (suc k) bytes at = rw (number_more k, number, value) in
+      let fits = number_fits (suc k) (omega arith) more in
+      rw add-one (more, sum, omega arith)
+
   -- lines
 
   pub no-newline : (byte bytes (at + 8) ≡ 10 → ⊥) → is_word bytes at ≡ false
   unfolding is_word
   no-newline h = not-second (hex_digits 8 bytes at) _ (ne_eqb (byte bytes (at + 8)) 10 h)
 
-  pub ends-word : (r : Spelt) → byte bytes (at + 8) ≡ 10 → ReadsHex bytes at r → ReadsWord bytes at r
+  pub ends-word : (r : Option ℕ) → byte bytes (at + 8) ≡ 10 → ReadsHex bytes at r → ReadsWord bytes at r
   unfolding is_word
-  ends-word (spelt.Word w) n h = (both (hex_digits 8 bytes at) _ h.0 (eq-eqb (byte bytes (at + 8)) 10 n), h.1)
-  ends-word spelt.NoWord n h = not_first (hex_digits 8 bytes at) _ h
+  ends-word (Some w) n h = (both (hex_digits 8 bytes at) _ h.0 (eq-eqb (byte bytes (at + 8)) 10 n), h.1)
+  ends-word None n h = not_first (hex_digits 8 bytes at) _ h
 
   -- a word's line, or an answer's, is inside
 
@@ -149,21 +160,11 @@ module _ (bytes : List ℕ) (at : ℕ) where
   unfolding is_answer
   answer-digit e = below (byte bytes at) 48 (λ h. absurd (true≢false (sym e ∙ not_first _ _ (is_below 48 57 (byte bytes at) h)))) (λ h. h)
 
-  pub low-answer : byte bytes at < 48 → is_answer bytes at ≡ false
+  pub no-digit-answer : (byte bytes at < 48) ⊎ (57 < byte bytes at) → is_answer bytes at ≡ false
   unfolding is_answer
-  low-answer h = not_first _ _ (is_below 48 57 (byte bytes at) h)
-
-  pub high-answer : 57 < byte bytes at → is_answer bytes at ≡ false
-  unfolding is_answer
-  high-answer h = not_first _ _ (is-above 48 57 (byte bytes at) h)
+  no-digit-answer (inl h) = not_first _ _ (is_below 48 57 (byte bytes at) h)
+  no-digit-answer (inr h) = not_first _ _ (is-above 48 57 (byte bytes at) h)
 
   pub digit-answer : 48 ≤ byte bytes at → byte bytes at ≤ 57 → eqb (byte bytes (at + 1)) 10 ≡ is_answer bytes at
   unfolding is_answer
   digit-answer h k = rw (is_within 48 57 (byte bytes at) h k)
-
-  -- the words that are read, told by cases
-  pub told-word : (r : Spelt) (w : ℕ) → r ≡ spelt.Word w → ReadsWord bytes at r → (is_word bytes at ≡ true) × (w ≡ hex_number 8 bytes at)
-  told-word r w e h = rw e at h
-
-  pub told_none : (r : Spelt) → r ≡ spelt.NoWord → ReadsWord bytes at r → is_word bytes at ≡ false
-  told_none r e h = rw e at h

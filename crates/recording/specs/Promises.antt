@@ -1,30 +1,36 @@
 -- What the functions that read a log promise.
-use Rattle.std.specs.Prelude.{ℕ, ◌≤◌, ◌≡◌, true, false, List, ◌++◌, length, drop}
-use Rattle.recording.specs.declared.Spelt.{Spelt}
-use Rattle.recording.specs.declared.Spelt.TheVariants as spelt
+use Rattle.std.specs.Prelude.{ℕ, ◌<◌, ◌≤◌, ◌≡◌, true, false, List, ◌++◌, length, drop, Option, Some, None, Result, Ok, Err}
 use Rattle.recording.specs.declared.Found.{Found}
-use Rattle.recording.specs.declared.Found.TheVariants.{Whole, Last, Missing, NoAnswer, Misspelt, TooMany}
+use Rattle.recording.specs.declared.Found.TheVariants.{Whole, Last, Misspelt, TooMany}
+use Rattle.recording.specs.declared.NotFound.{NotFound}
+use Rattle.recording.specs.declared.NotFound.TheVariants.{Missing, NoAnswer}
 use Rattle.recording.specs.declared.Recording.{Recording}
-use Rattle.recording.specs.Log.{hex_digits, hex_number, is_word, word_count, words_from, recording_at, whole, last, missing, no_answer, misspelt, too_many}
+use Rattle.recording.specs.Log.{hex_value, hex_digits, hex_number, is_word, word_count, words_from, recording_at, whole, last, missing, no_answer, misspelt, too_many}
 
 -- what was found, in numbers
 abbrev pub found_number : Found → ℕ
 found_number Whole = whole
 found_number Last = last
-found_number Missing = missing
-found_number NoAnswer = no_answer
 found_number Misspelt = misspelt
 found_number TooMany = too_many
 
--- eight bytes, and a line
+abbrev pub not_found_number : NotFound → ℕ
+not_found_number Missing = missing
+not_found_number NoAnswer = no_answer
 
-abbrev pub ReadsHex : List ℕ → ℕ → Spelt → Type 0
-ReadsHex bytes at (spelt.Word w) = (hex_digits 8 bytes at ≡ true) × (w ≡ hex_number 8 bytes at)
-ReadsHex bytes at spelt.NoWord = hex_digits 8 bytes at ≡ false
+-- a byte, eight of them, and a line
 
-abbrev pub ReadsWord : List ℕ → ℕ → Spelt → Type 0
-ReadsWord bytes at (spelt.Word w) = (is_word bytes at ≡ true) × (w ≡ hex_number 8 bytes at)
-ReadsWord bytes at spelt.NoWord = is_word bytes at ≡ false
+abbrev pub ReadsDigit : ℕ → Option ℕ → Type 0
+ReadsDigit b (Some v) = (v ≡ hex_value b) × (v < 16)
+ReadsDigit b None = hex_value b ≡ 16
+
+abbrev pub ReadsHex : List ℕ → ℕ → Option ℕ → Type 0
+ReadsHex bytes at (Some w) = (hex_digits 8 bytes at ≡ true) × (w ≡ hex_number 8 bytes at)
+ReadsHex bytes at None = hex_digits 8 bytes at ≡ false
+
+abbrev pub ReadsWord : List ℕ → ℕ → Option ℕ → Type 0
+ReadsWord bytes at (Some w) = (is_word bytes at ≡ true) × (w ≡ hex_number 8 bytes at)
+ReadsWord bytes at None = is_word bytes at ≡ false
 
 -- n words stand in the front of those lent, and the others are as they were
 pub record ReadsWords (bytes : List ℕ) (at : ℕ) (lent : List ℕ) (n : ℕ) (after : List ℕ) : Type 0 where
@@ -44,5 +50,7 @@ pub record ReadsRecordingIn (bytes : List ℕ) (at : ℕ) (lent : List ℕ) (f a
   pub within : at ≤ length bytes → to ≤ length bytes
   pub onward : at ≤ to
 
-abbrev pub ReadsRecording : List ℕ → ℕ → List ℕ → Recording → List ℕ → Type 0
-ReadsRecording bytes at words r words' = ReadsRecordingIn bytes at words (found_number r.found) r.answer r.count r.next words'
+-- where none stands there, no answer and no words, and the place is where it was
+abbrev pub ReadsRecording : List ℕ → ℕ → List ℕ → Result Recording NotFound → List ℕ → Type 0
+ReadsRecording bytes at words (Ok r) words' = ReadsRecordingIn bytes at words (found_number r.found) r.answer r.count r.next words'
+ReadsRecording bytes at words (Err e) words' = ReadsRecordingIn bytes at words (not_found_number e) 0 0 at words'

@@ -14,9 +14,10 @@ use Rattle.rulebook.specs.State.{state_length}
 use Rattle.laws.specs.Facts.{Counts}
 use Rattle.laws.proofs.Tests.{split}
 use Rattle.laws.proofs.Facts.{facts, counts_of, exact-of}
-use Rattle.tables.specs.declared.Checked.{Checked}
+use Rattle.std.specs.Prelude.{Result}
+use Rattle.tables.specs.declared.Fault.{Fault}
 use Rattle.tables.specs.Finding.{Finding, finding, promised}
-use Rattle.session.specs.Promises.{Opens}
+use Rattle.session.specs.Promises.{Stands, IsRefused}
 use Rattle.tables.proofs.Chain.{from-header, from-edition, from-counts, from-length, from_fields, from-names, from-nesting, from-owners}
 use Rattle.tables.proofs.Chain.{from-reached, from-cost, none_left, kept, broken, kept-by-all, broken-at}
 
@@ -71,21 +72,19 @@ pub state-small : (t : List ℕ) → accepted t ≡ true → state_length t ≤ 
 state-small t h =
     let c = (facts t h).counts in let a = c.ports in let b = c.networks in let d = c.sources in let f = c.rules in omega arith
 
--- What opening a session answers.
-module _ (t : List ℕ) (r : Checked) (tells : finding r ≡ promised t) (k i : ℕ) (kr : k ≡ (finding r).reason) (ir : i ≡ (finding r).place) where
-  reason-is : k ≡ (check t).reason
-  unfolding promised
-  reason-is = kr ∙ ap (λ (x : Finding). x.reason) tells
+-- What opening a session answers: the reason of a table that is refused, or the sizes.
 
+module _ (t : List ℕ) (r : Result ℕ Fault) (tells : finding r ≡ promised t) {k i : ℕ} (kr : k ≡ (finding r).reason) (ir : i ≡ (finding r).place) where
   pub place_is : i ≡ (check t).place
   unfolding promised
   place_is = ir ∙ ap (λ (x : Finding). x.place) tells
 
-  pub opens-none : accepted t ≡ false → Opens t (record { reason = k; place = i; state = 0; trace = 0 })
-  opens-none h = record { reason = reason-is; place = place_is; state = rw h; trace = rw h; small_state = omega arith; small_trace = omega arith }
+  pub refuses : accepted t ≡ false → IsRefused t (record { reason = k; place = i })
+  unfolding promised
+  refuses no = record { reason = kr ∙ ap (λ (x : Finding). x.reason) tells; place = place_is; refused = no }
 
-  pub opens : (n b : ℕ) → accepted t ≡ true → n ≡ state_length t → b ≡ bound t → Opens t (record { reason = k; place = i; state = n; trace = b })
-  opens n b h en eb =
-      let cost = (facts t h).cost in
-      let few = state-small t h in
-      record { reason = reason-is; place = place_is; state = rw h en; trace = rw h eb; small_state = omega arith; small_trace = omega arith }
+pub stands : (t : List ℕ) {n b : ℕ} → accepted t ≡ true → n ≡ state_length t → b ≡ bound t → Stands t (record { state = n; trace = b })
+stands t ok en eb =
+    let cost = (facts t ok).cost in
+    let few = state-small t ok in
+    record { accepted = ok; state = en; trace = eb; small_state = omega arith; small_trace = omega arith }

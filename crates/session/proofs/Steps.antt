@@ -19,7 +19,9 @@ use Rattle.laws.proofs.Facts.{facts}
 use Rattle.laws.proofs.Fit.{fits-length}
 use Rattle.laws.proofs.Steps.{small-answer, words-within, step_fits, callable}
 use Rattle.lists.specs.Runs.{Safe}
-use Rattle.events.specs.declared.Answer.{Answer}
+use Rattle.std.specs.Prelude.{Result}
+use Rattle.events.specs.declared.Report.{Report}
+use Rattle.events.specs.declared.Refusal.{Refusal}
 use Rattle.events.specs.Answers.{number_of, count_of, visits_of, Reports}
 use Rattle.laws.proofs.Play.{stood-table, stood-state}
 use Rattle.manager.proofs.Steps.{safe}
@@ -93,32 +95,14 @@ module _ (t s trace : List ℕ) (e : ℕ) (ready : Ready t s trace) where
       let b = (facts t ready.table).cost in
       omega arith
 
-  -- what the call reports, with no outcomes lent: its number n and its count m
-  module _ (os : List ℕ) (none : os ≡ []) (r : Answer) (s' trace' : List ℕ) (lent : Reports (handle t s os e) trace r s' trace') (n m : ℕ)
+  -- what the call reports: its number n and its count m
+  module _ (r : Result Report Refusal) (s' trace' : List ℕ) (told : Reports (taken t s e) trace r s' trace') (n m : ℕ)
       (hn : n ≡ number_of r) (hm : m ≡ count_of r) where
-    reports : Reports (handle t s [] e) trace r s' trace'
-    reports = rw none at lent
-
-    pub number_is : n ≡ (taken t s e).answer
-    number_is = rw taken_is (hn ∙ reports.answer)
-
-    pub count-is : m ≡ length (taken t s e).words
-    count-is = rw taken_is (hm ∙ reports.count)
-
-    pub visits-is : (v : ℕ) → v ≡ visits_of r → v ≡ (taken t s e).visits
-    visits-is v hv = rw taken_is (hv ∙ reports.visits)
-
-    pub state-is : s' ≡ (taken t s e).state
-    state-is = rw taken_is reports.state
-
-    pub words_are : trace' ≡ traced_by t s e trace
-    words_are = rw taken_is reports.words
-
     pub number_small : n < 10
-    number_small = rw number_is answer-small
+    number_small = rw (hn ∙ told.answer) answer-small
 
     pub count-few : m ≤ length trace'
-    count-few = let l = traced-long in let w = words-few in let b = ready.enough in let c = count-is in rw words_are (omega arith)
+    count-few = let l = traced-long in let w = words-few in let b = ready.enough in let c = hm ∙ told.count in rw told.words (omega arith)
 
     pub room-enough : (at end : ℕ) → at + most ≤ end → at + (2 + 9 * (length s' + m)) ≤ end
     unfolding event_lines
@@ -126,10 +110,10 @@ module _ (t s trace : List ℕ) (e : ℕ) (ready : Ready t s trace) where
         let l : length (event_lines t s e) ≡ 2 + 9 * (length (taken t s e).state + length (taken t s e).words) =
         lines_long (taken t s e).answer (taken t s e).state (taken t s e).words answer-small in
         let b = event-long in
-        rw (state-is, count-is) (omega arith)
+        rw (told.state, hm ∙ told.count) (omega arith)
 
     pub took : (at next : ℕ) (out out' : List ℕ) → PutAt (lines n s' (take m trace')) out at next out' → TookOne t e s trace out at next s' trace' out'
     unfolding event_lines
     took at next out out' p =
-        let front : take m trace' ≡ (taken t s e).words = rw (count-is, words_are) (take-append_seam (taken t s e).words _) in
-        record { state = state-is; words = words_are; lines = rw (front, number_is, state-is) at p }
+        let front : take m trace' ≡ (taken t s e).words = rw (hm ∙ told.count, told.words) (take-append_seam (taken t s e).words _) in
+        record { state = told.state; words = told.words; lines = rw (front, hn ∙ told.answer, told.state) at p }

@@ -1,19 +1,24 @@
 -- Any two results that a promise allows are equal. Assumes nothing.
 use Prim.Native.Nat.{ℕ, ◌<◌}
-use mathlib.Core.Path.{◌≡◌, sym, ap, ◌∙◌}
+use mathlib.Core.Path.{◌≡◌, refl, sym, ap, ◌∙◌}
+use mathlib.Core.Bool.{false≢true}
+use Rattle.std.specs.Prelude.{Result, Ok, Err}
 use mathlib.Core.List.{List}
 use native.Mathlib.Omega.{arith}
 use lib.ListN.{length, take}
 use Rattle.text.proofs.Digits.{below}
 use Rattle.text.specs.Puts.{lay}
 use Rattle.session.specs.declared.Opening.{Opening}
+use Rattle.session.specs.declared.Refused.{Refused}
 use Rattle.session.specs.declared.Taken.{Taken}
 use Rattle.session.specs.Printed.{run_lines, state_after}
 use Rattle.session.specs.Promises.{Opens, PutLines, trace_after, TookEvents}
 
-pub one-opening : {t : List ℕ} {p q : Opening} → Opens t p → Opens t q
-    → (p.reason ≡ q.reason) × (p.place ≡ q.place) × (p.state ≡ q.state) × (p.trace ≡ q.trace)
-one-opening a b = (a.reason ∙ sym b.reason, a.place ∙ sym b.place, a.state ∙ sym b.state, a.trace ∙ sym b.trace)
+pub one-opening : {t : List ℕ} (p q : Result Opening Refused) → Opens t p → Opens t q → p ≡ q
+one-opening (Ok p) (Ok q) a b = rw (a.state ∙ sym b.state, a.trace ∙ sym b.trace) refl
+one-opening (Ok p) (Err q) a b = absurd (false≢true (sym b.refused ∙ a.accepted))
+one-opening (Err p) (Ok q) a b = absurd (false≢true (sym a.refused ∙ b.accepted))
+one-opening (Err p) (Err q) a b = rw (a.reason ∙ sym b.reason, a.place ∙ sym b.place) refl
 
 pub one-laying : {room : ℕ} {xs out : List ℕ} {m n : ℕ} {a b : List ℕ} → PutLines room xs out m a → PutLines room xs out n b → (m ≡ n) × (a ≡ b)
 one-laying p q = (p.count ∙ sym q.count, p.bytes ∙ sym q.bytes)

@@ -20,7 +20,9 @@ use Rattle.states.specs.Made.{Makes}
 use Rattle.text.specs.Words.{words_of}
 use Rattle.text.specs.Puts.{lay}
 use Rattle.text.proofs.Digits.{below}
+use Rattle.std.specs.Prelude.{Ok, Err}
 use Rattle.session.specs.declared.Opening.{Opening}
+use Rattle.session.specs.declared.Refused.{Refused}
 use Rattle.session.specs.declared.Taken.{Taken}
 use Rattle.session.specs.Printed.{taken, run_lines, state_after, reason_lines, printed, most}
 use Rattle.session.specs.Promises.{Opens, PutLines, Ready, offered, TookEvents}
@@ -98,37 +100,24 @@ fresh-printed : (table events ls : List ℕ) → accepted (words_of table) ≡ t
 unfolding printed
 fresh-printed table events ls h b = rw h (blocks-print (words_of table) (fresh (words_of table)) events ls b)
 
--- no reason from `open`: the table stands, and the sizes are those of its state and of its trace
-module _ {t : List ℕ} {o : Opening} (opens : Opens t o) (none : o.reason ≡ 0) where
-  pub opened : accepted t ≡ true
-  opened = eq-eqb (check t).reason 0 (sym opens.reason ∙ none)
-
-  pub opened-state : o.state ≡ state_length t
-  opened-state = rw opened at opens.state
-
-  pub opened-trace : o.trace ≡ bound t
-  opened-trace = rw opened at opens.trace
-
 -- what `make_fresh` leaves in as many words as the state has
 pub made-fresh : {t s₀ s : List ℕ} {k : ℕ} → accepted t ≡ true → length s₀ ≡ state_length t → Makes t s₀ k s → s ≡ fresh t
 unfolding fresh_answer fresh_state
 made-fresh {t} {s₀} ok long made = let right = eq-eqb (length s₀) (state_length t) long in rw (ok, right) at made.state
 
--- no reason from `open`, a state from `make_fresh`, and the file's blocks from there
-pub run-printed : (table events ls : List ℕ) {o : Opening} {s₀ s : List ℕ} {k : ℕ} → Opens (words_of table) o → o.reason ≡ 0 → length s₀ ≡ o.state
+-- sizes from `open`, a state from `make_fresh`, and the file's blocks from there
+pub run-printed : (table events ls : List ℕ) {o : Opening} {s₀ s : List ℕ} {k : ℕ} → Opens (words_of table) (Ok o) → length s₀ ≡ o.state
     → Makes (words_of table) s₀ k s → Blocks (words_of table) s events ls → ls ≡ printed table events
-run-printed table events ls opens none long made b =
-    let ok = opened opens none in
-    fresh-printed table events ls ok (rw (made-fresh ok (long ∙ opened-state opens none) made) at b)
+run-printed table events ls opens long made b =
+    fresh-printed table events ls opens.accepted (rw (made-fresh opens.accepted (long ∙ opens.state) made) at b)
 
 -- a reason from `open`, and the bytes that `lay_reason` lays for it where there is room
-pub reason-printed : (table events : List ℕ) {o : Opening} {out : List ℕ} {n : ℕ} {out' : List ℕ} → Opens (words_of table) o → (o.reason ≡ 0 → ⊥)
+pub reason-printed : (table events : List ℕ) {o : Refused} {out : List ℕ} {n : ℕ} {out' : List ℕ} → Opens (words_of table) (Err o)
     → 22 ≤ length out → PutLines 22 (reason_lines (verdict o.reason o.place)) out n out' → take n out' ≡ printed table events
 unfolding printed lay
-reason-printed table events {out = out} opens some room put =
-    let no : accepted (words_of table) ≡ false = ne_eqb (check (words_of table)).reason 0 (λ e. some (opens.reason ∙ e)) in
+reason-printed table events {out = out} opens room put =
     let fits = le-leb 22 (length out) room in
-    rw (no, rw fits at put.bytes, rw fits at put.count, ← opens.reason, ← opens.place) (take-append_seam _ _)
+    rw (opens.refused, rw fits at put.bytes, rw fits at put.count, ← opens.reason, ← opens.place) (take-append_seam _ _)
 
 -- No call is stuck: ready, with an event left and with room for one, it takes one, and what it leaves is ready again.
 

@@ -1,5 +1,5 @@
 -- What the functions of a session promise.
-use Rattle.std.specs.Prelude.{ℕ, ◌+◌, ◌≤◌, ◌<◌, ◌≡◌, cond, List, [], ◌∷◌, ◌++◌, length, take, drop, leb, eqb}
+use Rattle.std.specs.Prelude.{ℕ, ◌+◌, ◌≤◌, ◌<◌, ◌≡◌, true, false, cond, Result, Ok, Err, List, [], ◌∷◌, ◌++◌, length, take, drop, leb, eqb}
 use Rattle.rulebook.specs.Reasons.{check, accepted, bound}
 use Rattle.rulebook.specs.State.{state_length}
 use Rattle.rulebook.specs.Step.{refused_call}
@@ -7,18 +7,29 @@ use Rattle.laws.specs.Callable.{Callable}
 use Rattle.text.specs.Words.{words_of}
 use Rattle.text.specs.Puts.{lay, PutAt}
 use Rattle.session.specs.declared.Opening.{Opening}
+use Rattle.session.specs.declared.Refused.{Refused}
 use Rattle.session.specs.declared.Taken.{Taken}
 use Rattle.session.specs.Printed.{taken, event_lines, run_lines, state_after, most}
 
--- a table's check, and the sizes that a session with it asks for
-pub record Opens (t : List ℕ) (r : Opening) : Type 0 where
-  pub reason : r.reason ≡ (check t).reason
-  pub place : r.place ≡ (check t).place
-  pub state : r.state ≡ cond (accepted t) (state_length t) 0
-  pub trace : r.trace ≡ cond (accepted t) (bound t) 0
+-- the sizes that a session with an accepted table asks for
+pub record Stands (t : List ℕ) (r : Opening) : Type 0 where
+  pub accepted : accepted t ≡ true
+  pub state : r.state ≡ state_length t
+  pub trace : r.trace ≡ bound t
   -- these two follow; here for a caller that cuts the state and the trace from arrays
   pub small_state : r.state ≤ 360
   pub small_trace : r.trace ≤ 4096
+
+-- the reason of another table, and its place
+pub record IsRefused (t : List ℕ) (r : Refused) : Type 0 where
+  pub reason : r.reason ≡ (check t).reason
+  pub place : r.place ≡ (check t).place
+  pub refused : accepted t ≡ false
+
+-- a table's check, and the sizes that a session with it asks for
+abbrev pub Opens : List ℕ → Result Opening Refused → Type 0
+Opens t (Ok r) = Stands t r
+Opens t (Err r) = IsRefused t r
 
 -- lines laid at the front where `room` bytes are lent, and nothing where fewer are
 pub record PutLines (room : ℕ) (xs out : List ℕ) (n : ℕ) (after : List ℕ) : Type 0 where

@@ -5,52 +5,49 @@ ghost use Rattle.std.specs.Prelude.{◌≡◌, ◌+◌, ◌*◌, ◌≤◌, ◌<
 ghost use Rattle.rulebook.specs.Reasons.{verdict};
 ghost use Rattle.rulebook.specs.Step.{refused_call};
 ghost use Rattle.text.specs.Puts.{PutAt};
-ghost use Rattle.words.specs.Sections.{Laid as LaidOut};
-ghost use Rattle.session.specs.Printed.{lines, reason_lines, most};
+ghost use Rattle.events.specs.Answers.{Reports};
+ghost use Rattle.session.specs.Printed.{taken, lines, reason_lines, most};
 ghost use Rattle.session.specs.Promises.{Opens, PutLines, Ready, TookOne, offered, TookEvents};
 
-use states::{Admission, admit};
-use tables::Checked;
+use events::Answer;
+use states::admit;
 use text::input::{read_word, word_count};
-use text::number::past;
 use text::output::{put_decimal_line, put_words};
-use words::sections::{Layout, read_accepted};
+use words::table::Table;
 
 // The most bytes that one event prints: its answer, 360 state words and 4,096 trace words.
 pub const MOST: usize = 40106;
 
-// The check of a table, and what a session with it asks for: state words and trace words, none for a table with a reason.
-#[derive(Clone, Copy)]
+// What a session with a table asks for: state words and trace words.
+#[derive(Clone, Copy, Debug, PartialEq, Eq)]
 pub struct Opening {
-    pub reason: u32,
-    pub place: u32,
     pub state: usize,
     pub trace: usize,
 }
 
+// A table with a reason, as document 01's program prints it.
+#[derive(Clone, Copy, Debug, PartialEq, Eq)]
+pub struct Refused {
+    pub reason: u32,
+    pub place: u32,
+}
+
 // Checks a table, to open a session with it.
-pub fn open(t: &[u32]) -> Opening
+pub fn open(t: &[u32]) -> Result<Opening, Refused>
     ensures { Opens t.now result }
 {
     let checked = tables::check(t);
-    let fault = tables::numbers(checked);
-    let reason = fault.reason;
-    let place = fault.place as u32;
-    let Checked::Accepted(b) = checked else {
-        return Opening {
-            reason,
-            place,
-            state: 0,
-            trace: 0,
-        };
+    let Ok(b) = checked else {
+        let fault = tables::numbers(checked);
+        return Err(Refused {
+            reason: fault.reason,
+            place: fault.place as u32,
+        });
     };
-    let state = manager::state_words(t);
-    Opening {
-        reason,
-        place,
-        state,
+    Ok(Opening {
+        state: manager::state_words(t),
         trace: b as usize,
-    }
+    })
 }
 
 // Lays the two lines of a reason at the front, or nothing where fewer than 22 bytes are lent, and returns how many bytes they are.
@@ -83,20 +80,27 @@ fn lay_lines(
     words.next
 }
 
-// Takes one event, all calls good, and lays its lines.
+// Takes one event, all calls good.
+pub fn take(t: &Table, e: u32, s: &mut [u32], trace: &mut [u32]) -> Answer
+    requires { Ready t.now.words s.old trace.old }
+    ensures { Reports (taken t.now.words s.old e) trace.old result s.new trace.new }
+{
+    events::handle(t, e, s, trace, &[])
+}
+
+// Takes one event and lays its lines.
 fn take_one(
-    t: &[u32],
-    h: Layout,
+    t: &Table,
     e: u32,
     s: &mut [u32],
     trace: &mut [u32],
     out: &mut [u8],
     at: usize,
 ) -> usize
-    requires { LaidOut t.now h × Ready t.now s.old trace.old × (at + most ≤ length out.old) }
-    ensures { TookOne t.now e s.old trace.old out.old at result s.new trace.new out.new }
+    requires { Ready t.now.words s.old trace.old × (at + most ≤ length out.old) }
+    ensures { TookOne t.now.words e s.old trace.old out.old at result s.new trace.new out.new }
 {
-    let answer = events::handle(t, h, e, s, trace, &t[t.len()..]);
+    let answer = take(t, e, s, trace);
     let number = events::number(answer);
     let count = events::count(answer);
     lay_lines(out, at, number, s, trace, count)
@@ -106,11 +110,10 @@ fn take_one(
 pub fn ready(t: &[u32], s: &[u32], room: usize) -> bool
     ensures { result ≡ eqb (refused_call t.now s.now room) 0 }
 {
-    let admission = admit(t, s);
-    let Admission::Stands(b) = admission else {
-        return false;
-    };
-    b as usize <= room
+    match admit(t, s) {
+        Ok(b) => b as usize <= room,
+        Err(_) => false,
+    }
 }
 
 // How many events were taken, and how many bytes their lines are.
@@ -139,17 +142,21 @@ pub fn take_events(
             bytes: 0,
         };
     }
-    let h = read_accepted(t);
-    let total = past(word_count(bytes), from);
-    let mut i = 0;
+    let table = Table::accepted(t);
+    let total = word_count(bytes).saturating_sub(from);
     let mut at = 0;
-    while i < total && MOST <= past(out.len(), at) {
+    for i in 0..total {
+        if out.len().saturating_sub(at) < MOST {
+            return Taken {
+                events: i,
+                bytes: at,
+            };
+        }
         let e = read_word(bytes, from + i);
-        at = take_one(t, h, e, s, trace, out, at);
-        i += 1;
+        at = take_one(&table, e, s, trace, out, at);
     }
     Taken {
-        events: i,
+        events: total,
         bytes: at,
     }
 }

@@ -1,15 +1,14 @@
 -- Nothing is told of an event exactly if the supplier's recording is ours. Assumes nothing.
 use Prim.Native.Nat.{ℕ}
 use mathlib.Core.Path.{◌≡◌, refl, sym, ap, ◌∙◌}
-use mathlib.Core.Bool.{true, false}
-use mathlib.Core.List.{List, [], ◌∷◌, ◌++◌}
+use mathlib.Core.List.{List, ◌++◌}
 use native.Mathlib.Omega.{arith}
 use lib.ListN.{length, get_or, take, drop, take-append-drop}
 use lib.Seq.{take-append_seam, drop-append_seam}
 use lib.Dec.{eqb}
-use borrow.Author.Tests.{eqb-true, eqb-false, eq-eqb, ne_eqb}
+use borrow.Author.Tests.{eqb-true, eq-eqb}
 use Rattle.rulebook.specs.Step.{Result}
-use Rattle.rulebook.specs.Hold.{Held, held_by, beside, as_ordered}
+use Rattle.rulebook.specs.Hold.{held_by, beside, as_ordered}
 use Rattle.laws.proofs.Tests.{split}
 use Rattle.hold.proofs.Exactly.{yes-exactly}
 use Rattle.telling.specs.Told.{held_event, answers_part, event_line, told_lines}

@@ -1,21 +1,24 @@
 -- What is judged of an event, and the supplier's state taken over. Assumes nothing.
-use Prim.Native.Nat.{ℕ, ◌+◌, ◌-◌, ◌<◌, ◌≤◌, min}
-use mathlib.Core.Path.{◌≡◌, refl, sym, ap, subst, ◌∙◌}
-use mathlib.Core.Bool.{true, false, ◌&&◌}
-use mathlib.Core.List.{List, [], ◌∷◌, ◌++◌, append-nil}
+use Prim.Native.Nat.{ℕ, ◌-◌, ◌<◌, ◌≤◌, min}
+use mathlib.Core.Path.{◌≡◌, refl, sym, ◌∙◌}
+use mathlib.Core.Bool.{true, false}
+use mathlib.Core.List.{List, ◌++◌, append-nil}
 use native.Mathlib.Omega.{arith}
-use lib.ListN.{length, get_or, set, take, drop, length-drop, drop_of_length-le}
-use lib.Seq.{take_all, length-take-le}
-use lib.Dec.{eqb, leb}
+use lib.ListN.{length, take, drop, length-drop, drop_of_length-le}
+use lib.Seq.{take_all}
 use borrow.Author.Tests.{eq-eqb, ne_eqb, le-leb, lt-leb}
 use Rattle.rulebook.specs.Step.{refused_state}
 use Rattle.rulebook.specs.Hold.{beside}
 use Rattle.manager.specs.declared.Fit.{Fit}
 use Rattle.manager.specs.declared.Fit.TheVariants.{Fits, BadTable, Unfit}
 use Rattle.manager.specs.Answers.{state_number}
-use Rattle.hold.specs.Promises.{TellsVerdictIn}
+use Rattle.hold.specs.declared.Verdict.{Verdict}
+use Rattle.hold.specs.declared.Verdict.TheVariants.{AsOrdered, Refused, TracesPart, TheirsStops, OursStops, StatesPart}
+use Rattle.hold.specs.Promises.{number_of, given_by, TellsVerdict}
+use Rattle.telling.specs.declared.Judgement.TheVariants.{AnswersPart, Words}
 use Rattle.hold.proofs.Verdicts.{front-least, tail-least}
-use Rattle.telling.specs.Told.{held_event}
+use Rattle.text.specs.Lines.{decimal_line}
+use Rattle.telling.specs.Told.{held_event, states_label, verdict_label, verdict_line, labelled, side}
 use Rattle.telling.specs.Promises.{Judges, Adopts}
 
 -- what stands behind the first n
@@ -26,7 +29,7 @@ module _ (answer : ℕ) (ws state : List ℕ) (said : ℕ) (theirs : List ℕ) {
   pub cut_inside : cut ≤ length theirs
   cut_inside = omega (arith, is)
 
-  pub answers-differ : (answer ≡ said → ⊥) → Judges answer ws state said theirs (record { verdict = 6; number = 0; cut = cut })
+  pub answers-differ : (answer ≡ said → ⊥) → Judges answer ws state said theirs (record { judgement = AnswersPart; cut = cut })
   unfolding held_event
   answers-differ n = let other = ne_eqb answer said n in record { verdict = rw other; number = rw other; cut = is }
 
@@ -36,13 +39,13 @@ module _ (answer : ℕ) (ws state : List ℕ) (said : ℕ) (theirs : List ℕ) {
   pub cut-state : take cut theirs ≡ take (length state) theirs
   cut-state = rw is (front-least theirs (length state))
 
-  pub compared : {v₀ k₀ v k : ℕ} → answer ≡ said → TellsVerdictIn (beside ws state (take (length theirs - cut) (drop cut theirs)) (take cut theirs)) v₀ k₀
-      → v ≡ v₀ → k ≡ k₀ → Judges answer ws state said theirs (record { verdict = v; number = k; cut = cut })
+  pub compared : {v : Verdict} → answer ≡ said → TellsVerdict (beside ws state (take (length theirs - cut) (drop cut theirs)) (take cut theirs)) v
+      → Judges answer ws state said theirs (record { judgement = Words v; cut = cut })
   unfolding held_event
-  compared e h ev ek =
+  compared e h =
       let same = eq-eqb answer said e in
       let told = rw (cut-trace, cut-state) at h in
-      record { verdict = rw same (ev ∙ told.verdict); number = rw same (ek ∙ told.number); cut = is }
+      record { verdict = rw same told.verdict; number = rw same told.number; cut = is }
 
 -- the supplier's state, where it fits
 
@@ -69,3 +72,34 @@ pub unfit-number : (r : Fit) → (r ≡ Fits → ⊥) → state_number r ≡ 0 �
 unfit-number Fits f z = f refl
 unfit-number BadTable f z = omega arith
 unfit-number Unfit f z = omega arith
+
+-- the label of a verdict that is none of the traces'
+pub states-labelled : (v : Verdict) → ((k : ℕ) → v ≡ TracesPart k → ⊥) → ((k : ℕ) → v ≡ TheirsStops k → ⊥) → ((k : ℕ) → v ≡ OursStops k → ⊥)
+    → verdict_label (number_of v) ≡ states_label
+unfolding verdict_label
+states-labelled AsOrdered f g h = refl
+states-labelled (Refused a) f g h = refl
+states-labelled (TracesPart k) f g h = absurd (f k refl)
+states-labelled (TheirsStops k) f g h = absurd (g k refl)
+states-labelled (OursStops k) f g h = absurd (h k refl)
+states-labelled (StatesPart k) f g h = refl
+
+-- the line of a verdict of the words
+pub words-line : (v : Verdict) → verdict_line (number_of v) (given_by v) ≡ verdict_label (number_of v) ++ decimal_line (given_by v)
+unfolding verdict_line
+words-line AsOrdered = refl
+words-line (Refused a) = refl
+words-line (TracesPart k) = refl
+words-line (TheirsStops k) = refl
+words-line (OursStops k) = refl
+words-line (StatesPart k) = refl
+
+-- its sides have no answer
+pub words-side : (label : List ℕ) (v : Verdict) (answer : ℕ) (ws : List ℕ) → side label (number_of v) answer ws ≡ labelled label ws
+unfolding side
+words-side label AsOrdered answer ws = refl
+words-side label (Refused a) answer ws = refl
+words-side label (TracesPart k) answer ws = refl
+words-side label (TheirsStops k) answer ws = refl
+words-side label (OursStops k) answer ws = refl
+words-side label (StatesPart k) answer ws = refl

@@ -1,15 +1,14 @@
 -- Lines behind a label, laid one by one, and how long what is told can be. Assumes nothing.
-use Prim.Native.Nat.{ℕ, suc, ◌+◌, ◌*◌, ◌^◌, ◌<◌, ◌≤◌}
-use mathlib.Core.Path.{◌≡◌, refl, sym, ap, ◌∙◌}
-use mathlib.Core.Bool.{true, false, cond}
+use Prim.Native.Nat.{ℕ, ◌+◌, ◌*◌, ◌^◌, ◌<◌, ◌≤◌}
+use mathlib.Core.Path.{◌≡◌, sym, ap, ◌∙◌}
 use mathlib.Core.List.{List, [], ◌∷◌, ◌++◌, append_assoc}
 use native.Mathlib.Numerals.{add-one}
 use native.Mathlib.Omega.{arith}
-use lib.ListN.{length, get_or, take, drop, length-append, drop_of_length-le, length-drop}
+use lib.ListN.{length, get_or, drop, length-append, drop_of_length-le}
 use lib.Seq.{drop-cons}
 use lib.Dec.{eqb}
 use borrow.Author.Tests.{eq-eqb, ne_eqb}
-use Rattle.rulebook.specs.Hold.{traces_part, theirs_stops, ours_stops, states_part}
+use Rattle.rulebook.specs.Hold.{traces_part, theirs_stops, ours_stops}
 use Rattle.laws.proofs.Tests.{split}
 use Rattle.text.specs.Lines.{decimal, decimal_line, hex_line}
 use Rattle.text.specs.Puts.{lay, Put, PutAt}

@@ -1,23 +1,22 @@
 -- A whole log: nothing is told of it exactly if it is ours, and what calls print, one after the other, is what is told of it. Assumes nothing.
 use Prim.Native.Nat.{ℕ, suc}
 use mathlib.Core.Path.{◌≡◌, refl, sym, ap, ◌∙◌}
-use mathlib.Core.Bool.{Bool, true, false, cond}
+use mathlib.Core.Bool.{Bool, true, false}
 use mathlib.Core.List.{List, [], ◌∷◌, ◌++◌, append-nil}
 use native.Mathlib.Nat.{zero-add}
 use native.Mathlib.Omega.{arith}
-use lib.ListN.{length, get_or, take, drop}
+use lib.ListN.{length, take, drop}
 use lib.Seq.{take-append_seam}
-use lib.Dec.{eqb}
-use borrow.Author.Tests.{eqb-true, eqb-false, eq-eqb, ne_eqb}
+use borrow.Author.Tests.{eq-eqb}
 use Rattle.rulebook.specs.Step.{Result}
-use Rattle.rulebook.specs.Hold.{Held, as_ordered}
-use Rattle.laws.proofs.Tests.{split, clash}
+use Rattle.rulebook.specs.Hold.{as_ordered}
+use Rattle.laws.proofs.Tests.{split}
 use Rattle.text.specs.Puts.{PutAt}
 use Rattle.text.proofs.Lay.{front-laid}
 use Rattle.session.specs.Printed.{taken}
 use Rattle.telling.specs.Told.{held_event, sides, told_lines}
-use Rattle.telling.specs.Promises.{Took, result, Tells, Adopts}
-use Rattle.telling.specs.Log.{Recorded, as_ours, fitting, unfit_line, onward, onward_line, log_lines, own_log, OwnLog}
+use Rattle.telling.specs.Promises.{Took, result, Tells}
+use Rattle.telling.specs.Log.{Recorded, as_ours, onward, onward_line, log_lines, own_log, OwnLog}
 use Rattle.telling.specs.Log.{Holding, ended, missing, same, stopped, parted}
 use Rattle.telling.proofs.Exactly.{nothing-told, yes-ours}
 

@@ -4,8 +4,11 @@ use Rattle.rulebook.specs.Step.{Result, refused_state}
 use Rattle.text.specs.Puts.{PutAt}
 use Rattle.session.specs.Printed.{taken}
 use Rattle.session.specs.Promises.{traced_by}
+use Rattle.hold.specs.Promises.{number_of, given_by}
+use Rattle.telling.specs.declared.Judgement.{Judgement}
+use Rattle.telling.specs.declared.Judgement.TheVariants.{AnswersPart, Words}
 use Rattle.telling.specs.declared.Judged.{Judged}
-use Rattle.telling.specs.Told.{held_event, event_line, verdict_line, ours, supplier, side, told_lines}
+use Rattle.telling.specs.Told.{answers_part, held_event, event_line, verdict_line, ours, supplier, side, told_lines}
 
 -- `take_one` of table t, event e, state s and the lent trace: the answer k, the count n, state and trace afterwards
 pub record Took (t : List ℕ) (e : ℕ) (s trace : List ℕ) (k n : ℕ) (s' trace' : List ℕ) : Type 0 where
@@ -18,19 +21,29 @@ pub record Took (t : List ℕ) (e : ℕ) (s trace : List ℕ) (k n : ℕ) (s' tr
 abbrev pub result : ℕ → List ℕ → List ℕ → Result
 result answer ws state = record { answer = answer; state = state; words = ws; visits = 0 }
 
+-- a judgement's verdict in numbers, and the number of the word that it gives
+
+abbrev pub verdict_in : Judgement → ℕ
+verdict_in AnswersPart = answers_part
+verdict_in (Words v) = number_of v
+
+abbrev pub word_in : Judgement → ℕ
+word_in AnswersPart = 0
+word_in (Words v) = given_by v
+
 -- `judge` of our answer, words and state and the supplier's answer and words
 pub record Judges (answer : ℕ) (ws state : List ℕ) (said : ℕ) (theirs : List ℕ) (r : Judged) : Type 0 where
-  pub verdict : r.verdict ≡ (held_event (result answer ws state) said theirs).verdict
-  pub number : r.number ≡ (held_event (result answer ws state) said theirs).number
+  pub verdict : verdict_in r.judgement ≡ (held_event (result answer ws state) said theirs).verdict
+  pub number : word_in r.judgement ≡ (held_event (result answer ws state) said theirs).number
   pub cut : r.cut ≡ min (length state) (length theirs)
 
 -- the lines of what was judged: the first two, and both sides
 
-abbrev pub head : ℕ → ℕ → Judged → List ℕ
-head n e j = event_line n e ++ verdict_line j.verdict j.number
+abbrev pub head : ℕ → ℕ → Judgement → List ℕ
+head n e j = event_line n e ++ verdict_line (verdict_in j) (word_in j)
 
-abbrev pub both : Judged → ℕ → List ℕ → ℕ → List ℕ → List ℕ
-both j answer a said b = side ours j.verdict answer (drop j.number a) ++ side supplier j.verdict said (drop j.number b)
+abbrev pub both : Judgement → ℕ → List ℕ → ℕ → List ℕ → List ℕ
+both j answer a said b = side ours (verdict_in j) answer (drop (word_in j) a) ++ side supplier (verdict_in j) said (drop (word_in j) b)
 
 -- as many words as an event of ours and a recording have at most, and room for their lines
 pub record Room (ws state theirs out : List ℕ) : Type 0 where

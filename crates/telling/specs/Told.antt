@@ -10,7 +10,7 @@
 use Rattle.std.specs.Prelude.{ℕ, cond, List, [], ◌∷◌, ◌++◌, length, take, drop, eqb}
 use Rattle.rulebook.specs.Step.{Result}
 use Rattle.rulebook.specs.Hold.{Held, told, beside, as_ordered, traces_part, theirs_stops, ours_stops, states_part}
-use Rattle.text.specs.Lines.{newline, decimal, decimal_line, hex_line}
+use Rattle.text.specs.Lines.{decimal, decimal_line, hex_line}
 
 -- A recording's words: as many as our state has are the supplier's state, the others its trace.
 

@@ -1,76 +1,62 @@
 // What the program behind `./herringcart hold` says of an event of a supplier's log: our step, the verdict, and its lines laid where the verdict is.
 #![tactic(auto)]
 
-ghost use Rattle.std.specs.Prelude.{◌≡◌, true, ◌++◌, ◌+◌, ◌≤◌, min, length, take, drop};
+ghost use Rattle.std.specs.Prelude.{◌≡◌, true, ◌++◌, ◌+◌, ◌≤◌, min, length, take, drop, eqb};
 ghost use Rattle.text.specs.Lines.{hex_line};
 ghost use Rattle.text.specs.Puts.{PutAt};
-ghost use Rattle.words.specs.Sections.{Laid as LaidOut};
-ghost use Rattle.session.specs.Promises.{Ready, PutLines};
+ghost use Rattle.session.specs.Promises.{PutLines};
 ghost use Rattle.telling.specs.Told.{event_line, verdict_label, verdict_line, labelled, ours as ours_label, supplier as supplier_label, side, total_line};
-ghost use Rattle.telling.specs.Promises.{Took, Judges, both, head, Tells, Room, Adopts};
+ghost use Rattle.rulebook.specs.Hold.{as_ordered, states_part};
+ghost use Rattle.hold.specs.Promises.{number_of};
+ghost use Rattle.telling.specs.Promises.{verdict_in, word_in, Judges, both, head, Tells, Room, Adopts};
 
-use manager::Fit;
-use text::number::least;
+use hold::{Verdict, given};
 use text::output::{put_decimal, put_decimal_line, put_hex_line, put_label};
-use words::sections::Layout;
 
-// The verdicts by their numbers: those of `hold`, and one that a log has besides.
-const AS_ORDERED: u32 = 0;
-
-const TRACES_PART: u32 = 2;
-
-const THEIRS_STOPS: u32 = 3;
-
-const OURS_STOPS: u32 = 4;
-
-const STATES_PART: u32 = 5;
-
-const ANSWERS_PART: u32 = 6;
-
-// Our step: its answer's number, and how many trace words it wrote.
+// What is said of an event of a log: the supplier's answer is another than ours, or what `hold` says of its words.
 #[derive(Clone, Copy)]
-pub struct Step {
-    pub answer: u32,
-    pub count: usize,
+pub enum Judgement {
+    AnswersPart,
+    Words(Verdict),
 }
 
-// Takes one event, all calls good.
-pub fn take_one(t: &[u32], h: Layout, e: u32, s: &mut [u32], trace: &mut [u32]) -> Step
-    requires { LaidOut t.now h × Ready t.now s.old trace.old }
-    ensures { Took t.now e s.old trace.old result.answer result.count s.new trace.new }
+// What is said, and how many of the recording's words are the supplier's state.
+#[derive(Clone, Copy)]
+pub struct Judged {
+    pub judgement: Judgement,
+    pub cut: usize,
+}
+
+fn is_as_ordered(judgement: Judgement) -> bool
+    ensures { result ≡ eqb (verdict_in judgement) as_ordered }
 {
-    let answer = events::handle(t, h, e, s, trace, &t[t.len()..]);
-    let count = events::count(answer);
-    Step {
-        answer: events::number(answer),
-        count,
+    match judgement {
+        Judgement::Words(Verdict::AsOrdered) => true,
+        _ => false,
     }
 }
 
-// A verdict's number, the number that it gives, and how many of the recording's words are the supplier's state.
-#[derive(Clone, Copy)]
-pub struct Judged {
-    pub verdict: u32,
-    pub number: usize,
-    pub cut: usize,
+fn is_states_part(judgement: Judgement) -> bool
+    ensures { result ≡ eqb (verdict_in judgement) states_part }
+{
+    match judgement {
+        Judgement::Words(Verdict::StatesPart(_)) => true,
+        _ => false,
+    }
 }
 
 // Our answer, words and state against the supplier's answer and words.
 pub fn judge(answer: u32, ours: &[u32], state: &[u32], said: u32, words: &[u32]) -> Judged
     ensures { Judges answer ours.now state.now said words.now result }
 {
-    let cut = least(state.len(), words.len());
+    let cut = state.len().min(words.len());
     if answer != said {
-        return Judged {
-            verdict: ANSWERS_PART,
-            number: 0,
-            cut,
-        };
+        let judgement = Judgement::AnswersPart;
+        return Judged { judgement, cut };
     }
     let verdict = hold::compare(ours, state, &words[cut..], &words[..cut]);
     Judged {
-        verdict: hold::number(verdict),
-        number: hold::given(verdict),
+        judgement: Judgement::Words(verdict),
         cut,
     }
 }
@@ -86,32 +72,28 @@ fn lay_event(out: &mut [u8], at: usize, n: u64, e: u32) -> usize
 }
 
 // Lays what stands before the number of a word.
-fn lay_label(out: &mut [u8], at: usize, v: u32) -> usize
-    requires { at + length (verdict_label v) ≤ length out.old }
-    ensures { PutAt (verdict_label v) out.old at result out.new }
+fn lay_label(out: &mut [u8], at: usize, verdict: Verdict) -> usize
+    requires { at + length (verdict_label (number_of verdict)) ≤ length out.old }
+    ensures { PutAt (verdict_label (number_of verdict)) out.old at result out.new }
 {
-    if v == TRACES_PART {
-        return put_label(out, at, b"traces part at word ");
+    match verdict {
+        Verdict::TracesPart(_) => put_label(out, at, b"traces part at word "),
+        Verdict::TheirsStops(_) => put_label(out, at, b"the supplier's trace stops at word "),
+        Verdict::OursStops(_) => put_label(out, at, b"the supplier's trace goes on at word "),
+        _ => put_label(out, at, b"states part at word "),
     }
-    if v == THEIRS_STOPS {
-        return put_label(out, at, b"the supplier's trace stops at word ");
-    }
-    if v == OURS_STOPS {
-        return put_label(out, at, b"the supplier's trace goes on at word ");
-    }
-    put_label(out, at, b"states part at word ")
 }
 
-// Lays the line of a verdict.
-fn lay_verdict(out: &mut [u8], at: usize, v: u32, k: usize) -> usize
-    requires { at + length (verdict_line v k) ≤ length out.old }
-    ensures { PutAt (verdict_line v k) out.old at result out.new }
+// Lays the line of a judgement.
+fn lay_judgement(out: &mut [u8], at: usize, judgement: Judgement) -> usize
+    requires { at + length (verdict_line (verdict_in judgement) (word_in judgement)) ≤ length out.old }
+    ensures { PutAt (verdict_line (verdict_in judgement) (word_in judgement)) out.old at result out.new }
 {
-    if v == ANSWERS_PART {
+    let Judgement::Words(verdict) = judgement else {
         return put_label(out, at, b"answers part\n");
-    }
-    let next = lay_label(out, at, v);
-    put_decimal(out, next, k as u64, b'\n')
+    };
+    let next = lay_label(out, at, verdict);
+    put_decimal(out, next, given(verdict) as u64, b'\n')
 }
 
 // Lays a word's line behind a label.
@@ -129,10 +111,8 @@ fn lay_words(out: &mut [u8], at: usize, label: &[u8], words: &[u32], from: usize
     ensures { PutAt (labelled label.now (drop from words.now)) out.old at result out.new }
 {
     let mut next = at;
-    let mut i = from;
-    while i < words.len() {
+    for i in from..words.len() {
         next = lay_word(out, next, label, words[i]);
-        i += 1;
     }
     next
 }
@@ -142,46 +122,47 @@ fn lay_side(
     out: &mut [u8],
     at: usize,
     label: &[u8],
-    v: u32,
+    judgement: Judgement,
     answer: u32,
     words: &[u32],
-    from: usize,
 ) -> usize
-    requires { at + length (side label.now v answer (drop from words.now)) ≤ length out.old }
-    ensures { PutAt (side label.now v answer (drop from words.now)) out.old at result out.new }
+    requires { at + length (side label.now (verdict_in judgement) answer (drop (word_in judgement) words.now)) ≤ length out.old }
+    ensures { PutAt (side label.now (verdict_in judgement) answer (drop (word_in judgement) words.now)) out.old at result out.new }
 {
-    if v == ANSWERS_PART {
-        let number = put_label(out, at, label);
-        let next = put_decimal_line(out, number, answer);
-        return lay_words(out, next, label, words, from);
+    match judgement {
+        Judgement::AnswersPart => {
+            let number = put_label(out, at, label);
+            let next = put_decimal_line(out, number, answer);
+            lay_words(out, next, label, words, 0)
+        }
+        Judgement::Words(verdict) => lay_words(out, at, label, words, given(verdict)),
     }
-    lay_words(out, at, label, words, from)
 }
 
 // Lays both sides, ours first.
 fn lay_sides(
     out: &mut [u8],
     at: usize,
-    j: Judged,
+    judgement: Judgement,
     answer: u32,
     ours: &[u32],
     said: u32,
     theirs: &[u32],
 ) -> usize
-    requires { at + length (both j answer ours.now said theirs.now) ≤ length out.old }
-    ensures { PutAt (both j answer ours.now said theirs.now) out.old at result out.new }
+    requires { at + length (both judgement answer ours.now said theirs.now) ≤ length out.old }
+    ensures { PutAt (both judgement answer ours.now said theirs.now) out.old at result out.new }
 {
-    let next = lay_side(out, at, b"ours ", j.verdict, answer, ours, j.number);
-    lay_side(out, next, b"supplier ", j.verdict, said, theirs, j.number)
+    let next = lay_side(out, at, b"ours ", judgement, answer, ours);
+    lay_side(out, next, b"supplier ", judgement, said, theirs)
 }
 
-// Lays the event's line and the verdict's at the front.
-fn lay_head(out: &mut [u8], n: u64, e: u32, j: Judged) -> usize
-    requires { length (head n e j) ≤ length out.old }
-    ensures { PutAt (head n e j) out.old 0 result out.new }
+// Lays the event's line and the judgement's at the front.
+fn lay_head(out: &mut [u8], n: u64, e: u32, judgement: Judgement) -> usize
+    requires { length (head n e judgement) ≤ length out.old }
+    ensures { PutAt (head n e judgement) out.old 0 result out.new }
 {
     let next = lay_event(out, 0, n, e);
-    lay_verdict(out, next, j.verdict, j.number)
+    lay_judgement(out, next, judgement)
 }
 
 // Lays what is told of the n-th event e at the front, nothing where the supplier's recording is as our tables order.
@@ -199,15 +180,16 @@ pub fn tell(
     requires { Judges answer ours.now state.now said words.now j × Room ours.now state.now words.now out.old }
     ensures { Tells n e answer ours.now state.now said words.now out.old result out.new }
 {
-    if j.verdict == AS_ORDERED {
+    let judgement = j.judgement;
+    if is_as_ordered(judgement) {
         return 0;
     }
     let cut = j.cut;
-    let next = lay_head(out, n, e, j);
-    if j.verdict == STATES_PART {
-        return lay_sides(out, next, j, answer, state, said, &words[..cut]);
+    let next = lay_head(out, n, e, judgement);
+    if is_states_part(judgement) {
+        return lay_sides(out, next, judgement, answer, state, said, &words[..cut]);
     }
-    lay_sides(out, next, j, answer, ours, said, &words[cut..])
+    lay_sides(out, next, judgement, answer, ours, said, &words[cut..])
 }
 
 // Lays the last line at the front: how many events there were, and how many of them are not as our tables order. Nothing where fewer than 96 bytes are
@@ -235,14 +217,10 @@ pub fn adopt(t: &[u32], s: &mut [u32], words: &[u32]) -> bool
     if words.len() < n {
         return false;
     }
-    let fit = manager::check_state(t, &words[..n]);
-    let Fit::Fits = fit else {
+    let theirs = &words[..n];
+    if manager::check_state(t, theirs).is_err() {
         return false;
-    };
-    let mut i = 0;
-    while i < n {
-        s[i] = words[i];
-        i += 1;
     }
+    s.copy_from_slice(theirs);
     true
 }

@@ -1,16 +1,18 @@
 -- Words as a file has them: four bytes each, which make the words again. Assumes nothing.
-use Prim.Native.Nat.{ℕ, zero, suc, ◌+◌, ◌*◌, ◌/◌, ◌%◌, ◌^◌, ◌<◌, ◌≤◌}
-use mathlib.Core.Path.{◌≡◌, refl, sym, ◌∙◌}
+use Prim.Native.Nat.{ℕ, zero, suc, ◌+◌, ◌-◌, ◌*◌, ◌/◌, ◌%◌, ◌^◌, ◌<◌, ◌≤◌}
+use mathlib.Core.Path.{◌≡◌, refl, sym}
 use mathlib.Core.List.{List, [], ◌∷◌, ◌++◌, append_assoc, append-nil}
-use native.Mathlib.Nat.{add-zero, mod-eq_of_lt, div-add-mod, div-div-eq-div-mul}
+use native.Mathlib.Nat.{mod-eq_of_lt, div-add-mod, div-div-eq-div-mul}
 use native.Mathlib.Numerals.{add-one}
 use native.Mathlib.Omega.{arith}
-use lib.ListN.{length, get_or, set, take, length-append, length-set}
+use lib.ListN.{length, get_or, take, length-append}
 use lib.Seq.{take_all, length-take-le}
+use Rattle.std.specs.Int.{w32, to_be_bytes}
+use borrow.Rule.Slice.PartMut.{put_mid}
 use Rattle.text.specs.Words.{word_of, words_of}
-use Rattle.text.specs.Puts.{lay, PutAt}
-use Rattle.text.proofs.Lay.{lay-none, lay-back}
-use Rattle.text.proofs.Puts.{put-more}
+use Rattle.text.specs.Puts.{PutAt}
+use Rattle.text.proofs.Lay.{lay-none}
+use Rattle.text.proofs.Puts.{put-more, part-laid}
 use Rattle.text.specs.Raw.{bytes_of, bytes_in}
 
 four_bytes : (w : ℕ) → length (bytes_of w) ≡ 4
@@ -41,28 +43,12 @@ unfolding bytes_of bytes_in words_of
 read_back [] h = refl
 read_back (w ∷ ws) h = rw (same_word w (h zero), read_back ws (λ (i : ℕ). h (suc i)))
 
--- Laying them: a word from its last byte to its first.
+-- Laying them: a word's four bytes written over a part.
 
-four-laid : (out : List ℕ) (at a b c d : ℕ) → at + 4 ≤ length out
-    → set (set (set (set out (at + 3) d) (at + 2) c) (at + 1) b) at a ≡ lay out at (a ∷ b ∷ c ∷ d ∷ [])
-four-laid out at a b c d h =
-    let o₃ = set out (at + 3) d in
-    let l₃ : length o₃ ≡ length out = simp length-set in
-    let o₂ = set o₃ (at + 2) c in
-    let l₂ : length o₂ ≡ length out = simp length-set in
-    let o₁ = set o₂ (at + 1) b in
-    let l₁ : length o₁ ≡ length out = simp length-set in
-    sym (lay-none (set o₁ at a) at)
-    ∙ rw add-zero at (lay-back o₁ at [] 0 a refl (omega arith))
-    ∙ lay-back o₂ at (a ∷ []) 1 b refl (omega arith)
-    ∙ lay-back o₃ at (a ∷ b ∷ []) 2 c refl (omega arith)
-    ∙ lay-back out at (a ∷ b ∷ c ∷ []) 3 d refl (omega arith)
-
-pub word-laid : (out : List ℕ) (at w : ℕ) → at + 4 ≤ length out
-    → PutAt (bytes_of w) out at (at + 4)
-    (set (set (set (set out (at + 3) (w % 256)) (at + 2) (w / 256 % 256)) (at + 1) (w / 65536 % 256)) at (w / 16777216 % 256))
+pub word-laid : (out : List ℕ) (at w : ℕ) {next : ℕ} {part : List ℕ} → next ≡ at + 4 → part ≡ to_be_bytes w32 w
+    → PutAt (bytes_of w) out at next (put_mid at (at + 4 - at) out part)
 unfolding bytes_of
-word-laid out at w h = record { place = refl; bytes = four-laid out at _ _ _ _ h }
+word-laid out at w h e = record { place = h; bytes = part-laid out at (at + 4 - at) (bytes_of w) _ e (omega arith) }
 
 -- Words one behind the other: none, all, and a turn of the loop.
 

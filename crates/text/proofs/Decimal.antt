@@ -3,10 +3,11 @@ use Prim.Native.Nat.{ℕ, zero, suc, ◌+◌, ◌/◌, ◌%◌, ◌^◌, ◌*◌
 use mathlib.Core.Path.{◌≡◌, refl, sym, ap, ◌∙◌}
 use mathlib.Core.Bool.{Bool, true, false}
 use mathlib.Core.List.{[], ◌∷◌, ◌++◌}
-use native.Mathlib.Nat.{pow-suc, mod-eq_of_lt}
+use native.Mathlib.Nat.{mul_comm, pow-suc, mod-eq_of_lt}
 use native.Mathlib.Omega.{arith}
 use lib.ListN.{length, get_or, get_or-append}
 use lib.Dec.{ltb}
+use Rattle.std.proofs.Common.{lit≤}
 use borrow.Author.Tests.{lt-ltb, le-ltb}
 use Rattle.text.specs.Lines.{hex_digit, digits, places_in, places, decimal}
 use Rattle.text.proofs.Digits.{below, length_digits, value, digits-say}
@@ -51,6 +52,24 @@ places-within (suc k) n h =
     let q : n < 10 ^ suc k * 10 = rw pow-suc at h in
     omega (arith, places-more n b, places-within k (n / 10) (omega arith)))
 
+places-some : (n : ℕ) → 0 < places n
+places-some n = below n 10 (λ h. omega (arith, places-one n h)) (λ h. omega (arith, places-more n h))
+
+-- and one from there on has more than k
+pow-some : (k : ℕ) → 1 ≤ 10 ^ k
+pow-some zero = lit≤ tt
+pow-some (suc k) = rw pow-suc (omega (arith, pow-some k))
+
+places-past : (k n : ℕ) → 10 ^ k ≤ n → k < places n
+places-past zero n h = places-some n
+places-past (suc k) n h =
+    let q : 10 ^ k * 10 ≤ n = rw pow-suc at h in
+    below n 10 (λ b. absurd (omega (arith, pow-some k)))
+    (λ b. omega (arith, places-more n b, places-past k (n / 10) (omega arith)))
+
+pub places-between : (k n : ℕ) → 10 ^ k ≤ n → n < 10 * 10 ^ k → k + 1 ≡ places n
+places-between k n h b = omega (arith, places-past k n h, places-within k n (rw (pow-suc, mul_comm (10 ^ k) 10) b))
+
 pub decimal-within : (k n : ℕ) → n < 10 ^ suc k → length (decimal n) ≤ suc k
 unfolding decimal
 decimal-within k n h = rw length_digits (places-within k n h)
@@ -81,9 +100,6 @@ decimal-one n h = rw (places-one n h, digits, mod-eq_of_lt h, lt-ltb n 10 h)
 pub decimal-more : (n : ℕ) → 10 ≤ n → decimal n ≡ decimal (n / 10) ++ hex_digit (n % 10) ∷ []
 unfolding decimal digits
 decimal-more n h = rw (places-more n h)
-
-places-some : (n : ℕ) → 0 < places n
-places-some n = below n 10 (λ h. omega (arith, places-one n h)) (λ h. omega (arith, places-more n h))
 
 first-digit : (n : ℕ) → 10 ≤ n → get_or (decimal n) 0 0 ≡ get_or (decimal (n / 10)) 0 0
 unfolding decimal

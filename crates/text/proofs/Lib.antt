@@ -3,7 +3,6 @@ pub mod Words
 pub mod Digits
 pub mod Decimal
 pub mod Lay
-pub mod Moved
 pub mod Puts
 pub mod Bytes
 pub mod Runs

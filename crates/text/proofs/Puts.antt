@@ -1,15 +1,16 @@
 -- A line put where it has room and where it has none, and the turns of the loops that put one. Assumes nothing.
 use Prim.Native.Nat.{ℕ, zero, suc, ◌+◌, ◌-◌, ◌/◌, ◌%◌, ◌<◌, ◌≤◌}
 use mathlib.Core.Path.{◌≡◌, sym, ap, ◌∙◌}
-use mathlib.Core.List.{List, [], ◌∷◌, ◌++◌}
-use native.Mathlib.Nat.{add-zero, mod-lt, mod-eq_of_lt}
+use mathlib.Core.List.{List, [], ◌∷◌, ◌++◌, append_assoc}
+use native.Mathlib.Nat.{mod-lt, mod-eq_of_lt}
 use native.Mathlib.Omega.{arith}
-use lib.ListN.{length, set, length-append}
-use lib.Seq.{take_all, paste}
+use lib.ListN.{length, set, take, length-append}
+use lib.Seq.{drop-drop}
+use borrow.Rule.Slice.PartMut.{put_mid}
 use borrow.Author.Tests.{le-leb, lt-leb}
 use Rattle.text.specs.Lines.{hex_digit, digits}
 use Rattle.text.specs.Puts.{lay, Put, PutAt}
-use Rattle.text.proofs.Digits.{below, length_digits}
+use Rattle.text.proofs.Digits.{length_digits}
 use Rattle.text.proofs.Lay.{lay-none, lay-back, length-lay, lay-more}
 
 module _ (line out : List ℕ) (at : ℕ) where
@@ -65,22 +66,10 @@ module _ (at base : ℕ) where
       (sym (lay-none out at) ∙ e ∙ lay-back before at (digits base k n) k end (length_digits base k n) (omega arith))
   digits-end before out k n end (suc i) rest h z e = absurd (omega arith)
 
--- a loop that copies a label; one without bytes may be asked for behind the end
-
-no_label : (label out after : List ℕ) (at n : ℕ) → n ≡ length label → n ≤ 0 → length out < at → after ≡ lay out at label → Put label out at (at + n) after
-no_label [] out after at zero is h b e = rw (add-zero, e, lay-none) (no_room [] out at (omega arith))
-no_label [] out after at (suc n) is h b e = absurd (omega arith)
-no_label (x ∷ label) out after at n is h b e = absurd (omega arith)
-
-pub label-end : (label out after : List ℕ) (at n : ℕ) → n ≡ length label → n ≤ length out - at → after ≡ paste out at label n
-    → Put label out at (at + n) after
+-- a part that was written over as a whole
+pub part-laid : (out : List ℕ) (at k : ℕ) (xs part : List ℕ) → part ≡ xs → k ≡ length xs → put_mid at k out part ≡ lay out at xs
 unfolding lay
-label-end label out after at n is h e =
-    let all = take_all n label (omega arith) in
-    let whole : after ≡ lay out at label = rw (all, is) at e in
-    below (length out) at
-    (λ b. no_label label out after at n is (omega arith) b whole)
-    (λ b. room label out at (at + n) after (omega arith) (omega arith) whole)
+part-laid out at k xs part e l = rw (e, l, drop-drop) (sym (append_assoc (take at out) xs _))
 
 -- Lines laid one behind the other.
 

@@ -5,7 +5,11 @@ use mathlib.Core.List.{List, [], ◌∷◌, ◌++◌, append_assoc, append-nil}
 use native.Mathlib.Numerals.{add-one}
 use native.Mathlib.Omega.{arith}
 use lib.ListN.{length, get_or, take, length-take, length-drop}
-use lib.Seq.{get_or-take, get_or-drop, take-suc, length-take-le}
+use Rattle.std.proofs.Common.{refl, ◌⊎◌, inl, inr}
+use Rattle.std.proofs.lemmas.List.{take_min, drop_all}
+use Rattle.std.proofs.lemmas.Slice.{between_is}
+use Rattle.std.specs.List.{slice_range}
+use lib.Seq.{take-suc, length-take-le}
 use Rattle.text.specs.Lines.{hex_line, hex_lines}
 use Rattle.text.specs.Puts.{lay, Put, run}
 use Rattle.text.proofs.Digits.{length-hex, length-hexes}
@@ -15,8 +19,13 @@ use Rattle.text.proofs.Puts.{laid}
 pub length_run : (ws : List ℕ) (from to : ℕ) → length (run ws from to) ≡ min to (length ws) - from
 length_run ws from to = simp (length-drop, length-take)
 
-pub run_at : (ws : List ℕ) (from to i : ℕ) → from + i < to → get_or (run ws from to) i 0 ≡ get_or ws (from + i) 0
-run_at ws from to i h = rw (get_or-drop, get_or-take)
+-- the run read as a range that ends within the words, and where there is no such range
+pub run-range : (ws : List ℕ) (from to end : ℕ) {part : List ℕ} → end ≡ min to (length ws) → part ≡ slice_range ws from end → part ≡ run ws from to
+run-range ws from to end e p = p ∙ between_is ws from end ∙ rw (e, take_min) refl
+
+pub run-empty : (ws : List ℕ) (from to end : ℕ) → end ≡ min to (length ws) → (end < from) ⊎ (length ws < end) → [] ≡ run ws from to
+run-empty ws from to end e (inl h) = sym (drop_all from (take to ws) (simp length-take (omega arith)))
+run-empty ws from to end e (inr h) = absurd (omega arith)
 
 hexes-last : (ws : List ℕ) (w : ℕ) → hex_lines (ws ++ w ∷ []) ≡ hex_lines ws ++ hex_line w
 unfolding hex_lines

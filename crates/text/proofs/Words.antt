@@ -1,13 +1,14 @@
--- The whole words of bytes: how many there are, and which bytes each is made of. Assumes nothing.
-use Prim.Native.Nat.{ℕ, zero, suc, ◌+◌, ◌*◌, ◌/◌, ◌<◌, ◌≤◌}
+-- The whole words of bytes: how many there are, and which bytes make each. Assumes nothing.
+use Prim.Native.Nat.{ℕ, zero, suc, ◌+◌, ◌/◌, ◌<◌, ◌≤◌}
 use mathlib.Core.Path.{◌≡◌, refl, ap, ◌∙◌}
 use mathlib.Core.List.{List, [], ◌∷◌, ◌++◌, append_assoc}
-use native.Mathlib.Nat.{add-zero}
 use native.Mathlib.Numerals.{add-one}
 use native.Mathlib.Omega.{arith}
 use lib.ListN.{length, get_or, set, take, drop, get_or-eq_default}
 use lib.Seq.{take-suc, drop-cons, set_at, length-take-le}
-use Rattle.text.specs.Words.{word_of, words_of, word_at}
+use Rattle.std.specs.Int.{w32, from_be_bytes}
+use Rattle.std.specs.Simd.{first_chunks}
+use Rattle.text.specs.Words.{words_of, word_at}
 
 four-more : (n : ℕ) → suc (n / 4) ≡ suc (suc (suc (suc n))) / 4
 four-more n = omega arith
@@ -20,27 +21,16 @@ counted (a ∷ b ∷ []) = refl
 counted (a ∷ []) = refl
 counted [] = refl
 
-past-four : (a b c d : ℕ) (rest : List ℕ) (i k : ℕ) → get_or (a ∷ b ∷ c ∷ d ∷ rest) (4 * suc i + k) 0 ≡ get_or rest (4 * i + k) 0
-past-four a b c d rest i k =
-    let q : 4 * suc i + k ≡ suc (suc (suc (suc (4 * i + k)))) = omega arith in
-    rw q
-
--- the four bytes of a word, each at 4 i + k
-made_at : (bytes : List ℕ) (i : ℕ) → i < length bytes / 4
-    → word_at bytes i ≡ word_of (get_or bytes (4 * i + 0) 0) (get_or bytes (4 * i + 1) 0) (get_or bytes (4 * i + 2) 0) (get_or bytes (4 * i + 3) 0)
+-- the bytes taken four at a time make the words
+pub chunk-word : (n i : ℕ) (bytes : List ℕ) → n ≡ length bytes / 4 → i < n → word_at bytes i ≡ from_be_bytes w32 (get_or (first_chunks 4 n bytes) i [])
 unfolding words_of
-made_at (a ∷ b ∷ c ∷ d ∷ rest) zero h = refl
-made_at (a ∷ b ∷ c ∷ d ∷ rest) (suc i) h =
-    rw (past-four a b c d rest i 0, past-four a b c d rest i 1, past-four a b c d rest i 2, past-four a b c d rest i 3)
-    (made_at rest i (omega arith))
-made_at (a ∷ b ∷ c ∷ []) i h = absurd (omega arith)
-made_at (a ∷ b ∷ []) i h = absurd (omega arith)
-made_at (a ∷ []) i h = absurd (omega arith)
-made_at [] i h = absurd (omega arith)
-
-pub made : (bytes : List ℕ) (i : ℕ) → i < length bytes / 4
-    → word_at bytes i ≡ word_of (get_or bytes (4 * i) 0) (get_or bytes (4 * i + 1) 0) (get_or bytes (4 * i + 2) 0) (get_or bytes (4 * i + 3) 0)
-made bytes i h = rw add-zero at (made_at bytes i h)
+chunk-word zero i bytes e h = absurd (omega arith)
+chunk-word (suc n) zero (a ∷ b ∷ c ∷ d ∷ rest) e h = refl
+chunk-word (suc n) (suc i) (a ∷ b ∷ c ∷ d ∷ rest) e h = chunk-word n i rest (omega arith) (omega arith)
+chunk-word (suc n) i (a ∷ b ∷ c ∷ []) e h = absurd (omega arith)
+chunk-word (suc n) i (a ∷ b ∷ []) e h = absurd (omega arith)
+chunk-word (suc n) i (a ∷ []) e h = absurd (omega arith)
+chunk-word (suc n) i [] e h = absurd (omega arith)
 
 pub none-past : (bytes : List ℕ) (i : ℕ) → length bytes / 4 ≤ i → word_at bytes i ≡ 0
 none-past bytes i h = get_or-eq_default (words_of bytes) 0 (rw counted h)

@@ -6,11 +6,6 @@ pub fn slide(window: &mut [u8], at: usize, end: usize) -> usize
     requires { Within at end window.old }
     ensures { Slid at end window.old result window.new }
 {
-    let n = end - at;
-    let mut i = 0;
-    while i < n {
-        window[i] = window[at + i];
-        i += 1;
-    }
-    n
+    window.copy_within(at..end, 0);
+    end - at
 }

@@ -3,15 +3,13 @@
 #![tactic(auto)]
 
 ghost use Rattle.std.specs.Prelude.{◌≡◌, ◌+◌, ◌≤◌, ◌<◌, length};
-ghost use Rattle.words.specs.Sections.{Laid as LaidOut};
 ghost use Rattle.session.specs.Promises.{Ready, offered};
 ghost use Rattle.visits.specs.Printed.{labelled, cost_line, which, largest_line, nothing as nothing_yet, larger as larger_of, counted as counted_of};
 ghost use Rattle.visits.specs.Promises.{most_number, most_line, most_behind, PutFew, TookOne, Countable, TookEvents, LaysMost};
 
 use text::input::{read_word, word_count};
-use text::number::past;
 use text::output::{put_decimal, put_label};
-use words::sections::{Layout, read_accepted, read_layout};
+use words::table::Table;
 
 // The most bytes that an event's line has: four labels, each with a number of at most 20 digits and the byte behind it.
 pub const MOST_LINE: usize = 110;
@@ -104,8 +102,7 @@ struct Cost {
 
 // Takes one event, all calls good, and lays its line.
 fn take_one(
-    t: &[u32],
-    h: Layout,
+    t: &Table,
     e: u32,
     number: u64,
     s: &mut [u32],
@@ -113,11 +110,11 @@ fn take_one(
     out: &mut [u8],
     at: usize,
 ) -> Cost
-    requires { LaidOut t.now h × Ready t.now s.old trace.old × (at + most_line ≤ length out.old) }
-    ensures { TookOne t.now e number s.old trace.old out.old at result
+    requires { Ready t.now.words s.old trace.old × (at + most_line ≤ length out.old) }
+    ensures { TookOne t.now.words e number s.old trace.old out.old at result
         s.new trace.new out.new }
 {
-    let answer = events::handle(t, h, e, s, trace, &t[t.len()..]);
+    let answer = session::take(t, e, s, trace);
     let words = events::count(answer) as u64;
     let visits = events::visits(answer) as u64;
     let next = lay_event(out, at, number, events::number(answer), words, visits);
@@ -159,20 +156,25 @@ pub fn take_events(
             most,
         };
     }
-    let h = read_accepted(t);
-    let total = past(word_count(bytes), from);
+    let table = Table::accepted(t);
+    let total = word_count(bytes).saturating_sub(from);
     let mut so_far = most;
-    let mut i = 0;
     let mut at = 0;
-    while i < total && MOST_LINE <= past(out.len(), at) {
+    for i in 0..total {
+        if out.len().saturating_sub(at) < MOST_LINE {
+            return Taken {
+                events: i,
+                bytes: at,
+                most: so_far,
+            };
+        }
         let e = read_word(bytes, from + i);
-        let cost = take_one(t, h, e, so_far.events, s, trace, out, at);
+        let cost = take_one(&table, e, so_far.events, s, trace, out, at);
         so_far = counted(so_far, cost.trace, cost.visits);
         at = cost.next;
-        i += 1;
     }
     Taken {
-        events: i,
+        events: total,
         bytes: at,
         most: so_far,
     }
@@ -212,16 +214,15 @@ fn lay_largest(
 pub fn lay_most(out: &mut [u8], t: &[u32], most: Most) -> usize
     ensures { LaysMost t.now most out.old result out.new }
 {
-    let opening = session::open(t);
-    let h = read_layout(t);
     if out.len() < MOST_END {
         return 0;
     }
-    if opening.reason != 0 {
+    let Ok(opening) = session::open(t) else {
         return 0;
-    }
+    };
     let b = opening.trace as u64;
-    let most_visits = 127 * (h.rules as u64 + b);
+    let rules = Table::accepted(t).rules();
+    let most_visits = 127 * (rules as u64 + b);
     let traced = most.trace;
     let visited = most.visits;
     let second = lay_largest(out, 0, b"most trace ", most.events, traced, b);

@@ -17,6 +17,7 @@ use crate::{bits, word};
 use std::marker::Model;
 use std::ops::Range;
 
+#[derive(Drop)]
 pub struct Table<'a> {
     words: &'a [u32],
     layout: Layout,
@@ -86,6 +87,12 @@ impl<'a> Table<'a> {
         ensures { result.now ≡ self.now.words }
     {
         self.words
+    }
+
+    pub fn edition(&self) -> u32
+        ensures { Field (rulebook.edition self.now.words) 256 result }
+    {
+        bits::<0, 8>(word(self.words, 0))
     }
 
     pub fn is_second_edition(&self) -> bool

@@ -1,4 +1,4 @@
--- The loop's invariant: the lists passed that are at most d + 1 deep have their costs.
+-- The lists passed that are at most d + 1 deep have their costs.
 use Rattle.cost.proofs.Capped.{Priced}
 use Rattle.cost.proofs.cost_level.Given as goal
 

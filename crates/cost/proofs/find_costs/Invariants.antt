@@ -1,4 +1,4 @@
--- The loop's invariant: the lists that are at most d deep have their costs.
+-- The lists that are at most d deep have their costs.
 use Rattle.cost.specs.Costs.{Costs}
 use Rattle.cost.proofs.find_costs.Given as goal
 

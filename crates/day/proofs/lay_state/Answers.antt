@@ -46,6 +46,3 @@ returns c =
     let l = c.loop-i in
     let long = (c.if-s-words.false) in
     end _ _ _ _ _ _ l.invariant.1 (omega arith) (omega arith) (long ∙ c.length-words.ensures) (omega arith) c.if-out-lt-MOST_STATE.false
-
-pub shape_of-out : goal.shape_of-out
-shape_of-out c = c.loop-i.invariant.1.long

@@ -36,6 +36,3 @@ returns c =
     let l = c.loop-i in
     let all : l.i ≡ c.args.count = omega arith in
     rw all at l.invariant.2
-
-pub shape_of-out : goal.shape_of-out
-shape_of-out c = c.loop-i.invariant.1

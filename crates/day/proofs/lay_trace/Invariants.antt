@@ -11,6 +11,3 @@ use Rattle.day.proofs.lay_trace.Given as goal
 
 abbrev pub invariant-loop-i : goal.invariant-loop-i
 invariant-loop-i l = (l.i ≤ l.count) × (length l.out ≡ length l.initial.out) × PutAt (trace_lines (take l.i l.trace)) l.initial.out 0 l.at l.out
-
-abbrev pub decreases-loop-i : goal.decreases-loop-i
-decreases-loop-i l = l.count - l.i

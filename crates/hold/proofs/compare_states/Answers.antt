@@ -1,14 +1,13 @@
 -- `hold::compare_states` meets its contract. Assumes nothing.
-use borrow.Author.Rules.{rules}
-use native.Mathlib.Omega.{arith}
+use Rattle.std.proofs.Common.{arith, length}
+use Rattle.text.proofs.Digits.{below}
 use Rattle.hold.proofs.Verdicts.{states-ours, states-theirs, states-same}
 use Rattle.hold.proofs.compare_states.Goals as goal
 
-pub returns-then-k-ours : goal.returns-then-k-ours
-returns-then-k-ours c = states-ours _ _ _ c.parting-k.ensures (omega arith)
-
-pub returns-then-k-theirs : goal.returns-then-k-theirs
-returns-then-k-theirs c = states-theirs _ _ _ c.parting-k.ensures (omega arith) (omega arith)
+pub returns-then-k-max : goal.returns-then-k-max
+returns-then-k-max c =
+    let e = c.parting-k.ensures in
+    below c.parting-k.result (length c.args.ours.now) (λ h. states-ours _ _ _ e h) (λ past. states-theirs _ _ _ e past (omega arith))
 
 pub returns : goal.returns
 returns c = states-same _ _ _ c.parting-k.ensures (omega arith) (omega arith)

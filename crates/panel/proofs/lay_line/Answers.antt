@@ -1,7 +1,6 @@
 -- `panel::lay_line` meets its contract: the name, then the word. Assumes nothing.
-use borrow.Author.Rules.{rules}
-use native.Mathlib.Omega.{arith}
-use mathlib.Core.List.{◌++◌}
+use Rattle.std.proofs.Common.{arith, ◌++◌}
+use Rattle.panel.specs.Inside.{part_number}
 use Rattle.panel.specs.Printed.{label, numeral, line}
 use Rattle.text.specs.Lines.{hex_line}
 use Rattle.text.proofs.Digits.{length-hex}
@@ -10,18 +9,12 @@ use Rattle.panel.proofs.Parts.{length-line}
 use Rattle.panel.proofs.lay_line.Goals as goal
 
 pub lay_name-next-requires : goal.lay_name-next-requires
-lay_name-next-requires c =
-    let a = c.args in
-    let asked = c.requires in
-    let long = length-line a.part a.i a.w in
-    omega arith
+lay_name-next-requires c = let a = c.args in omega (arith, c.requires, length-line (part_number a.part) a.i a.w)
 
 pub returns : goal.returns
 unfolding line
 returns c =
     let a = c.args in
-    let asked = c.requires in
-    let long = length-line a.part a.i a.w in
-    let word = length-hex a.w in
-    put_then {xs = label a.part ++ numeral a.part a.i} {line = hex_line a.w} (omega arith) c.lay_name-next.ensures
-    c.put_hex_line.ensures
+    let part = part_number a.part in
+    put_then {xs = label part ++ numeral part a.i} {line = hex_line a.w}
+    (omega (arith, c.requires, length-line part a.i a.w, length-hex a.w)) c.lay_name-next.ensures c.put_hex_line.ensures

@@ -1,43 +1,35 @@
 -- `panel::lay_name` meets its contract, part by part. Assumes nothing.
-use borrow.Author.Rules.{rules}
-use native.Mathlib.Omega.{arith}
-use mathlib.Core.List.{[], ◌∷◌}
+use Rattle.std.proofs.Common.{arith, [], ◌∷◌}
 use Rattle.panel.specs.Printed.{by_part, label, numeral}
 use Rattle.text.proofs.Puts.{one-put}
-use Rattle.panel.proofs.Parts.{trace-name}
 use Rattle.panel.proofs.lay_name.Goals as goal
 
 pub lay_numbered-requires : goal.lay_numbered-requires
 unfolding label numeral by_part
-lay_numbered-requires c = let asked = rw c.if-part-eq-PORTS.true at c.requires in omega arith
+lay_numbered-requires c = let asked = rw c.in-Ports.is at c.requires in omega arith
 
-pub returns-then-part-eq-PORTS : goal.returns-then-part-eq-PORTS
+pub lay_numbered-requires-in-Networks : goal.lay_numbered-requires-in-Networks
 unfolding label numeral by_part
-returns-then-part-eq-PORTS c =
-    rw c.if-part-eq-PORTS.true c.lay_numbered.ensures
+lay_numbered-requires-in-Networks c = let asked = rw c.in-Networks.is at c.requires in omega arith
 
-pub lay_numbered-requires-then-part-eq-NETWORKS : goal.lay_numbered-requires-then-part-eq-NETWORKS
+pub lay_numbered-requires-in-Sources : goal.lay_numbered-requires-in-Sources
 unfolding label numeral by_part
-lay_numbered-requires-then-part-eq-NETWORKS c = let asked = rw c.if-part-eq-NETWORKS.true at c.requires in omega arith
+lay_numbered-requires-in-Sources c = let asked = rw c.in-Sources.is at c.requires in omega arith
 
-pub returns-then-part-eq-NETWORKS : goal.returns-then-part-eq-NETWORKS
+pub returns-in-Ports : goal.returns-in-Ports
 unfolding label numeral by_part
-returns-then-part-eq-NETWORKS c =
-    rw c.if-part-eq-NETWORKS.true c.lay_numbered-then-part-eq-NETWORKS.ensures
+returns-in-Ports c = rw c.in-Ports.is c.lay_numbered.ensures
 
-pub lay_numbered-requires-then-part-eq-SOURCES : goal.lay_numbered-requires-then-part-eq-SOURCES
+pub returns-in-Networks : goal.returns-in-Networks
 unfolding label numeral by_part
-lay_numbered-requires-then-part-eq-SOURCES c =
-    let asked = rw c.if-part-eq-SOURCES.true at c.requires in
-    omega arith
+returns-in-Networks c = rw c.in-Networks.is c.lay_numbered-in-Networks.ensures
 
-pub returns-then-part-eq-SOURCES : goal.returns-then-part-eq-SOURCES
+pub returns-in-Sources : goal.returns-in-Sources
 unfolding label numeral by_part
-returns-then-part-eq-SOURCES c =
-    rw c.if-part-eq-SOURCES.true c.lay_numbered-then-part-eq-SOURCES.ensures
+returns-in-Sources c = rw c.in-Sources.is c.lay_numbered-in-Sources.ensures
 
-pub returns : goal.returns
-returns c =
-    let name = trace-name c.args.part c.args.i c.if-part-eq-PORTS.false c.if-part-eq-NETWORKS.false c.if-part-eq-SOURCES.false in
-    let asked = rw name at c.requires in
-    rw name (one-put {line = 116 ∷ 114 ∷ 97 ∷ 99 ∷ 101 ∷ 32 ∷ []} asked c.put_label.ensures)
+pub returns-in-Trace : goal.returns-in-Trace
+unfolding label numeral by_part
+returns-in-Trace c =
+    let asked = rw c.in-Trace.is at c.requires in
+    rw c.in-Trace.is (one-put {line = 116 ∷ 114 ∷ 97 ∷ 99 ∷ 101 ∷ 32 ∷ []} asked c.put_label.ensures)

@@ -1,5 +1,4 @@
 -- `panel::lay_numbered` meets its contract: the label, then the number. Assumes nothing.
-use borrow.Author.Rules.{rules}
 use native.Mathlib.Omega.{arith}
 use mathlib.Core.List.{[], ◌∷◌, ◌++◌}
 use lib.ListN.{length-append}

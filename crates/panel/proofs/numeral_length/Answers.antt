@@ -1,11 +1,5 @@
 -- `panel::numeral_length` meets its contract: as many digits as the number has places, and one byte more. Assumes nothing.
-use borrow.Author.Rules.{rules}
 use native.Mathlib.Omega.{arith}
-use mathlib.Core.Path.{◌≡◌}
-use lib.ListN.{length, length-append}
-use Prim.Native.Nat.{◌+◌}
-use mathlib.Core.List.{[], ◌∷◌, ◌++◌}
-use Rattle.text.specs.Lines.{decimal, places}
 use Rattle.text.proofs.Decimal.{places-within}
 use Rattle.panel.proofs.Parts.{length-numeral}
 use Rattle.panel.proofs.numeral_length.Goals as goal

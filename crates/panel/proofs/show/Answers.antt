@@ -1,37 +1,22 @@
 -- `panel::show` meets its contract: what refuses it, one after the other, or the lines. Assumes nothing.
-use borrow.Author.Rules.{rules}
-use native.Mathlib.Omega.{arith}
-use mathlib.Core.Path.{sym, ap, ◌∙◌}
-use Rattle.manager.specs.Answers.{state_number}
-use Rattle.panel.specs.Promises.{number_of, bytes_of}
-use Rattle.panel.proofs.Along.{left-of, short-of}
-use Rattle.panel.proofs.Answers.{operator-of, other-of, not-fitting, not-operator, unfit, no_room, done}
+use Rattle.std.proofs.Common.{sym, arith}
+use Rattle.std.proofs.lemmas.Result.{err_from_is_err_and}
+use Rattle.panel.proofs.Answers.{not-operator, unfit, no_room, done}
 use Rattle.panel.proofs.show.Goals as goal
 
+pub returns-then-not-is_operator : goal.returns-then-not-is_operator
+returns-then-not-is_operator c = not-operator _ _ _ _ _ (sym c.if-not-is_operator.ensures)
+
+pub returns-in_err-check_fit : goal.returns-in_err-check_fit
+returns-in_err-check_fit c =
+    let e = c.in_err-check_fit.ensures in
+    let p = err_from_is_err_and c.from_residual.result c.from_residual.ensures.1 in
+    rw (p.1, p.2) (unfit _ _ _ _ _ (sym c.if-not-is_operator.ensures) _ e.0 e.1)
+
 pub returns-in_default : goal.returns-in_default
-returns-in_default c =
-    not-operator _ _ _ _ _ (other-of c.args.o c.in_default.is c.judge-who.ensures)
-
-pub returns-in_default-fit : goal.returns-in_default-fit
-returns-in_default-fit c =
-    let is = operator-of c.args.o c.in-Operator.is c.judge-who.ensures in
-    rw c.not_fit.ensures.1
-    (unfit _ _ _ _ _ is _ (c.not_fit.ensures.0 ∙ c.check_state-fit.ensures)
-    (λ z. not-fitting c.check_state-fit.result c.in_default-fit.not-Fits (sym c.not_fit.ensures.0 ∙ z)))
-
-pub returns-in_default-room : goal.returns-in_default-room
-returns-in_default-room c =
-    let is = operator-of c.args.o c.in-Operator.is c.judge-who.ensures in
-    no_room _ _ _ _ _ is (sym c.check_state-fit.ensures ∙ ap state_number c.in-Fits.is)
-    (short-of _ _ c.in_default-room.is c.panel_room-room.ensures)
-
-pub lay_panel-requires : goal.lay_panel-requires
-lay_panel-requires c =
-    let fits = left-of _ _ c.in-Left.is c.panel_room-room.ensures in
-    (c.read_counts-c.ensures, omega arith)
+returns-in_default c = no_room _ _ _ _ _ (sym c.if-not-is_operator.ensures) c.in_ok-check_fit.ensures c.in_default.ensures
 
 pub returns : goal.returns
 returns c =
-    let is = operator-of c.args.o c.in-Operator.is c.judge-who.ensures in
-    let enough = left-of _ _ c.in-Left.is c.panel_room-room.ensures in
-    done _ _ _ _ _ is (sym c.check_state-fit.ensures ∙ ap state_number c.in-Fits.is) (omega arith) c.lay_panel.ensures
+    let left = c.in-Some.ensures in
+    done _ _ _ _ _ (sym c.if-not-is_operator.ensures) c.in_ok-check_fit.ensures (omega arith) c.lay.ensures

@@ -1,20 +1,19 @@
 -- `recording::hex_value` meets its contract, by its tests. Assumes nothing.
-use mathlib.Core.Path.{sym}
-use borrow.Author.Rules.{rules}
+use Rattle.std.proofs.Common.{◌∙◌, arith, sym}
 use Rattle.recording.proofs.Spelling.{value_low, value-digit, value-between, value-letter, value-high}
 use Rattle.recording.proofs.hex_value.Goals as goal
 
-pub returns-then-b-lt48 : goal.returns-then-b-lt48
-returns-then-b-lt48 c = sym (value_low _ c.if-b-lt48.true)
+pub returns-in-48-to-57 : goal.returns-in-48-to-57
+returns-in-48-to-57 c = (c.from.ensures ∙ sym (value-digit c.args.b (omega arith) (omega arith)), omega arith)
 
-pub returns-then-b-le57 : goal.returns-then-b-le57
-returns-then-b-le57 c = sym (value-digit _ c.if-b-lt48.false c.if-b-le57.true)
+pub returns-in-65-to-70 : goal.returns-in-65-to-70
+returns-in-65-to-70 c = omega (arith, value-letter c.args.b (omega arith) (omega arith))
 
-pub returns-then-b-lt65 : goal.returns-then-b-lt65
-returns-then-b-lt65 c = sym (value-between _ c.if-b-le57.false c.if-b-lt65.true)
+pub returns-in_default : goal.returns-in_default
+returns-in_default c = value_low c.args.b (omega arith)
 
-pub returns-then-b-le70 : goal.returns-then-b-le70
-returns-then-b-le70 c = sym (value-letter _ c.if-b-lt65.false c.if-b-le70.true)
+pub returns-in_default-2 : goal.returns-in_default-2
+returns-in_default-2 c = value-between c.args.b (omega arith) (omega arith)
 
-pub returns : goal.returns
-returns c = sym (value-high _ c.if-b-le70.false)
+pub returns-in_default-3 : goal.returns-in_default-3
+returns-in_default-3 c = value-high c.args.b (omega arith)

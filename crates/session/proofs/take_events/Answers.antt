@@ -2,7 +2,7 @@
 -- left. Assumes nothing.
 use borrow.Author.Rules.{rules}
 use Prim.Native.Nat.{◌-◌}
-use mathlib.Core.Path.{refl, sym, ◌∙◌}
+use mathlib.Core.Path.{◌≡◌, refl, sym, ◌∙◌}
 use native.Mathlib.Omega.{arith}
 use lib.ListN.{length}
 use borrow.Author.Tests.{not-true, not-false, leb-true, leb-false}
@@ -23,8 +23,8 @@ loop-i-init c = begin _ _ _ _ _ (ready-from _ _ _ (sym c.ready.ensures ∙ not-f
 pub take_one-at-requires : goal.take_one-at-requires
 take_one-at-requires c =
     let l = c.loop-i in
-    let free = leb-true _ c.past.result c.if-past-ge-MOST.true-raw in
-    (c.read_accepted-h.ensures.laid, l.invariant.ready, omega (arith, c.past.ensures))
+    let free = c.if-saturating_sub-lt-MOST.false in
+    (c.read_accepted-h.ensures.laid, l.invariant.ready, omega (arith, c.saturating_sub.ensures))
 
 pub loop-i-preserved : goal.loop-i-preserved
 loop-i-preserved c =
@@ -32,41 +32,25 @@ loop-i-preserved c =
     let l = c.loop-i in
     let ok = sym c.ready.ensures ∙ not-false _ c.if-not-ready.false-raw in
     let long = offered-long a.t.now a.s.now a.trace.now a.bytes.now a.from ok in
-    let free = leb-true _ c.past.result c.if-past-ge-MOST.true-raw in
-    next _ _ _ _ _ _ _ _ _ _ l.invariant _ _ _ _ _ (omega (arith, c.past-total.ensures, c.word_count.ensures))
-    (omega (arith, c.past.ensures, l.invariant.out_long))
+    let free = c.if-saturating_sub-lt-MOST.false in
+    next _ _ _ _ _ _ _ _ _ _ l.invariant _ _ _ _ _ (omega (arith, c.saturating_sub-total.ensures, c.word_count.ensures))
+    (omega (arith, c.saturating_sub.ensures, l.invariant.out_long))
     (offered-at a.t.now a.s.now a.trace.now a.bytes.now a.from ok l.i _
     c.read_word-e.ensures)
     c.take_one-at.ensures
 
-pub shape_of-s-else-past-ge-MOST : goal.shape_of-s-else-past-ge-MOST
-shape_of-s-else-past-ge-MOST c = c.loop-i.invariant.state_long
-
-pub shape_of-trace-else-past-ge-MOST : goal.shape_of-trace-else-past-ge-MOST
-shape_of-trace-else-past-ge-MOST c = c.loop-i.invariant.trace_long
-
-pub shape_of-out-else-past-ge-MOST : goal.shape_of-out-else-past-ge-MOST
-shape_of-out-else-past-ge-MOST c = c.loop-i.invariant.out_long
-
-pub returns-else-past-ge-MOST : goal.returns-else-past-ge-MOST
-returns-else-past-ge-MOST c =
+pub returns-then-saturating_sub-lt-MOST : goal.returns-then-saturating_sub-lt-MOST
+returns-then-saturating_sub-lt-MOST c =
     let l = c.loop-i in
-    let full = leb-false _ c.past.result c.if-past-ge-MOST.false-raw in
-    end _ _ _ _ _ _ _ _ _ _ l.invariant _ refl refl (λ h. omega (arith, c.past.ensures, l.invariant.out_long))
+    let full = c.if-saturating_sub-lt-MOST.true in
+    end _ _ _ _ _ _ _ _ _ _ l.invariant _ refl refl (λ h. omega (arith, c.saturating_sub.ensures, l.invariant.out_long))
 
-pub shape_of-s-after-loop-i : goal.shape_of-s-after-loop-i
-shape_of-s-after-loop-i c = c.loop-i.invariant.state_long
-
-pub shape_of-trace-after-loop-i : goal.shape_of-trace-after-loop-i
-shape_of-trace-after-loop-i c = c.loop-i.invariant.trace_long
-
-pub shape_of-out-after-loop-i : goal.shape_of-out-after-loop-i
-shape_of-out-after-loop-i c = c.loop-i.invariant.out_long
-
-pub returns-after-loop-i : goal.returns-after-loop-i
-returns-after-loop-i c =
+pub returns : goal.returns
+returns c =
     let a = c.args in
     let ok = sym c.ready.ensures ∙ not-false _ c.if-not-ready.false-raw in
     let long = offered-long a.t.now a.s.now a.trace.now a.bytes.now a.from ok in
-    end _ _ _ _ _ _ _ _ _ _ c.loop-i.invariant _ refl refl
-    (λ h. absurd (omega (arith, c.past-total.ensures, c.word_count.ensures)))
+    let all : c.saturating_sub-total.result ≡ c.loop-i.i = omega arith in
+    rw all
+    (end _ _ _ _ _ _ _ _ _ _ c.loop-i.invariant _ refl refl
+    (λ h. absurd (omega (arith, c.saturating_sub-total.ensures, c.word_count.ensures))))

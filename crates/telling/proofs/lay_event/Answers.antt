@@ -1,9 +1,4 @@
 -- `telling::lay_event` meets its contract: the label, the number, the word. Assumes nothing.
-use borrow.Author.Rules.{rules}
-use native.Mathlib.Omega.{arith}
-use mathlib.Core.List.{[], ◌∷◌, ◌++◌}
-use Rattle.text.specs.Lines.{decimal, hex_line}
-use Rattle.text.proofs.Puts.{one-put, put_then}
 use Rattle.telling.proofs.Lines.{event-laid}
 use Rattle.telling.proofs.lay_event.Goals as goal
 

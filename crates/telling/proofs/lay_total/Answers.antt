@@ -1,5 +1,4 @@
 -- `telling::lay_total` meets its contract. Assumes nothing.
-use borrow.Author.Rules.{rules}
 use Prim.Native.Nat.{◌^◌, ◌<◌}
 use native.Mathlib.Omega.{arith}
 use Rattle.session.proofs.Lines.{unlaid}

@@ -1,5 +1,4 @@
 -- `telling::lay_word` meets its contract: the label, then the word. Assumes nothing.
-use borrow.Author.Rules.{rules}
 use native.Mathlib.Omega.{arith}
 use lib.ListN.{length-append}
 use Rattle.text.specs.Lines.{hex_line}

@@ -1,11 +1,7 @@
 -- `telling::lay_words` meets its contract. The loop's invariant: `LaidOf`. The measure is how many words are left. Assumes nothing.
-use Prim.Native.Nat.{◌-◌}
 use mathlib.Core.Path.{refl}
 use native.Mathlib.Omega.{arith}
-use borrow.Author.Rules.{rules}
-use lib.ListN.{length, drop}
-use Rattle.telling.specs.Told.{labelled}
-use Rattle.telling.proofs.Lines.{LaidOf, laid-room, laid_next, laid_end}
+use Rattle.telling.proofs.Lines.{laid-room, laid_next, laid_end}
 use Rattle.telling.proofs.lay_words.Goals as goal
 
 pub lay_word-next-requires : goal.lay_word-next-requires
@@ -21,6 +17,3 @@ returns c = laid_end _ _ _ _ _ c.requires _ _ _ c.loop-i.invariant (omega arith)
 
 pub loop-i-init : goal.loop-i-init
 loop-i-init c = record { place = refl; bytes = refl; long = refl }
-
-pub shape_of-out : goal.shape_of-out
-shape_of-out c = c.loop-i.invariant.long

@@ -15,6 +15,3 @@ use Rattle.visits.proofs.take_events.Given as goal
 abbrev pub invariant-loop-i : goal.invariant-loop-i
 invariant-loop-i l =
     Along l.t l.initial.s l.initial.trace (offered l.t l.initial.s (length l.initial.trace) l.bytes l.from) l.initial.so_far l.initial.out l.i l.at l.so_far l.s l.trace l.out
-
-abbrev pub decreases-loop-i : goal.decreases-loop-i
-decreases-loop-i l = l.total - l.i

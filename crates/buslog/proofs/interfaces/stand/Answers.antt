@@ -1,33 +1,20 @@
--- `buslog::interfaces::stand` meets its contract. The loop's invariant: `StandTo`. The measure is how many names are left. Assumes nothing.
-use native.Mathlib.Omega.{arith}
-use borrow.Author.Tests.{not-true, not-false}
-use Rattle.buslog.proofs.Called.{stand-begin, stand-end, misspelt, stands-again, stand-more}
+-- `buslog::interfaces::stand` meets its contract. The loop's invariant: `StandTo`. Assumes nothing.
+use mathlib.Core.Path.{sym, ◌∙◌}
+use Rattle.buslog.proofs.Called.{stand-end, misspelt, stands-again, stand-more}
 use Rattle.buslog.proofs.interfaces.stand.Goals as goal
 
-pub returns-then-not-listed : goal.returns-then-not-listed
-returns-then-not-listed c =
-    misspelt _ _ _ _ c.loop-left.invariant (omega arith) _ c.read_piece-listed.ensures (not-true _ c.if-not-listed.true)
+pub returns-in_default : goal.returns-in_default
+returns-in_default c = misspelt _ _ _ _ c.loop-left.invariant c.loop-left-test.true c.in_default.ensures
 
-pub number_of-requires : goal.number_of-requires
-number_of-requires c =
-    let found = c.read_piece-listed.ensures in
-    record { listed = found.inside; order = found.from; inside = found.to }
-
-pub returns-then-number_of-left : goal.returns-then-number_of-left
-returns-then-number_of-left c =
-    stands-again _ _ _ _ c.loop-left.invariant (omega arith) _ c.read_piece-listed.ensures _ c.number_of.ensures (not-false _ c.if-not-listed.false)
-    c.if-number_of-left.true
+pub returns-then-is_some : goal.returns-then-is_some
+returns-then-is_some c =
+    stands-again _ _ _ _ c.loop-left.invariant c.loop-left-test.true _ c.in-Some.ensures c.number_of.result c.number_of.ensures
+    (sym c.is_some.ensures ∙ c.if-is_some.true)
 
 pub loop-left-preserved : goal.loop-left-preserved
 loop-left-preserved c =
-    stand-more _ _ _ _ c.loop-left.invariant (omega arith) _ c.read_piece-listed.ensures _ c.number_of.ensures (not-false _ c.if-not-listed.false)
-    c.if-number_of-left.false
-
-pub loop-left-init : goal.loop-left-init
-loop-left-init c = stand-begin _ _
-
-pub read_piece-listed-requires : goal.read_piece-listed-requires
-read_piece-listed-requires c = c.loop-left.invariant.inside
+    stand-more _ _ _ _ c.loop-left.invariant c.loop-left-test.true _ c.in-Some.ensures c.number_of.result c.number_of.ensures
+    (sym c.is_some.ensures ∙ c.if-is_some.false)
 
 pub returns : goal.returns
-returns c = stand-end _ _ _ _ c.loop-left.invariant (omega arith)
+returns c = stand-end _ _ _ _ c.loop-left.invariant c.loop-left-test.false

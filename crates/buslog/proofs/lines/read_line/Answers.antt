@@ -1,7 +1,17 @@
 -- `buslog::lines::read_line` meets its contract. Assumes nothing.
-use Rattle.buslog.proofs.Spelling.{line-read-as}
+use mathlib.Core.Path.{refl}
+use Rattle.buslog.proofs.Spelling.{no-stamp, no-name, no-frame, says}
 use Rattle.buslog.proofs.lines.read_line.Goals as goal
 
+pub returns-in_err-stamp : goal.returns-in_err-stamp
+returns-in_err-stamp c = rw c.from_residual.ensures (no-stamp c.args.text.now c.args.at c.in_err-stamp.ensures)
+
+pub returns-in_err-space : goal.returns-in_err-space
+returns-in_err-space c = rw c.from_residual-in_err-space.ensures (no-name _ _ _ c.in_ok-stamp.ensures c.in_err-space.ensures)
+
+pub returns-in_err-frame : goal.returns-in_err-frame
+returns-in_err-frame c =
+    rw c.from_residual-in_err-frame.ensures (no-frame _ _ _ c.in_ok-stamp.ensures _ c.in_ok-space.ensures c.in_err-frame.ensures)
+
 pub returns : goal.returns
-returns c =
-    line-read-as _ _ _ _ _ c.read_stamp-stamp.ensures c.read_piece-called.ensures c.read_frame-frame.ensures
+returns c = says _ _ _ c.in_ok-stamp.ensures _ c.in_ok-space.ensures _ c.in_ok-frame.ensures _ refl

@@ -1,8 +1,13 @@
 -- `buslog::pieces::read_piece` meets its contract. Assumes nothing.
-use Rattle.buslog.proofs.Spelling.{finds}
+use Rattle.buslog.specs.Pieces.{piece_of}
+use Rattle.buslog.proofs.Spelling.{a-piece, no-piece, ends-some}
 use Rattle.buslog.proofs.pieces.read_piece.Goals as goal
 
-pub returns : goal.returns
-returns c =
-    finds _ _ _ _ _ _ _ _ c.requires c.bytes_end-end.ensures c.may_have-sized.ensures c.byte.ensures c.ending.ensures
-    c.step_over-next.ensures
+pub returns-then-may_have-byte : goal.returns-then-may_have-byte
+returns-then-may_have-byte c =
+    let ends = c.bytes_end-end.ensures in
+    a-piece (piece_of c.args.p) _ _ _ ends.0 _ _ _ c.may_have.ensures c.byte.ensures c.ending.ensures c.if-may_have-byte.true (ends-some c.args.p) ends.1
+
+pub returns-else-may_have-byte : goal.returns-else-may_have-byte
+returns-else-may_have-byte c =
+    no-piece (piece_of c.args.p) _ _ _ c.bytes_end-end.ensures.0 _ _ _ c.may_have.ensures c.byte.ensures c.ending.ensures c.if-may_have-byte.false

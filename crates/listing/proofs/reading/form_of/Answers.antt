@@ -1,20 +1,14 @@
 -- `listing::reading::form_of` meets its contract: the kind decides. Assumes nothing.
-use native.Mathlib.Omega.{arith}
-use Rattle.listing.proofs.Cases.{number_of, none_of}
-use Rattle.listing.proofs.ByKind.{other-form, no_kind, by-kind}
+use mathlib.Core.Path.{refl, ap}
+use Rattle.listing.specs.Forms.{form_number}
+use Rattle.listing.proofs.ByKind.{no_kind, by-kind}
 use Rattle.listing.proofs.reading.form_of.Goals as goal
 
-pub read_number-number-requires : goal.read_number-number-requires
-read_number-number-requires c =
-    record { inside = c.requires; some = omega arith; few = omega arith; ends = omega arith; ending = omega arith }
-
-pub returns-in_default : goal.returns-in_default
-returns-in_default c =
-    no_kind _ _ _ c.if-f-ne-CONDITION.false (none_of _ _ _ _ c.in_default.is c.read_number-number.ensures)
+pub returns-in_default-read_number : goal.returns-in_default-read_number
+returns-in_default-read_number c =
+    rw c.in-Condition.is (no_kind c.args.text.now c.args.at 7 refl c.in_default-read_number.ensures)
 
 pub returns : goal.returns
 returns c =
-    by-kind _ _ _ c.if-f-ne-CONDITION.false _ _ _ (number_of _ _ _ _ c.in-Value.is c.read_number-number.ensures) c.of_kind.ensures
-
-pub returns-then-f-ne-CONDITION : goal.returns-then-f-ne-CONDITION
-returns-then-f-ne-CONDITION c = other-form _ _ _ c.if-f-ne-CONDITION.true
+    let is = ap form_number c.in-Condition.is in
+    by-kind c.args.text.now c.args.at (form_number c.args.f) is _ _ _ c.in-Some.ensures (rw is at c.of_kind.ensures)

@@ -1,10 +1,7 @@
--- `listing::writing::lay_fields` meets its contract. The loop's invariant: `LaidOf`. The measure is how many fields are left. Assumes nothing.
-use Prim.Native.Nat.{◌-◌, ◌≤◌}
+-- `listing::writing::lay_fields` meets its contract. The loop's invariant: `LaidOf`. Assumes nothing.
+use Rattle.listing.specs.Forms.{form_number}
 use Rattle.listing.proofs.Laying.{LaidOf}
 use Rattle.listing.proofs.writing.lay_fields.Given as goal
 
 abbrev pub invariant-loop-k : goal.invariant-loop-k
-invariant-loop-k l = (l.k ≤ l.n) × LaidOf l.f l.w l.initial.out l.at l.next l.out l.k l.unit
-
-abbrev pub decreases-loop-k : goal.decreases-loop-k
-decreases-loop-k l = l.n - l.k
+invariant-loop-k l = LaidOf (form_number l.fn.f) l.w l.initial.out l.at l.next l.out l.k l.unit

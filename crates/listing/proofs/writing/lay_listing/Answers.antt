@@ -1,22 +1,19 @@
--- `listing::writing::lay_listing` meets its contract. The loop's invariant: `LaidTo`. The measure is how many words are left. Assumes nothing.
+-- `listing::writing::lay_listing` meets its contract. The loop's invariant: `LaidTo`. Assumes nothing.
 use native.Mathlib.Omega.{arith}
 use Rattle.listing.proofs.Lists.{laid-begin, laid-room, laid_next, laid_end}
 use Rattle.listing.proofs.writing.lay_listing.Goals as goal
 
+pub loop-i-init : goal.loop-i-init
+loop-i-init c = laid-begin _ _
+
 pub lay_line-next-requires : goal.lay_line-next-requires
 lay_line-next-requires c =
-    let asked = c.requires in
-    (asked.0, omega arith, laid-room _ _ asked.1 _ _ _ c.loop-i.invariant.1 (omega arith))
+    (omega arith, laid-room _ _ c.requires.1 _ _ _ c.loop-i.invariant (omega arith))
 
 pub loop-i-preserved : goal.loop-i-preserved
 loop-i-preserved c =
-    (omega arith, laid_next _ _ c.requires.1 _ _ _ c.loop-i.invariant.1 (omega arith) _ _ c.lay_line-next.ensures)
+    laid_next _ _ c.requires.1 _ _ _ c.loop-i.invariant (omega arith) _ _ c.lay_line-next.ensures
 
 pub returns : goal.returns
-returns c = laid_end _ _ c.requires.1 _ _ _ c.loop-i.invariant.1 (omega arith)
-
-pub loop-i-init : goal.loop-i-init
-loop-i-init c = (omega arith, laid-begin _ _)
-
-pub shape_of-out : goal.shape_of-out
-shape_of-out c = c.loop-i.invariant.1.long
+returns c =
+    laid_end _ _ c.requires.1 _ _ _ c.loop-i.invariant (omega arith)

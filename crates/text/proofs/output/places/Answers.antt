@@ -1,14 +1,12 @@
--- `text::output::places` meets its contract. The loop's invariant: the digits counted and those of the rest are one more than those of n.
--- The measure is the rest. Assumes nothing.
-use Prim.Native.Nat.{◌+◌, ◌≤◌}
-use mathlib.Core.Path.{◌≡◌}
-use native.Mathlib.Omega.{arith}
-use Rattle.text.specs.Lines.{places}
-use Rattle.text.proofs.Decimal.{places-one, places-more}
+-- `text::output::places` meets its contract: the largest power of ten within a number says how many digits it has. Assumes nothing.
+use Rattle.std.proofs.Common.{sym, arith}
+use Rattle.text.proofs.Decimal.{places-one, places-between}
 use Rattle.text.proofs.output.places.Goals as goal
 
-pub loop-rest-preserved : goal.loop-rest-preserved
-loop-rest-preserved c = omega (arith, places-more c.loop-rest.rest c.loop-rest-test.true)
+pub returns-in-Some : goal.returns-in-Some
+returns-in-Some c =
+    let e = c.in-Some.ensures in
+    places-between c.in-Some.tens c.args.n e.power_le e.next_power_gt
 
-pub returns : goal.returns
-returns c = omega (arith, places-one c.loop-rest.rest c.loop-rest-test.false)
+pub returns-in-None : goal.returns-in-None
+returns-in-None c = sym (places-one c.args.n (omega (arith, c.in-None.ensures.none)))

@@ -1,6 +1,5 @@
 -- `text::output::put_decimal` meets its contract: the places are counted first. Assumes nothing.
 use Rattle.text.specs.Lines.{decimal}
-use borrow.Author.Rules.{rules}
 use Rattle.text.proofs.output.put_decimal.Goals as goal
 
 pub returns : goal.returns
