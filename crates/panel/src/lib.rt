@@ -1,5 +1,6 @@
 // A panel for one operator: a line for each of its ports, networks, sources and trace words, laid into lent bytes. Of the manager it
-// knows the answer of the state check and nothing else: what it must know of the table's layout it reads from the words by itself.
+// knows the answer of the state check and nothing else: what it must know of the table's layout it reads from the words by itself, and not by
+// `words`, on which it may not stand (docs/PROMISES.md, Q-13).
 #![tactic(auto)]
 
 ghost use Rattle.std.specs.Prelude.{◌≡◌, [], ◌∷◌, ◌++◌, ◌+◌, ◌<◌, ◌≤◌, eqb, length};
@@ -11,7 +12,7 @@ ghost use Rattle.panel.specs.Printed.{numeral, line, line_at, part_lines, panel}
 ghost use Rattle.panel.specs.Promises.{number_of, bytes_of, Shows};
 ghost use Rattle.panel.specs.Inside.{part_number, Counted, Leaves, Fitting};
 
-use manager::Fit;
+use manager::NotAdmitted;
 use text::output::{places, put_decimal, put_hex_line, put_label};
 
 // A panel's parts, in table order, the newest step's words last.
@@ -288,9 +289,9 @@ fn check_fit(t: &[u32], s: &[u32]) -> Result<(), NotShown>
     ensures { Fitting t.now s.now result }
 {
     match manager::check_state(t, s) {
-        Fit::Fits => Ok(()),
-        Fit::BadTable => Err(NotShown::BadTable),
-        Fit::Unfit => Err(NotShown::UnfitState),
+        Ok(()) => Ok(()),
+        Err(NotAdmitted::BadTable) => Err(NotShown::BadTable),
+        Err(NotAdmitted::UnfitState) => Err(NotShown::UnfitState),
     }
 }
 

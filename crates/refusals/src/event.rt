@@ -1,5 +1,5 @@
 // The event word with its fields, each of which it says is the word's.
-ghost use Rattle.std.specs.Prelude.{◌≡◌};
+ghost use Rattle.std.specs.Prelude.{◌≡◌, ◌<◌};
 ghost use Rattle.rulebook.specs.Events.{event_kind, event_owner, event_index, event_value, event_zero};
 
 use words::bits;
@@ -17,6 +17,7 @@ pub struct Event {
     ghost index_read: { index ≡ event_index word },
     ghost value_read: { value ≡ event_value word },
     ghost zero_read: { zero ≡ event_zero word },
+    ghost index_small: { index < 256 },
 }
 
 impl From<u32> for Event {

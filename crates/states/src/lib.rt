@@ -10,11 +10,11 @@ ghost use Rattle.states.specs.Admission.{Admits};
 ghost use Rattle.states.specs.Made.{Fresh};
 
 use tables::check;
+use words::bits;
 use words::numbers::{
     ASKED_FULL, PORT_EVENT, PORT_MODE, PORT_TIMER, STATE_CHECK, STATE_RECOVER, STATUS_PENDING,
     TIMER_EXPIRED, TIMER_STARTED, UNDEFINED_RESULT,
 };
-use words::bits;
 use words::state::{Network, Port, Source, Thing, pack_rule, result};
 use words::table::Table;
 
@@ -134,21 +134,20 @@ fn fresh_port(t: &Table, p: u32) -> u32
         value: 0,
         remaining: 0,
     };
-    let c = if port.has_initial == 1 {
-        Port {
+    if port.has_initial == 1 {
+        return u32::from(Port {
             defined: 1,
             value: port.initial,
             ..nothing
-        }
-    } else if port.kind == PORT_MODE {
-        nothing
-    } else {
-        Port {
-            defined: 1,
-            ..nothing
-        }
-    };
-    u32::from(c)
+        });
+    }
+    if port.kind == PORT_MODE {
+        return u32::from(nothing);
+    }
+    u32::from(Port {
+        defined: 1,
+        ..nothing
+    })
 }
 
 fn fresh_rule(t: &Table, r: u32) -> u32

@@ -5,4 +5,4 @@ use Rattle.rulebook.specs.State as State
 use Rattle.states.proofs.fits.Given as goal
 
 abbrev pub invariant-loop-i : goal.invariant-loop-i
-invariant-loop-i l = State.fits l.fn.t l.s ≡ all l.i (l.i-end - l.i) (State.fits_at l.fn.t l.s)
+invariant-loop-i l = State.fits l.t l.s ≡ all l.i (l.end - l.i) (State.fits_at l.t l.s)

@@ -1,6 +1,6 @@
 -- Every turn of the loop reads a byte at least, behind those that stay.
 use Rattle.std.proofs.Common.{length, ◌-◌, ◌≡◌, ◌≤◌, ◌<◌, take}
-use Rattle.files.proofs.fill.Given as goal
+use Rattle.files.proofs.Source.read_on.Given as goal
 
 abbrev pub invariant-loop-bytes : goal.invariant-loop-bytes
 invariant-loop-bytes l =
