@@ -1,17 +1,12 @@
 -- What is judged of an event, and the supplier's state taken over. Assumes nothing.
-use Prim.Native.Nat.{ℕ, ◌-◌, ◌<◌, ◌≤◌, min}
-use mathlib.Core.Path.{◌≡◌, refl, sym, ◌∙◌}
-use mathlib.Core.Bool.{true, false}
-use mathlib.Core.List.{List, ◌++◌, append-nil}
+use Prim.Native.Nat.{ℕ, ◌-◌, ◌≤◌, min}
+use mathlib.Core.Path.{◌≡◌, refl, ◌∙◌}
+use mathlib.Core.List.{List, ◌++◌}
 use native.Mathlib.Omega.{arith}
-use lib.ListN.{length, take, drop, length-drop, drop_of_length-le}
+use lib.ListN.{length, take, drop, length-drop}
 use lib.Seq.{take_all}
-use borrow.Author.Tests.{eq-eqb, ne_eqb, le-leb, lt-leb}
-use Rattle.rulebook.specs.Step.{refused_state}
+use borrow.Author.Tests.{eq-eqb, ne_eqb}
 use Rattle.rulebook.specs.Hold.{beside}
-use Rattle.manager.specs.declared.Fit.{Fit}
-use Rattle.manager.specs.declared.Fit.TheVariants.{Fits, BadTable, Unfit}
-use Rattle.manager.specs.Answers.{state_number}
 use Rattle.hold.specs.declared.Verdict.{Verdict}
 use Rattle.hold.specs.declared.Verdict.TheVariants.{AsOrdered, Refused, TracesPart, TheirsStops, OursStops, StatesPart}
 use Rattle.hold.specs.Promises.{number_of, given_by, TellsVerdict}
@@ -19,7 +14,7 @@ use Rattle.telling.specs.declared.Judgement.TheVariants.{AnswersPart, Words}
 use Rattle.hold.proofs.Verdicts.{front-least, tail-least}
 use Rattle.text.specs.Lines.{decimal_line}
 use Rattle.telling.specs.Told.{held_event, states_label, verdict_label, verdict_line, labelled, side}
-use Rattle.telling.specs.Promises.{Judges, Adopts}
+use Rattle.telling.specs.Promises.{Judges}
 
 -- what stands behind the first n
 pub all-behind : (n : ℕ) (l : List ℕ) → take (length l - n) (drop n l) ≡ drop n l
@@ -46,32 +41,6 @@ module _ (answer : ℕ) (ws state : List ℕ) (said : ℕ) (theirs : List ℕ) {
       let same = eq-eqb answer said e in
       let told = rw (cut-trace, cut-state) at h in
       record { verdict = rw same told.verdict; number = rw same told.number; cut = is }
-
--- the supplier's state, where it fits
-
-module _ (t s ws : List ℕ) where
-  pub too_short : length ws < length s → Adopts t s ws false s
-  too_short h = record { fits = rw (lt-leb (length s) (length ws) h); state = refl }
-
-  module _ (h : length s ≤ length ws) {k : ℕ} (is : k ≡ refused_state t (take (length s) ws)) where
-    pub not-fitting : (k ≡ 0 → ⊥) → Adopts t s ws false s
-    not-fitting n =
-        record { fits = rw (le-leb (length s) (length ws) h, ne_eqb (refused_state t (take (length s) ws)) 0 (λ z. n (is ∙ z))); state = refl }
-
-    pub adopted : {s' : List ℕ} {i : ℕ} → k ≡ 0 → length s ≤ i → i ≤ length s → s' ≡ take i ws ++ drop i s → Adopts t s ws true s'
-    adopted {s'} {i} z past in-side e =
-        let all : i ≡ length s = omega arith in
-        record {
-          fits = rw (le-leb (length s) (length ws) h, eq-eqb (refused_state t (take (length s) ws)) 0 (sym is ∙ z));
-          state = e ∙ rw (all, drop_of_length-le s {i = length s} (omega arith)) (append-nil (take (length s) ws));
-        }
-
--- a state check's answer that is not `Fits` is 1 or 2
-
-pub unfit-number : (r : Fit) → (r ≡ Fits → ⊥) → state_number r ≡ 0 → ⊥
-unfit-number Fits f z = f refl
-unfit-number BadTable f z = omega arith
-unfit-number Unfit f z = omega arith
 
 -- the label of a verdict that is none of the traces'
 pub states-labelled : (v : Verdict) → ((k : ℕ) → v ≡ TracesPart k → ⊥) → ((k : ℕ) → v ≡ TheirsStops k → ⊥) → ((k : ℕ) → v ≡ OursStops k → ⊥)
