@@ -7,7 +7,7 @@ use listing::forms;
 use listing::forms::Form;
 use listing::reading::read_line;
 use text::output::{put_decimal, put_label};
-use words::sections::read_layout;
+use words::table::Table;
 
 // The most bytes of a line that are shown.
 const MOST: usize = 80;
@@ -161,9 +161,9 @@ fn form_at_line(text: &[u8], line: usize) -> Option<Form> {
         return Some(forms::of_header(i));
     }
     let header = read_header(text);
-    let h = read_layout(&header);
-    if i < h.length {
-        return Some(forms::form_at(&header, h, i));
+    let table = Table::read(&header);
+    if i < table.length() {
+        return Some(forms::form_at(&table, i));
     }
     None
 }

@@ -39,10 +39,8 @@ fn read_listing(rt: HostRuntime, text: &[u8]) {
 fn main(rt: HostRuntime) {
     let mut path = files::space::path_bytes();
     let mut window = space::window();
-    let file = files::open(rt, 1, b"LISTING", b"read LISTING", &mut path, &mut window);
-    let n = file.bytes;
-    if file.source.is_none() {
+    let Some(file) = files::open(rt, 1, b"LISTING", b"read LISTING", &mut path, &mut window) else {
         return;
-    }
-    read_listing(rt, &window[..n]);
+    };
+    read_listing(rt, &window[..file.bytes]);
 }
