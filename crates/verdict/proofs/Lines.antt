@@ -10,7 +10,8 @@ use Rattle.session.specs.Promises.{PutLines}
 use Rattle.session.proofs.Checks.{place-small, place_is}
 use Rattle.text.proofs.Puts.{one-put, put_then}
 use Rattle.session.proofs.Lines.{put-lines, decimal-long}
-use Rattle.tables.specs.declared.Checked.{Checked}
+use Rattle.std.specs.Prelude.{Result}
+use Rattle.tables.specs.declared.Fault.{Fault}
 use Rattle.tables.specs.Finding.{Finding, finding, promised, Says}
 use Rattle.verdict.specs.Verdict.{verdict_lines, lines_of}
 
@@ -35,5 +36,5 @@ pub laid : {out o₁ o₂ o₃ : List ℕ} {n₁ n₂ n₃ : ℕ} (x : Finding) 
 laid x k i b says hk hi hb h p q r = rw (← says.0, ← says.1, ← says.2) (laid-lines k i b hk hi hb h p q r)
 
 -- a reason's place is at most 3,185
-pub place-fits : (t : List ℕ) (r : Checked) → finding r ≡ promised t → (k i : ℕ) → k ≡ (finding r).reason → i ≡ (finding r).place → i < 2 ^ 32
-place-fits t r tells k i kr ir = let p = place-small t in let q = place_is t r tells k i kr ir in omega arith
+pub place-fits : (t : List ℕ) (r : Result ℕ Fault) → finding r ≡ promised t → (k i : ℕ) → k ≡ (finding r).reason → i ≡ (finding r).place → i < 2 ^ 32
+place-fits t r tells k i kr ir = let p = place-small t in let q = place_is t r tells kr ir in omega arith
