@@ -1,17 +1,16 @@
 -- What is concluded of a bus log read follows from what the calls promise. Assumes nothing.
 use Prim.Native.Nat.{ℕ, ◌+◌, ◌-◌, ◌≤◌}
 use mathlib.Core.Path.{◌≡◌, refl, sym, ap, ◌∙◌}
-use mathlib.Core.Bool.{Bool, true, false, ◌&&◌}
+use mathlib.Core.Bool.{true, false, ◌&&◌}
 use mathlib.Core.List.{List, [], ◌∷◌, ◌++◌}
 use native.Mathlib.Omega.{arith}
-use borrow.Author.Tests.{ne_eqb, eq-eqb}
+use borrow.Author.Tests.{ne_eqb}
 use lib.ListN.{length, take, drop}
 use lib.Seq.{take_at, drop_at}
-use lib.Dec.{eqb}
 use Rattle.laws.proofs.Tests.{split, clash}
 use Rattle.rulebook.specs.Table.{networks}
 use Rattle.rulebook.specs.Reasons.{accepted}
-use Rattle.rulebook.specs.BusLog.{Cursor, Reading, answered, unread, names_stand, next_line, fault, read_log, refused_line}
+use Rattle.rulebook.specs.BusLog.{Cursor, Reading, answered, unread, names_stand, next_line, read_log, refused_line}
 use Rattle.buslog.specs.Promises.{ReadsLogIn, behind_these, WholeTicks}
 use Rattle.buslog.proofs.Logs.{same_rest}
 use Rattle.buslog.proofs.Resuming.{fault-not, goes_on, log-roomier}

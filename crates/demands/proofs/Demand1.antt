@@ -5,7 +5,7 @@ use Prim.Native.Nat.{ℕ}
 use native.Mathlib.Omega.{arith}
 use lib.ListN.{length, drop}
 use borrow.Author.Tests.{eq-eqb, ne_eqb}
-use Rattle.rulebook.specs.Reasons.{bound, check}
+use Rattle.rulebook.specs.Reasons.{check}
 use Rattle.rulebook.specs.State.{state_length, fresh_answer, fresh_state}
 use Rattle.rulebook.specs.Step.{Result, refused_state, step}
 use Rattle.rulebook.specs.Hold.{held_against, held_by, refused}

@@ -1,7 +1,7 @@
 -- What is concluded of an event held against a supplier's recording follows from what the call promises. Assumes nothing.
 use Prim.Native.Nat.{ℕ}
 use mathlib.Core.Path.{◌≡◌, sym, ap, ◌∙◌}
-use mathlib.Core.List.{List, ◌++◌}
+use mathlib.Core.List.{List}
 use lib.ListN.{length, take, drop}
 use lib.Seq.{take-append_seam}
 use Rattle.rulebook.specs.Step.{Result, step, first_fault}

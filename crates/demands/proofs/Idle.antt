@@ -11,7 +11,8 @@ use lib.Seq.{drop-cons, get_or-append_seam}
 use lib.Dec.{ltb}
 use borrow.Author.Tests.{ltb-true, ltb-false, eqb-true}
 use Rattle.rulebook.specs.Words.{word, listed}
-use Rattle.rulebook.specs.Step.{Result, heeded, step}
+use Rattle.rulebook.specs.Step as rulebook
+use Rattle.rulebook.specs.Step.{heeded, step}
 use Rattle.rulebook.specs.Marked.{table, marked, after, same, refuses, at_fresh, after_request, after_tick, after_bus_off, after_three, after_five, marked_run}
 use Rattle.rulebook.proofs.Marked.{claim}
 use Rattle.laws.specs.Chosen.{run_all, before_lists, WrittenBy, by_none, by_first}
@@ -21,9 +22,9 @@ use Rattle.laws.proofs.Facts.{facts}
 use Rattle.laws.proofs.Order.{each_both}
 use Rattle.laws.proofs.Chosen.{behind}
 use Rattle.laws.proofs.Steps.{step-cases, answer-small, happen-paid}
-use Rattle.events.specs.declared.Answer.{Answer}
-use Rattle.events.specs.declared.Answer.TheVariants.{Done, BadTable, UnfitState, ShortTrace, Malformed, NoSuchThing, NotItsOwner, BadOutcome}
-use Rattle.events.specs.Answers.{number_of, count_of, visits_of, Reports}
+use Rattle.std.specs.Prelude.{Ok, Err}
+use Rattle.events.specs.declared.Refusal.TheVariants.{BadTable, UnfitState, ShortTrace, Malformed, NoSuchThing, NotItsOwner, BadOutcome}
+use Rattle.events.specs.Answers.{Answered, number_of, count_of, visits_of, Reports}
 use Rattle.demands.specs.Idle.{Gave, Program, Words, Input, Meets, LeavesWords}
 use Rattle.demands.specs.Idle.{RefusesAll, AnswersAlike, DoesNothing, OnlyFirstTick, OnlyFirstList, InventsCount, CountsAlike, VisitsAlike}
 use Rattle.demands.proofs.Demand2.{steps, done-step}
@@ -243,15 +244,15 @@ not-invents-count p meets idle =
 
 -- A program that meets the promise: the step, in the call's answers.
 
-answer_with : ℕ → ℕ → ℕ → Answer
-answer_with zero n v = Done (record { count = n; visits = v })
-answer_with (suc zero) n v = BadTable
-answer_with (suc (suc zero)) n v = UnfitState
-answer_with (suc (suc (suc zero))) n v = ShortTrace
-answer_with (suc (suc (suc (suc zero)))) n v = Malformed
-answer_with (suc (suc (suc (suc (suc zero))))) n v = NoSuchThing
-answer_with (suc (suc (suc (suc (suc (suc zero)))))) n v = NotItsOwner
-answer_with (suc (suc (suc (suc (suc (suc (suc k))))))) n v = BadOutcome
+answer_with : ℕ → ℕ → ℕ → Answered
+answer_with zero n v = Ok (record { count = n; visits = v })
+answer_with (suc zero) n v = Err BadTable
+answer_with (suc (suc zero)) n v = Err UnfitState
+answer_with (suc (suc (suc zero))) n v = Err ShortTrace
+answer_with (suc (suc (suc (suc zero)))) n v = Err Malformed
+answer_with (suc (suc (suc (suc (suc zero))))) n v = Err NoSuchThing
+answer_with (suc (suc (suc (suc (suc (suc zero)))))) n v = Err NotItsOwner
+answer_with (suc (suc (suc (suc (suc (suc (suc k))))))) n v = Err BadOutcome
 
 answer-number : (k n v : ℕ) → (k ≤ 6) ⊎ (k ≡ 8) → number_of (answer_with k n v) ≡ k
 unfolding answer_with
@@ -277,7 +278,7 @@ none-reported (suc (suc (suc (suc (suc zero))))) = (refl, refl)
 none-reported (suc (suc (suc (suc (suc (suc zero)))))) = (refl, refl)
 none-reported (suc (suc (suc (suc (suc (suc (suc k))))))) = (refl, refl)
 
-gave : List ℕ → Result → Gave
+gave : List ℕ → rulebook.Result → Gave
 gave trace x =
     record { answer = answer_with x.answer (length x.words) x.visits; state = x.state; trace = x.words ++ drop (length x.words) trace }
 

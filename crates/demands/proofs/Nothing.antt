@@ -1,6 +1,6 @@
 -- Q-14 holds of whatever the promises of the public entries allow: what calls sent is a run of the rulebook's steps. Assumes nothing.
-use mathlib.Core.Path.{◌≡◌, refl, sym, ap, subst, ◌∙◌}
-use mathlib.Core.Bool.{true, cond}
+use mathlib.Core.Path.{◌≡◌, refl, sym, ap, ◌∙◌}
+use mathlib.Core.Bool.{true}
 use mathlib.Core.List.{List, [], ◌∷◌, ◌++◌, append_assoc, append-nil}
 use Prim.Native.Nat.{ℕ, ◌≤◌, ◌*◌}
 use native.Mathlib.Omega.{arith}
@@ -22,8 +22,7 @@ use Rattle.stranger.proofs.Logs.{after-append, log-fits}
 use Rattle.stranger.proofs.Nothing.{Kept, kept-own, itself-known, after-each}
 use Rattle.stranger.proofs.Struck.{nothing-of-strangers}
 use Rattle.stranger.proofs.Runs.{by-step, sent-refused, log-ran, entries-taken, entries-both, played-share}
-use Rattle.manager.specs.Promises.{MakesFreshIn, TakesEventIn, PlaysIn}
-use Rattle.panel.specs.Promises.{ShowsIn}
+use Rattle.manager.specs.Promises.{TakesEventIn, PlaysIn}
 use Rattle.panel.specs.Same.{SameThings, SameWords}
 use Rattle.panel.proofs.Same.{prints-alike}
 use Rattle.demands.specs.Sent.{Sent, ended_by}

@@ -6,13 +6,12 @@ use Rattle.rulebook.specs.Events.{happen}
 use Rattle.rulebook.specs.Step.{heeded, step}
 use Rattle.laws.specs.Sequence.{Each}
 use Rattle.laws.specs.Chosen.{run_all, before_lists, ListsRan}
-use Rattle.events.specs.declared.Answer.{Answer}
-use Rattle.events.specs.Answers.{number_of, count_of, visits_of}
+use Rattle.events.specs.Answers.{Answered, number_of, count_of, visits_of}
 use Rattle.manager.specs.Promises.{TakesEvent}
 
 -- what a program gives
 pub record Gave : Type 0 where
-  pub answer : Answer
+  pub answer : Answered
   pub state : List ℕ
   pub trace : List ℕ
 

@@ -1,7 +1,7 @@
 -- Q-14 over calls: s is what `make_fresh` made, and any results of the event call and of plays follow, mixed as one likes, each state passed on. Its
 -- sentences are those of stranger/specs/Nothing, over the runs that calls gave.
 use Rattle.std.specs.Prelude.{◌≡◌, List, ℕ}
-use Rattle.stranger.specs.Nothing.{Sending, kept, SameOwn, AfterEachShared, NothingOfStrangers}
+use Rattle.stranger.specs.Nothing.{kept, SameOwn, AfterEachShared, NothingOfStrangers}
 use Rattle.manager.specs.Promises.{MakesFreshIn}
 use Rattle.panel.specs.Promises.{ShowsIn}
 use Rattle.panel.specs.Same.{SamePrint}

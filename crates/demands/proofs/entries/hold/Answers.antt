@@ -1,5 +1,4 @@
 -- `demands::entries::hold`: what is concluded follows from what the entry promises. Assumes nothing.
-use borrow.Author.Rules.{rules}
 use Rattle.demands.proofs.Held.{of-hold}
 use Rattle.demands.proofs.entries.hold.Goals as goal
 

@@ -1,5 +1,4 @@
 -- `demands::entries::list`: what is concluded follows from what the call promises. Assumes nothing.
-use borrow.Author.Rules.{rules}
 use Rattle.demands.proofs.Listed.{of-listing}
 use Rattle.demands.proofs.entries.list.Goals as goal
 

@@ -1,5 +1,4 @@
 -- `demands::entries::make_fresh`: what the demands conclude follows from what the entry promises. Assumes nothing.
-use borrow.Author.Rules.{rules}
 use Rattle.demands.proofs.Conclusions.{of-fresh}
 use Rattle.demands.proofs.entries.make_fresh.Goals as goal
 

@@ -1,5 +1,4 @@
 -- `demands::entries::read`: what is concluded follows from what the call promises. Assumes nothing.
-use borrow.Author.Rules.{rules}
 use Rattle.demands.proofs.Listed.{of-read}
 use Rattle.demands.proofs.entries.read.Goals as goal
 

@@ -1,5 +1,4 @@
 -- `demands::entries::read_log`: what is concluded follows from what the call promises. Assumes nothing.
-use borrow.Author.Rules.{rules}
 use Rattle.demands.proofs.BusLogs.{of-log}
 use Rattle.demands.proofs.entries.read_log.Goals as goal
 

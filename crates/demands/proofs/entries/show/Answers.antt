@@ -1,5 +1,4 @@
 -- `demands::entries::show`: what is concluded follows from what the call promises. Assumes nothing.
-use borrow.Author.Rules.{rules}
 use Rattle.demands.proofs.Panel.{of-panel}
 use Rattle.demands.proofs.entries.show.Goals as goal
 

@@ -1,5 +1,4 @@
 -- `demands::linked::check_state`: what the demands conclude follows from what the entry promises. Assumes nothing.
-use borrow.Author.Rules.{rules}
 use Rattle.demands.proofs.Demand1.{state-answered}
 use Rattle.demands.proofs.linked.check_state.Goals as goal
 

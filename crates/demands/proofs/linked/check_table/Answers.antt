@@ -1,5 +1,4 @@
 -- `demands::linked::check_table`: what the demands conclude follows from what the entry promises. Assumes nothing.
-use borrow.Author.Rules.{rules}
 use Rattle.demands.proofs.Conclusions.{of-table}
 use Rattle.demands.proofs.linked.check_table.Goals as goal
 

@@ -1,5 +1,4 @@
 -- `demands::linked::hold`: what is concluded follows from what the entry promises. Assumes nothing.
-use borrow.Author.Rules.{rules}
 use Rattle.demands.proofs.Held.{of-hold-c}
 use Rattle.demands.proofs.linked.hold.Goals as goal
 

@@ -1,5 +1,4 @@
 -- `demands::linked::make_fresh`: what the demands conclude follows from what the entry promises. Assumes nothing.
-use borrow.Author.Rules.{rules}
 use Rattle.demands.proofs.Conclusions.{of-fresh}
 use Rattle.demands.proofs.linked.make_fresh.Goals as goal
 

@@ -1,5 +1,4 @@
 -- `demands::linked::play`: what the demands conclude follows from what the entry promises. Assumes nothing.
-use borrow.Author.Rules.{rules}
 use Rattle.demands.proofs.Conclusions.{of-play}
 use Rattle.demands.proofs.linked.play.Goals as goal
 

@@ -1,5 +1,4 @@
 -- `demands::linked::read`: what is concluded follows from what the call promises. Assumes nothing.
-use borrow.Author.Rules.{rules}
 use Rattle.demands.proofs.Listed.{of-reading}
 use Rattle.demands.proofs.linked.read.Goals as goal
 

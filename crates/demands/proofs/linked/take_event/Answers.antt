@@ -1,5 +1,4 @@
 -- `demands::linked::take_event`: what the demands conclude follows from what the entry promises. Assumes nothing.
-use borrow.Author.Rules.{rules}
 use Rattle.demands.proofs.Conclusions.{of-event}
 use Rattle.demands.proofs.linked.take_event.Goals as goal
 
