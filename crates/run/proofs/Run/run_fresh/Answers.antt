@@ -1,8 +1,6 @@
--- `run::run_fresh` meets its contract: the state that it makes is ready. Assumes nothing.
+-- `run::Run::run_fresh` meets its contract: the state that it makes is ready. Assumes nothing.
 use Rattle.session.proofs.Whole.{made-fresh, fresh-ready}
-use borrow.Author.Rules.{rules}
-use Rattle.run.proofs.Kept.{ran-from}
-use Rattle.run.proofs.run_fresh.Goals as goal
+use Rattle.run.proofs.Run.run_fresh.Goals as goal
 
 pub run-requires : goal.run-requires
 run-requires c =
@@ -12,4 +10,4 @@ run-requires c =
 pub returns : goal.returns
 returns c =
     let p = c.requires.1 in
-    ran-from (made-fresh p.table p.state c.make_fresh.ensures) c.run.ensures
+    rw (made-fresh p.table p.state c.make_fresh.ensures) at c.run.ensures
