@@ -39,10 +39,7 @@ fn read_listing(rt: HostRuntime, text: &[u8]) {
 fn main(rt: HostRuntime) {
     let mut path = files::space::path_bytes();
     let mut window = space::window();
-    let file = files::open(rt, 1, b"LISTING", b"read LISTING", &mut path, &mut window);
-    let n = file.bytes;
-    if file.source.is_none() {
-        return;
+    if let Some(file) = files::open(rt, 1, b"LISTING", b"read LISTING", &mut path, &mut window) {
+        read_listing(rt, &window[..file.bytes]);
     }
-    read_listing(rt, &window[..n]);
 }
