@@ -5,7 +5,7 @@ use mathlib.Core.Bool.{Bool, true, false, cond, and-false}
 use mir.Val.{bool_byte}
 use mathlib.Core.List.{List}
 use native.Mathlib.Omega.{arith}
-use lib.ListN.{length, drop, set, length-set, replicate}
+use lib.ListN.{length, set, length-set, replicate}
 use lib.Seq.{get_or-set_other}
 use lib.Dec.{eqb, ltb}
 use borrow.Author.Tests.{eq-eqb, ne_eqb, eqb-true, eqb-false, ltb-true, ltb-false, le-ltb}
@@ -135,6 +135,6 @@ unfolding marked_in
 none-marked t s h p =
     split (ltb p (ports t)) (λ e. any_at (marked_in t s) 0 (ports t) p h (omega arith) (let z : p < ports t = ltb-true _ _ e in omega arith)) (λ e. rw e)
 
-pub nothing-marked : (t os : List ℕ) (read : ℕ) (s T : List ℕ) → any 0 (ports t) (marked_in t s) ≡ false
-    → Ran os (arbitrate t (marked_in t s) (drop read os) s) s T T (nothing read)
-nothing-marked t os read s T h = rw (arbitrate-none t (marked_in t s) (none-marked t s h) (drop read os) s) (ran-none os read s T)
+pub nothing-marked : (t os s T : List ℕ) → any 0 (ports t) (marked_in t s) ≡ false
+    → Ran os (arbitrate t (marked_in t s) os s) s T T nothing
+nothing-marked t os s T h = rw (arbitrate-none t (marked_in t s) (none-marked t s h) os s) (ran-none os s T)

@@ -5,13 +5,13 @@ use mathlib.Core.List.{List}
 use lib.ListN.{set}
 use Rattle.rulebook.specs.Table.{lists}
 use Rattle.rulebook.specs.Expressions.{deepest}
-use Rattle.rulebook.specs.Lists.{Run, run_list}
+use Rattle.rulebook.specs.Lists.{Run, start, run_list}
 use Rattle.rulebook.specs.Arbitration.{order, run_chosen}
 use Rattle.words.specs.Flags.{flagged}
 use Rattle.laws.proofs.Frame.{list-framed, chosen-framed}
 use Rattle.lists.specs.declared.Written.{Written}
 use Rattle.lists.specs.Runs.{Safe, Ran, plus}
-use Rattle.lists.proofs.Along.{begin, Along, along-as, along-end, next-safe, next}
+use Rattle.lists.proofs.Along.{unread, unread-is, Along, along-as, along-end, next-safe, next}
 use Rattle.lists.proofs.Cycle.{behind, anew}
 use Rattle.arbitration.specs.Picking.{Best}
 use Rattle.arbitration.proofs.Picking.{chosen-turn, chosen-end}
@@ -25,10 +25,11 @@ module _ (t flags : List ℕ) (l : ℕ) (b : Best t flags (lists t) l) (os : Lis
     turned : Along os whole (λ x. run_chosen t (flagged flags') (order t) (run_list deepest t l x)) before s T w
     turned = along-as os whole _ _ before s T w (rw lowered (chosen-turn t flags l b h _)) a
 
-    pub list-safe : Safe (run_list deepest t l (begin os w.read s)) (behind w T)
-    list-safe = next-safe os whole (run_list deepest t l) _ (list-framed t deepest l) (chosen-framed t (flagged flags') (order t)) before s T w turned safe
+    pub list-safe : Safe (run_list deepest t l (start (unread os w.read) s)) (behind w T)
+    list-safe = rw (unread-is os w.read) (next-safe os whole (run_list deepest t l) _ (list-framed t deepest l) (chosen-framed t (flagged flags') (order t)) before s T w turned safe)
 
-    pub list-next : (s' part : List ℕ) (v : Written) → Ran os (run_list deepest t l (begin os w.read s)) s' (behind w T) part v
+    pub list-next : (s' part : List ℕ) (v : Written) → Ran (unread os w.read) (run_list deepest t l (start (unread os w.read) s)) s' (behind w T) part v
         → Along os whole (run_chosen t (flagged flags') (order t)) before s' (anew w T part) (plus w v)
     list-next s' part v r =
-        next os whole (run_list deepest t l) _ (list-framed t deepest l) (chosen-framed t (flagged flags') (order t)) before s T w turned safe s' part v r
+        next os whole (run_list deepest t l) _ (list-framed t deepest l) (chosen-framed t (flagged flags') (order t)) before s T w turned safe s' part v
+        (rw (unread-is os w.read) at r)

@@ -2,7 +2,7 @@
 // and the chosen lists run once each, larger priority first, then lower number.
 #![tactic(auto)]
 
-ghost use Rattle.std.specs.Prelude.{◌≡◌, ◌<◌, drop, replicate, MatchOption};
+ghost use Rattle.std.specs.Prelude.{◌≡◌, ◌<◌, replicate, MatchOption};
 ghost use Rattle.rulebook.specs.Words.{any, each};
 ghost use Rattle.rulebook.specs.Table.{ports as ports_of, rules as rules_of, lists as lists_of};
 ghost use Rattle.rulebook.specs.Lists.{start, visit};
@@ -153,23 +153,23 @@ fn run_chosen(
     s: &mut [u32],
     trace: &mut [u32],
     outcomes: &[u32],
-    read: usize,
     visits: u32,
 ) -> Written
-    requires { MayArbitrate t.now.words (run_chosen t.now.words (flagged flags.old) (order t.now.words) (visit visits (start (drop read outcomes.now) s.old)))
+    requires { MayArbitrate t.now.words (run_chosen t.now.words (flagged flags.old) (order t.now.words) (visit visits (start outcomes.now s.old)))
         trace.old }
     ensures { Ran outcomes.now (run_chosen t.now.words (flagged flags.old) (order t.now.words)
-        (visit visits (start (drop read outcomes.now) s.old)))
+        (visit visits (start outcomes.now s.old)))
         s.new trace.old trace.new result }
 {
     let mut written = Written {
         visits,
-        ..Written::nothing(read)
+        ..Written::nothing()
     };
     while let Some(l) = best(t, flags) {
         put(flags, l as usize, 0);
-        let rest = &mut trace[written.count..];
-        let more = lists::run_list(t, l, 7, s, rest, outcomes, written.read);
+        let free = &mut trace[written.count..];
+        let unread = &outcomes[written.read..];
+        let more = lists::run_list(t, l, 7, s, free, unread);
         written = written.plus(more);
     }
     written
@@ -182,11 +182,10 @@ pub fn arbitrate(
     s: &mut [u32],
     trace: &mut [u32],
     outcomes: &[u32],
-    read: usize,
 ) -> Written
-    requires { MayArbitrate t.now.words (arbitrate_of t.now.words (flagged flags.now) (drop read outcomes.now) s.old) trace.old }
+    requires { MayArbitrate t.now.words (arbitrate_of t.now.words (flagged flags.now) outcomes.now s.old) trace.old }
     ensures { Ran outcomes.now (arbitrate_of t.now.words (flagged flags.now)
-        (drop read outcomes.now) s.old)
+        outcomes.now s.old)
         s.new trace.old trace.new result }
 {
     unmark(t, flags, s);
@@ -195,7 +194,7 @@ pub fn arbitrate(
     let mut chosen = [0u32; 256];
     choose(t, &results, s, &mut chosen);
     store(t, &results, s);
-    run_chosen(t, &mut chosen, s, trace, outcomes, read, visits)
+    run_chosen(t, &mut chosen, s, trace, outcomes, visits)
 }
 
 // Arbitrates port p alone.
@@ -205,15 +204,14 @@ pub fn arbitrate_one(
     s: &mut [u32],
     trace: &mut [u32],
     outcomes: &[u32],
-    read: usize,
 ) -> Written
-    requires { MayArbitratePort t.now.words p (arbitrate_of t.now.words (only p) (drop read outcomes.now) s.old) trace.old }
-    ensures { Ran outcomes.now (arbitrate_of t.now.words (only p) (drop read outcomes.now) s.old)
+    requires { MayArbitratePort t.now.words p (arbitrate_of t.now.words (only p) outcomes.now s.old) trace.old }
+    ensures { Ran outcomes.now (arbitrate_of t.now.words (only p) outcomes.now s.old)
         s.new trace.old trace.new result }
 {
     let mut flags = [0u32; 256];
     flags[p as usize] = 1;
-    arbitrate(t, &flags, s, trace, outcomes, read)
+    arbitrate(t, &flags, s, trace, outcomes)
 }
 
 // Whether port p is there and marked.
@@ -242,21 +240,15 @@ fn flag_marked(t: &Table, s: &[u32], flags: &mut [u32])
 }
 
 // Arbitrates all marked ports. Where none is marked no rule is looked at.
-pub fn arbitrate_marked(
-    t: &Table,
-    s: &mut [u32],
-    trace: &mut [u32],
-    outcomes: &[u32],
-    read: usize,
-) -> Written
-    requires { MayArbitrate t.now.words (arbitrate_marked t.now.words (drop read outcomes.now) s.old) trace.old }
-    ensures { Ran outcomes.now (arbitrate_marked t.now.words (drop read outcomes.now) s.old)
+pub fn arbitrate_marked(t: &Table, s: &mut [u32], trace: &mut [u32], outcomes: &[u32]) -> Written
+    requires { MayArbitrate t.now.words (arbitrate_marked t.now.words outcomes.now s.old) trace.old }
+    ensures { Ran outcomes.now (arbitrate_marked t.now.words outcomes.now s.old)
         s.new trace.old trace.new result }
 {
     if !any_marked(t, s) {
-        return Written::nothing(read);
+        return Written::nothing();
     }
     let mut flags = [0u32; 256];
     flag_marked(t, s, &mut flags);
-    arbitrate(t, &flags, s, trace, outcomes, read)
+    arbitrate(t, &flags, s, trace, outcomes)
 }

@@ -4,7 +4,6 @@ use mathlib.Core.Path.{◌≡◌, refl, sym, subst, ◌∙◌}
 use mathlib.Core.Bool.{true, false, ◌&&◌}
 use mathlib.Core.List.{List}
 use native.Mathlib.Omega.{arith}
-use native.Mathlib.Nat.{sub-zero, zero-add}
 use borrow.Author.Tests.{eq-eqb, ne_eqb, eqb-true, eqb-false}
 use Rattle.std.specs.Prelude.{Option, Some, None}
 use Rattle.std.specs.Option.{is_some}
@@ -23,9 +22,6 @@ module _ (called names : List ℕ) (k : ℕ) where
   pub record SoughtTo (p i : ℕ) : Type 0 where
     pub inside : p ≤ length names
     pub left : number_of called k names ≡ i + number_of called (k - i) (drop p names)
-
-  pub sought-begin : SoughtTo 0 0
-  sought-begin = record { inside = omega arith; left = rw (sub-zero k) (sym (zero-add (number_of called k names))) }
 
   module _ (p i : ℕ) (so : SoughtTo p i) where
     pub sought-all : k ≡ i → number_of called k names ≡ k
@@ -66,9 +62,6 @@ module _ (names : List ℕ) (k : ℕ) where
   pub record StandTo (p left : ℕ) : Type 0 where
     pub inside : p ≤ length names
     pub same_left : names_stand k names ≡ names_stand left (drop p names)
-
-  pub stand-begin : StandTo 0 k
-  stand-begin = record { inside = omega arith; same_left = refl }
 
   pub stand-end : (p left : ℕ) → StandTo p left → left ≤ 0 → eqb p (length names) ≡ names_stand k names
   unfolding names_stand

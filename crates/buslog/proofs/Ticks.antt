@@ -1,9 +1,9 @@
 -- The cursor, and ticks laid into an output. Assumes nothing.
-use Prim.Native.Nat.{ℕ, ◌+◌, ◌-◌, ◌*◌, ◌/◌, ◌%◌, ◌^◌, ◌<◌, ◌≤◌, min}
+use Prim.Native.Nat.{ℕ, ◌+◌, ◌-◌, ◌*◌, ◌%◌, ◌^◌, ◌<◌, ◌≤◌, min}
 use mathlib.Core.Path.{◌≡◌, sym, ap, ◌∙◌}
 use mathlib.Core.List.{List}
 use native.Mathlib.Omega.{arith}
-use native.Mathlib.Nat.{div-le_self, zero-div, mod-eq_of_lt}
+use native.Mathlib.Nat.{div-le_self, mod-eq_of_lt}
 use lib.ListN.{length, take, drop, replicate, length-drop, length-replicate}
 use borrow.Rule.Slice.PartMut.{put_mid, same_len_mid}
 use lib.Seq.{length-take-le}
@@ -11,19 +11,6 @@ use Rattle.std.proofs.lemmas.Slice.{take-put_mid, drop-put_mid}
 use Rattle.rulebook.specs.Table.{network_owner}
 use Rattle.rulebook.specs.BusLog.{Cursor, zero_time, ticks_due, tick_word, bus_off_word}
 use Rattle.buslog.specs.Inside.{GivesTicks}
-
-module _ (c : Cursor) (time zero-at : ℕ) (z : zero-at ≡ zero_time c time) where
-  pub before-zero : time < zero-at → 0 ≡ ticks_due c time
-  unfolding ticks_due
-  before-zero h = let q : time - zero-at ≡ 0 = omega arith in rw (← z, q, zero-div 10000) (omega arith)
-
-  pub all-given : (time - zero-at) / 10000 < c.given → 0 ≡ ticks_due c time
-  unfolding ticks_due
-  all-given h = rw (← z) (omega arith)
-
-  pub some-due : (time - zero-at) / 10000 - c.given ≡ ticks_due c time
-  unfolding ticks_due
-  some-due = rw (← z)
 
 -- the ticks given and those due are no more than 64 bits hold
 pub given-small : (c : Cursor) (time : ℕ) → c.given < 2 ^ 64 → time < 2 ^ 64 → c.given + ticks_due c time < 2 ^ 64

@@ -1,9 +1,9 @@
 -- Digits read one after the other, and how large their number can be. Assumes nothing.
 use Prim.Native.Nat.{ℕ, ◌+◌, ◌*◌, ◌^◌, ◌<◌, ◌≤◌}
-use mathlib.Core.Path.{◌≡◌, refl, sym, ◌∙◌}
+use mathlib.Core.Path.{◌≡◌, sym, ◌∙◌}
 use mathlib.Core.List.{List}
 use native.Mathlib.Omega.{arith}
-use native.Mathlib.Nat.{pow-zero, pow-suc, mul_assoc, add-mul, mul-le-mul_left, mul-le-mul_right, pow-le-pow_right}
+use native.Mathlib.Nat.{pow-suc, mul_assoc, add-mul, mul-le-mul_left, mul-le-mul_right, pow-le-pow_right}
 use native.Mathlib.Numerals.{add-one}
 use lib.ListN.{length, get_or, drop}
 use lib.Seq.{drop-cons}
@@ -16,9 +16,6 @@ module _ (digits : List ℕ) (base start : ℕ) where
   pub record ToldTo (n i : ℕ) : Type 0 where
     pub same : number base start digits ≡ number base n (drop i digits)
     pub small : n + 29 ≤ (start + 29) * base ^ i
-
-  pub told-begin : ToldTo start 0
-  told-begin = record { same = refl; small = rw (pow-zero base) (omega arith) }
 
   -- a digit more leaves room for the next
   pub digit_room : (n i v : ℕ) → 10 ≤ base → v ≤ 255 → n + 29 ≤ (start + 29) * base ^ i → n * base + v + 29 ≤ (start + 29) * base ^ (i + 1)

@@ -23,7 +23,7 @@ pub enum Piece {
 fn is_name_byte(b: u8) -> bool
     ensures { result ≡ name_byte b }
 {
-    !(b == b' ') & !(b == b'\n')
+    (b != b' ') & (b != b'\n')
 }
 
 // Whether a byte is of the piece's kind.
@@ -94,7 +94,7 @@ pub fn read_piece(text: &[u8], at: usize, p: Piece) -> Option<usize>
     }
 }
 
-// What a decimal or hex digit is worth, in either case. Of other bytes the rulebook says a worth too, which `to_digit` does not have.
+// What a decimal or hex digit is worth, in either case. Not by `to_digit`: `Numbers` promises the rulebook's worth of other bytes too.
 #[tactic(auto, unfolding(rulebook::specs::BusLog::value))]
 fn value(b: u8) -> u8
     ensures { result ≡ value_of b }

@@ -2,14 +2,12 @@
 ghost use Rattle.std.specs.Prelude.{◌≡◌, ◌^◌, ◌<◌, ◌≤◌, length};
 ghost use Rattle.rulebook.specs.BusLog.{zero_time, ticks_due, goes_back, line_read, bus_off_word, read_line, read_lines, unread};
 ghost use Rattle.rulebook.specs.BusLog.{next_line as line_behind};
-ghost use Rattle.words.specs.Sections.{Laid};
 ghost use Rattle.buslog.specs.Promises.{cursor_as, end_number, line_of, ReadsLog};
 ghost use Rattle.buslog.specs.Inside.{GivesTicks, Stops, NoRoomAt, Gives, ReadsTo, reading};
 
 use crate::interfaces;
 use crate::lines::{Line, read_line};
-use tables::Checked;
-use words::sections::{Layout, network_at, read_accepted};
+use words::table::Table;
 
 // Where reading stands: lines read, the times of the first and of the last of them, and ticks given. Before a log's first line all are 0.
 #[derive(Clone, Copy, Debug, PartialEq, Eq)]
@@ -123,11 +121,11 @@ fn give_ticks(out: &mut [u32], at: usize, ticks: u64) -> usize
 }
 
 // The event word of a network's bus-off, under its owner.
-fn bus_off_word(t: &[u32], h: Layout, n: usize) -> u32
-    requires { Laid t.now h × (n < 256) }
-    ensures { result ≡ bus_off_word t.now n }
+fn bus_off_word(t: &Table, n: usize) -> u32
+    requires { n < 256 }
+    ensures { result ≡ bus_off_word t.now.words n }
 {
-    let network = network_at(t, h, n as u32);
+    let network = t.network(n as u32);
     5 * 268435456 + network.owner * 16777216 + n as u32 * 65536
 }
 
@@ -145,8 +143,7 @@ fn no_room(c: Cursor, given: u64, events: usize, bytes: usize) -> Step
 
 // Gives what a line at a place gives, behind n events: the ticks, then a bus-off of the network where it tells of one.
 fn give(
-    t: &[u32],
-    h: Layout,
+    t: &Table,
     network: usize,
     at: usize,
     line: Line<'_>,
@@ -154,8 +151,8 @@ fn give(
     out: &mut [u32],
     n: usize,
 ) -> Step
-    requires { Laid t.now h × (network < 256) × (n ≤ length out.old) }
-    ensures { Gives t.now network at line.entry (cursor_as c) out.old n result out.new }
+    requires { (network < 256) × (n ≤ length out.old) }
+    ensures { Gives t.now.words network at line.entry (cursor_as c) out.old n result out.new }
 {
     let due = ticks_due(c, line.time);
     let events = give_ticks(out, n, due);
@@ -175,7 +172,7 @@ fn give(
     if events == out.len() {
         return no_room(c, given, events, at);
     }
-    out[events] = bus_off_word(t, h, network);
+    out[events] = bus_off_word(t, network);
     Step {
         end: Ok(()),
         cursor,
@@ -198,8 +195,7 @@ fn stopped(end: Result<(), Halt>, cursor: Cursor, events: usize, bytes: usize) -
 
 // Reads the line at a place, behind n events: what refuses it, in the document's order, or what it gives.
 fn take_line(
-    t: &[u32],
-    h: Layout,
+    t: &Table,
     names: &[u8],
     log: &[u8],
     at: usize,
@@ -207,8 +203,8 @@ fn take_line(
     out: &mut [u32],
     n: usize,
 ) -> Step
-    requires { Laid t.now h × (at ≤ length log.now) × (n ≤ length out.old) }
-    ensures { ReadsTo (read_line t.now names.now (length out.old)
+    requires { (at ≤ length log.now) × (n ≤ length out.old) }
+    ensures { ReadsTo (read_line t.now.words names.now (length out.old)
         (reading 0 (cursor_as c) out.old n log.now at)) log.now out.old n result out.new }
 {
     let Some(line) = read_line(log, at) else {
@@ -217,23 +213,23 @@ fn take_line(
     if goes_back(c, line.time) {
         return stopped(Err(Halt::GoesBack), c, n, at);
     }
-    let Some(network) = interfaces::number_of(names, h.networks as usize, line.name) else {
+    let Some(network) = interfaces::number_of(names, t.networks() as usize, line.name) else {
         return stopped(Err(Halt::Unlisted), c, n, at);
     };
-    give(t, h, network, at, line, c, out, n)
+    give(t, network, at, line, c, out, n)
 }
 
 // Reads the lines of a log from a cursor on, to its end or to the first that is refused.
-fn read_lines(t: &[u32], h: Layout, names: &[u8], log: &[u8], from: Cursor, out: &mut [u32]) -> Step
-    requires { Laid t.now h }
-    ensures { ReadsTo (read_lines (length log.now) t.now names.now (length out.old)
+fn read_lines(t: &Table, names: &[u8], log: &[u8], from: Cursor, out: &mut [u32]) -> Step
+    ensures { ReadsTo (read_lines (length log.now) t.now.words names.now (length out.old)
         (unread (cursor_as from) log.now)) log.now out.old 0 result out.new }
 {
     let mut at = 0;
     let mut n = 0;
     let mut c = from;
+    // no range goes over the log: where a line ends is known once it is read
     while at < log.len() {
-        let step = take_line(t, h, names, log, at, c, out, n);
+        let step = take_line(t, names, log, at, c, out, n);
         if step.end.is_err() {
             return step;
         }
@@ -246,16 +242,15 @@ fn read_lines(t: &[u32], h: Layout, names: &[u8], log: &[u8], from: Cursor, out:
 
 // Reads a log, or a part of one that ends behind a line, from a cursor on: gives its events at the front of the lent words. A refusal keeps the events
 // written before it. Reading can go on behind the bytes read, with the cursor, in another output.
-pub fn read_log(t: &[u32], names: &[u8], log: &[u8], from: Cursor, out: &mut [u32]) -> Step
-    ensures { ReadsLog t.now names.now log.now from out.old result out.new }
+pub fn read_log(words: &[u32], names: &[u8], log: &[u8], from: Cursor, out: &mut [u32]) -> Step
+    ensures { ReadsLog words.now names.now log.now from out.old result out.new }
 {
-    let checked = tables::check(t);
-    let Checked::Accepted(_) = checked else {
+    let Ok(_) = tables::check(words) else {
         return stopped(Err(Halt::BadTable), from, 0, 0);
     };
-    let h = read_accepted(t);
-    if !interfaces::stand(names, h.networks as usize) {
+    let t = Table::accepted(words);
+    if !interfaces::stand(names, t.networks() as usize) {
         return stopped(Err(Halt::BadNames), from, 0, 0);
     }
-    read_lines(t, h, names, log, from, out)
+    read_lines(&t, names, log, from, out)
 }

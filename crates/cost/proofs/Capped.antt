@@ -12,9 +12,6 @@ use borrow.Author.Tests.{lt-ltb, le-ltb, ltb-true, ltb-false, eq-eqb, ne_eqb, eq
 use Rattle.rulebook.specs.Words.{sum, all, word}
 use Rattle.rulebook.specs.Table.{lists, item_kind, item_a, item_list, item_rule, true_list, false_list, no_list, first_item, item_count}
 use Rattle.rulebook.specs.Reasons.{rule_nests, item_nests, list_nests, list_within, rule_cost, item_cost, list_cost, cost_within, bound}
-use Rattle.words.specs.declared.sections.Layout.{Layout}
-use Rattle.words.specs.declared.sections.List.{List as ListRead}
-use Rattle.words.specs.Sections.{Laid, ListAt}
 use Rattle.walks.proofs.Walks.{sum-turn, sum-end}
 use Rattle.laws.specs.Facts.{Nested}
 use Rattle.laws.proofs.Tests.{split, clash, and_left, and_right, or_elim}
@@ -76,14 +73,14 @@ module _ (t : List ℕ) (f g : ℕ → ℕ) (same : (l : ℕ) → capped (f l) �
       split (ltb l (lists t)) (λ y. rw y (add-capped 1 1 _ _ refl (sum-capped (item_cost t f) (item_cost t g) item-capped _ _)))
       (λ y. rw y)
 
-module _ (t : List ℕ) (h : Layout) (laid : Laid t h) (below : ℕ → ℕ) (l : ℕ) where
-  pub absent-free : h.lists ≤ l → 0 ≡ list_cost t below l
+module _ (t : List ℕ) (below : ℕ → ℕ) (l : ℕ) where
+  pub absent-free : lists t ≤ l → 0 ≡ list_cost t below l
   unfolding list_cost
-  absent-free b = rw (le-ltb l (lists t) (omega arith))
+  absent-free b = rw (le-ltb l (lists t) b)
 
-  pub list-costs : (x : ListRead) → ListAt t l x → l < h.lists → list_cost t below l ≡ 1 + sum x.first_item x.item_count (item_cost t below)
+  pub list-costs : l < lists t → list_cost t below l ≡ 1 + sum (first_item t l) (item_count t l) (item_cost t below)
   unfolding list_cost
-  list-costs x read b = rw (lt-ltb l (lists t) (omega arith), read.first-item.value, read.item_count.value)
+  list-costs b = rw (lt-ltb l (lists t) b)
 
 -- A list's cost goes by the costs of the lists it names alone.
 
@@ -204,9 +201,9 @@ module _ (t depths costs : List ℕ) (d l w : ℕ) (is : w ≡ word depths l) wh
   cost-kept r e h = h ∙ sym (rw (ne_eqb (word depths l) (d + 1) (rw is at e)))
 
 -- B, where the loop begins
-pub bound-start : (t : List ℕ) (h : Layout) → Laid t h → capped (bound t) ≡ capped (0 + sum 0 (h.lists - 0) (cost_within 7 t))
+pub bound-start : (t : List ℕ) → capped (bound t) ≡ capped (0 + sum 0 (lists t - 0) (cost_within 7 t))
 unfolding bound
-bound-start t h laid = rw (laid.lists.value, sub-zero, zero-add)
+bound-start t = rw (sub-zero, zero-add)
 
 -- the cost of a list, as the array has it
 pub cost-is : (t costs : List ℕ) → Costs 7 t costs → Nested t → (l x : ℕ) → l < lists t → x ≡ cost_in costs l → capped x ≡ capped (cost_within 7 t l)

@@ -4,7 +4,6 @@ use Rattle.rulebook.specs.Words.{word}
 use Rattle.rulebook.specs.Expressions.{deepest}
 use Rattle.rulebook.specs.Reasons.{list_within, list_cost, cost_within}
 use Rattle.laws.specs.Facts.{Nested}
-use Rattle.words.specs.declared.sections.Layout.{Layout}
 use Rattle.nesting.specs.Depths.{Searched}
 
 abbrev pub capped : ℕ → ℕ
@@ -24,16 +23,16 @@ pub record Costs (d : ℕ) (t costs : List ℕ) : Type 0 where
   pub says : (l : ℕ) → list_within d t l ≡ true → word costs l ≡ capped (cost_within deepest t l)
 
 -- a table with the depths of its lists, and the costs of those that are at most d deep
-pub record Costed (d : ℕ) (t : List ℕ) (h : Layout) (depths costs : List ℕ) : Type 0 where
-  pub searched : Searched deepest t h depths
+pub record Costed (d : ℕ) (t depths costs : List ℕ) : Type 0 where
+  pub searched : Searched deepest t depths
   pub found : Costs d t costs
 
 -- the same, where a round is still to come
-pub record NextCosts (d : ℕ) (t : List ℕ) (h : Layout) (depths costs : List ℕ) : Type 0 where
-  pub costed : Costed d t h depths costs
+pub record NextCosts (d : ℕ) (t depths costs : List ℕ) : Type 0 where
+  pub costed : Costed d t depths costs
   pub shallow : d < 7
 
 -- a table whose lists keep rule 7, with their depths
-pub record Kept (t : List ℕ) (h : Layout) (depths : List ℕ) : Type 0 where
-  pub searched : Searched deepest t h depths
+pub record Kept (t depths : List ℕ) : Type 0 where
+  pub searched : Searched deepest t depths
   pub nested : Nested t

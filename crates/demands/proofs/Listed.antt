@@ -14,8 +14,9 @@ use Rattle.rulebook.specs.Listing.{shape_reason}
 use Rattle.laws.proofs.Tests.{and_left}
 use Rattle.text.proofs.Digits.{below}
 use Rattle.text.proofs.Lay.{front-laid, behind-laid}
-use Rattle.listing.specs.declared.reading.Reading.{Reading}
-use Rattle.listing.specs.declared.reading.Reading.TheVariants.{Words, Line, NoRoom}
+use Rattle.std.specs.Prelude.{Result, Ok, Err}
+use Rattle.listing.specs.declared.reading.Unread.{Unread}
+use Rattle.listing.specs.declared.reading.Unread.TheVariants.{Line, NoRoom}
 use Rattle.listing.specs.Lines.{listing, ListingOf}
 use Rattle.listing.specs.Promises.{list_answer, ListsIn, Reads, ReadsIn, read_number, words_of, line_in}
 use Rattle.listing.specs.Back.{longest}
@@ -94,8 +95,8 @@ module _ (t out : List ℕ) (k n : ℕ) (out' : List ℕ) (p : ListsIn t out k n
 -- a text read, by the cases of the answer
 
 module _ (text lent lent' : List ℕ) where
-  answered-by : (r : Reading) → Reads text lent r lent' → ReadAnswered text lent (read_number r) (words_of r) (line_in r) lent'
-  answered-by (Words n) x =
+  answered-by : (r : Result ℕ Unread) → Reads text lent r lent' → ReadAnswered text lent (read_number r) (words_of r) (line_in r) lent'
+  answered-by (Ok n) x =
       record {
         bad_line = λ e. absurd (omega arith);
         no_line = λ _. refl;
@@ -105,7 +106,7 @@ module _ (text lent lent' : List ℕ) where
         words_kept = λ r. absurd (r refl);
         no_words = λ r. absurd (r refl);
       }
-  answered-by (Line l) x =
+  answered-by (Err (Line l)) x =
       record {
         bad_line = λ _. x.bad;
         no_line = λ r. absurd (r refl);
@@ -115,7 +116,7 @@ module _ (text lent lent' : List ℕ) where
         words_kept = λ _. x.kept;
         no_words = λ _. refl;
       }
-  answered-by NoRoom x =
+  answered-by (Err NoRoom) x =
       record {
         bad_line = λ e. absurd (omega arith);
         no_line = λ _. refl;
@@ -126,18 +127,18 @@ module _ (text lent lent' : List ℕ) where
         no_words = λ _. refl;
       }
 
-  concluded-by : (r : Reading) → Reads text lent r lent' → OfReading text lent (read_number r) (words_of r) (line_in r) lent'
-  concluded-by (Words n) x =
+  concluded-by : (r : Result ℕ Unread) → Reads text lent r lent' → OfReading text lent (read_number r) (words_of r) (line_in r) lent'
+  concluded-by (Ok n) x =
       record {
-        answered = answered-by (Words n) x;
+        answered = answered-by (Ok n) x;
         words = λ _. rw (x.words, take_at x.table (drop n lent) n (sym x.count)) x.listed;
         behind = λ _. rw x.words (drop_at x.table (drop n lent) n (sym x.count));
         back = λ _ out k₂ m out' room q. lists_back text lent n lent' out k₂ m out' x q room;
       }
-  concluded-by (Line l) x =
-      record { answered = answered-by (Line l) x; words = λ e. absurd (omega arith); behind = λ e. absurd (omega arith); back = λ e. absurd (omega arith) }
-  concluded-by NoRoom x =
-      record { answered = answered-by NoRoom x; words = λ e. absurd (omega arith); behind = λ e. absurd (omega arith); back = λ e. absurd (omega arith) }
+  concluded-by (Err (Line l)) x =
+      record { answered = answered-by (Err (Line l)) x; words = λ e. absurd (omega arith); behind = λ e. absurd (omega arith); back = λ e. absurd (omega arith) }
+  concluded-by (Err NoRoom) x =
+      record { answered = answered-by (Err NoRoom) x; words = λ e. absurd (omega arith); behind = λ e. absurd (omega arith); back = λ e. absurd (omega arith) }
 
   pub of-reading : (k n l : ℕ) → ReadsIn text lent k n l lent' → OfReading text lent k n l lent'
   of-reading k n l p = rw (p.answer, p.count, p.line) (concluded-by p.reading p.reads)
@@ -146,6 +147,6 @@ pub read-answered : (text lent : List ℕ) (k n l : ℕ) (lent' : List ℕ) → 
 read-answered text lent k n l lent' p = (of-reading text lent lent' k n l p).answered
 
 -- the same over the answer itself
-pub of-read : (text lent : List ℕ) (r : Reading) (lent' : List ℕ) → Reads text lent r lent'
+pub of-read : (text lent : List ℕ) (r : Result ℕ Unread) (lent' : List ℕ) → Reads text lent r lent'
     → OfReading text lent (read_number r) (words_of r) (line_in r) lent'
 of-read text lent r lent' x = concluded-by text lent lent' r x

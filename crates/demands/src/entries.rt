@@ -12,26 +12,26 @@ ghost use Rattle.listing.specs.Promises.{listed_number, bytes_of as bytes_listed
 use buslog::reading::{Cursor, Step};
 use events::Answer;
 use hold::Held;
-use listing::reading::Reading;
-use listing::writing::Listed;
-use manager::{Fit, Played};
-use panel::Shown;
-use states::Made;
-use tables::Checked;
+use listing::reading::Unread;
+use listing::writing::NotListed;
+use manager::Played;
+use panel::NotShown;
+use states::{NotAdmitted, NotMade};
+use tables::Fault;
 
-pub fn check_table(t: &[u32]) -> Checked
+pub fn check_table(t: &[u32]) -> Result<u32, Fault>
     ensures { OfTable t.now (finding result).reason (finding result).place (finding result).bound }
 {
     manager::check_table(t)
 }
 
-pub fn make_fresh(t: &[u32], s: &mut [u32]) -> Made
+pub fn make_fresh(t: &[u32], s: &mut [u32]) -> Result<(), NotMade>
     ensures { OfFresh t.now s.old (made_number result) s.new }
 {
     manager::make_fresh(t, s)
 }
 
-pub fn check_state(t: &[u32], s: &[u32]) -> Fit
+pub fn check_state(t: &[u32], s: &[u32]) -> Result<(), NotAdmitted>
     ensures { OfState t.now s.now (state_number result) }
 {
     manager::check_state(t, s)
@@ -51,7 +51,7 @@ pub fn play(t: &[u32], s: &mut [u32], trace: &mut [u32], es: &[u32]) -> Played
     manager::play(t, s, trace, es)
 }
 
-pub fn show(o: u32, t: &[u32], s: &[u32], ws: &[u32], out: &mut [u8]) -> Shown
+pub fn show(o: u32, t: &[u32], s: &[u32], ws: &[u32], out: &mut [u8]) -> Result<usize, NotShown>
     ensures { OfPanel o t.now s.now ws.now out.old (panel_number result) (bytes_of result) out.new }
 {
     panel::show(o, t, s, ws, out)
@@ -78,13 +78,13 @@ pub fn part<'a>(held: Held, trace: &'a [u32], theirs: &'a [u32]) -> &'a [u32]
     hold::part(held, trace, theirs)
 }
 
-pub fn list(t: &[u32], out: &mut [u8]) -> Listed
+pub fn list(t: &[u32], out: &mut [u8]) -> Result<usize, NotListed>
     ensures { OfListing t.now out.old (listed_number result) (bytes_listed result) out.new }
 {
     listing::writing::list(t, out)
 }
 
-pub fn read(text: &[u8], words: &mut [u32]) -> Reading
+pub fn read(text: &[u8], words: &mut [u32]) -> Result<usize, Unread>
     ensures { OfReading text.now words.old (read_number result) (words_of result) (line_in result) words.new }
 {
     listing::reading::read(text, words)

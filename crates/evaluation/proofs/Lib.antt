@@ -4,4 +4,3 @@ pub mod Word
 pub mod Section
 pub mod Level
 pub mod Ready
-pub mod Ranges

@@ -1,5 +1,5 @@
 // Rule 5: each word of the table keeps its own field rules.
-#![tactic(auto)]
+#![tactic(auto, unfolding(rulebook::specs::Reasons::own_fields))]
 
 ghost use Rattle.std.specs.Prelude.{◌≡◌, length};
 ghost use Rattle.rulebook.specs.Table.{table_length, at_port, at_network, at_waits, at_source, at_expression, at_rule, at_list, at_item};
@@ -15,6 +15,7 @@ use words::numbers::{
 use words::parts::Part;
 use words::table::Table;
 
+#[tactic(auto, unfolding(rulebook::specs::Reasons::own_fields, rulebook::specs::Reasons::port_fields))]
 fn port_fields(t: &Table, p: u32) -> bool
     ensures { result ≡ own_fields t.now.words (at_port p) }
 {
@@ -46,6 +47,7 @@ fn source_fields(t: &Table, k: u32) -> bool
     t.source(k).zero == 0
 }
 
+#[tactic(auto, unfolding(rulebook::specs::Reasons::own_fields, rulebook::specs::Reasons::expression_fields, rulebook::specs::Expressions::operator))]
 fn expression_fields(t: &Table, e: u32) -> bool
     ensures { result ≡ own_fields t.now.words (at_expression e) }
 {
@@ -70,6 +72,7 @@ fn list_fields(t: &Table, l: u32) -> bool
     1 <= t.list(l).item_count
 }
 
+#[tactic(auto, unfolding(rulebook::specs::Reasons::own_fields, rulebook::specs::Reasons::item_fields))]
 fn item_fields(t: &Table, i: u32) -> bool
     ensures { result ≡ own_fields t.now.words (at_item i) }
 {

@@ -1,2 +1,1 @@
--- Laws of the bytes that stay in a block.
-pub mod Parts
+-- No lemma of its own.

@@ -16,7 +16,7 @@ pub fn say_bytes(rt: HostRuntime, what: &[u8]) {
     let _ = Print::write_all(&rt.stderr(), what);
 }
 
-// Room for the text of an error, and how much of it is laid. What has no room is left out.
+// Room for the text of an error, of its own since there is no heap, and how much of it is laid. What has no room is left out.
 #[derive(Drop)]
 struct Text {
     bytes: [u8; 320],

@@ -39,42 +39,47 @@ pub fn missing(rt: HostRuntime, why: FillError, name: &[u8], usage: &[u8]) {
     }
 }
 
-// Reads once, into the block from a place on: how many bytes, none of them at the file's end; nothing where the read fails, which is told.
-fn read_some(
-    rt: HostRuntime,
-    source: &fs::File,
-    name: &[u8],
-    block: &mut [u8],
-    from: usize,
-) -> Option<usize>
-    requires { from ≤ length block.old }
-    ensures read { IfSome result (λ n. from + n ≤ length block.old) }
-    ensures stay { take from block.new ≡ take from block.old }
-{
-    let mut reader = source;
-    told(rt, name, reader.read(&mut block[from..]))
+// A file that is open for reading, and the name by which a read that fails is told.
+#[derive(Clone, Copy)]
+pub struct Source<'a> {
+    pub file: &'a fs::File,
+    pub name: &'a [u8],
 }
 
-// Reads into the block from a place on until it is full or the file ends, so that only a file's last block can end inside a word, from a pipe
-// too. It counts the bytes before the place with those read. Nothing where a read fails, which is told; those before the place stay.
-fn fill(
-    rt: HostRuntime,
-    source: &fs::File,
-    name: &[u8],
-    block: &mut [u8],
-    from: usize,
-) -> Option<usize>
-    ensures { FillsIf from result block.old block.new }
-{
-    let mut bytes = from.min(block.len());
-    while bytes < block.len() {
-        let n = read_some(rt, source, name, block, bytes)?;
-        if n == 0 {
-            break;
-        }
-        bytes += n;
+impl Source<'_> {
+    // Reads once, into the block from a place on: how many bytes, none of them at the file's end; nothing where the read fails, which is told.
+    fn read_some(self, rt: HostRuntime, block: &mut [u8], from: usize) -> Option<usize>
+        requires { from ≤ length block.old }
+        ensures read { IfSome result (λ n. from + n ≤ length block.old) }
+        ensures stay { take from block.new ≡ take from block.old }
+    {
+        let mut reader = self.file;
+        told(rt, self.name, reader.read(&mut block[from..]))
     }
-    Some(bytes)
+
+    // Reads on behind the first `from` bytes of the block, which stay, until it is full or the file ends, so that only a file's last block can
+    // end inside a word, from a pipe too. It counts those bytes with those read. Nothing where a read fails, which is told.
+    pub fn read_on(self, rt: HostRuntime, block: &mut [u8], from: usize) -> Option<usize>
+        ensures { FillsIf from result block.old block.new }
+    {
+        let mut bytes = from.min(block.len());
+        // no `for`: each read says how far it came
+        while bytes < block.len() {
+            let n = self.read_some(rt, block, bytes)?;
+            if n == 0 {
+                break;
+            }
+            bytes += n;
+        }
+        Some(bytes)
+    }
+
+    // Reads the next block: no bytes at the file's end, and nothing where a read fails, which is told.
+    pub fn read_block(self, rt: HostRuntime, block: &mut [u8]) -> Option<usize>
+        ensures { IfSome result (λ n. IsPrefixLen n block.new) }
+    {
+        self.read_on(rt, block, 0)
+    }
 }
 
 // A file, how many bytes of the lent path name it, and how many of its own stand in the lent block.
@@ -114,38 +119,16 @@ pub fn open(
         }
     };
     let source = open_path(rt, &path[..named])?;
-    let bytes = fill(rt, &source, &path[..named], block, 0)?;
+    let first = Source {
+        file: &source,
+        name: &path[..named],
+    };
+    let bytes = first.read_block(rt, block)?;
     Some(File {
         source,
         named,
         bytes,
     })
-}
-
-// Reads the next block of the file with that name: no bytes at its end, and nothing where a read fails, which is told.
-pub fn read_block(
-    rt: HostRuntime,
-    source: &fs::File,
-    name: &[u8],
-    block: &mut [u8],
-) -> Option<usize>
-    ensures { IfSome result (λ n. IsPrefixLen n block.new) }
-{
-    fill(rt, source, name, block, 0)
-}
-
-// Reads the file with that name on behind the first `from` bytes of the block, which stay, and counts both; the count stays what it is where
-// the file ends. Nothing where a read fails, which is told.
-pub fn read_on(
-    rt: HostRuntime,
-    source: &fs::File,
-    name: &[u8],
-    block: &mut [u8],
-    from: usize,
-) -> Option<usize>
-    ensures { FillsIf from result block.old block.new }
-{
-    fill(rt, source, name, block, from)
 }
 
 // Writes to standard output; false where it cannot, which is told.

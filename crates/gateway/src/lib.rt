@@ -15,26 +15,25 @@ ghost use Rattle.gateway.specs.Version.{version};
 use buslog::reading as logs;
 use buslog::reading::Cursor;
 use listing::{reading, writing};
-use manager::Fit;
-use states::Made;
+use states::{NotAdmitted, NotMade};
 
-fn made_number(made: Made) -> u32
+fn made_number(made: Result<(), NotMade>) -> u32
     ensures { result ≡ made_number made }
 {
     match made {
-        Made::Done => 0,
-        Made::BadTable => 1,
-        Made::WrongLength => 2,
+        Ok(()) => 0,
+        Err(NotMade::BadTable) => 1,
+        Err(NotMade::WrongLength) => 2,
     }
 }
 
-fn fit_number(fit: Fit) -> u32
+fn fit_number(fit: Result<(), NotAdmitted>) -> u32
     ensures { result ≡ state_number fit }
 {
     match fit {
-        Fit::Fits => 0,
-        Fit::BadTable => 1,
-        Fit::Unfit => 2,
+        Ok(()) => 0,
+        Err(NotAdmitted::BadTable) => 1,
+        Err(NotAdmitted::UnfitState) => 2,
     }
 }
 
@@ -114,8 +113,7 @@ pub fn herringcart_play(
     *taken = played.taken;
     *count = played.count;
     *visits = played.visits;
-    let end = played.end;
-    manager::end_number(end)
+    manager::end_number(played.end)
 }
 
 // Shows an operator its panel: gives the answer, lays the lines at the front of the lent bytes and writes how many bytes they are, 0 in a
@@ -156,12 +154,11 @@ pub fn herringcart_hold(
         visits.new state.new trace.new }
 {
     let held = hold::hold(table, state, trace, outcomes, event, theirs, their_state);
-    let verdict = held.verdict;
-    *number = hold::given(verdict);
+    *number = hold::given(held.verdict);
     *rest = hold::part(held, trace, theirs).len();
     *count = held.count;
     *visits = held.visits;
-    hold::number(verdict)
+    hold::number(held.verdict)
 }
 
 // Lists a table as text: gives the answer, lays the lines at the front of the lent bytes and writes how many bytes they are, 0 in a refusal.
@@ -220,6 +217,5 @@ pub fn herringcart_read_log(
     *line = logs::refused_line(step);
     *events = step.events;
     *bytes = step.bytes;
-    let end = step.end;
-    logs::number(end)
+    logs::number(step.end)
 }

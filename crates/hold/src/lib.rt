@@ -7,7 +7,6 @@ ghost use Rattle.std.specs.Prelude.{◌≡◌, ◌≤◌, length, take, drop};
 ghost use Rattle.rulebook.specs.Hold.{parting as parting_of, beside};
 ghost use Rattle.hold.specs.Promises.{number_of, given_by, TellsVerdict, TellsStates, Holds, HandsBack};
 
-use events::Answer;
 
 // What is said of a supplier's recording: a refused event has our answer's number, the others the number of a word.
 #[derive(Clone, Copy, Debug, PartialEq, Eq)]
@@ -109,7 +108,7 @@ pub fn hold(
     let answer = manager::take_event(t, s, trace, outcomes, e);
     let count = events::count(answer);
     let visits = events::visits(answer);
-    let Answer::Done(_) = answer else {
+    let Ok(_) = answer else {
         return Held {
             verdict: Verdict::Refused(events::number(answer)),
             count,

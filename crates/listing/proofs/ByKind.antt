@@ -60,9 +60,6 @@ module _ (text : List ℕ) (at : ℕ) where
       let f = first g w e in
       (f.behind ++ rest, same ∙ rw f.same (append_assoc (decimal (field 0 4 w) ++ 32 ∷ []) f.behind rest))
 
-  pub other-form : (f : ℕ) → (f ≡ as_condition → ⊥) → KindAt text at f f
-  other-form f other = record { other = λ _. refl; told = λ e. absurd (other e); kept = λ e. absurd (other e) }
-
   module _ (f : ℕ) (is : f ≡ as_condition) where
     pub no_kind : ((v : ℕ) (rest : List ℕ) → v < 16 → drop at text ≡ (decimal v ++ 32 ∷ []) ++ rest → ⊥) → KindAt text at f as_condition
     no_kind none =

@@ -1,6 +1,6 @@
 -- Lines one behind the other: how long they are, what they leave of a room, and a listing laid. Assumes nothing.
 use Prim.Native.Nat.{ℕ, zero, suc, ◌+◌, ◌-◌, ◌*◌, ◌/◌, ◌^◌, ◌<◌, ◌≤◌}
-use mathlib.Core.Path.{◌≡◌, refl, sym, ap, subst, ◌∙◌}
+use mathlib.Core.Path.{◌≡◌, refl, sym, ap, ◌∙◌}
 use mathlib.Core.List.{List, [], ◌∷◌, ◌++◌}
 use native.Mathlib.Nat.{mod-lt, zero-add}
 use native.Mathlib.Numerals.{add-one}
@@ -9,24 +9,16 @@ use lib.ListN.{length, get_or, length-append}
 use lib.Pow.{pow_pos, pow_mono}
 use borrow.Author.Tests.{ne_eqb, lt-ltb, le-ltb}
 use Rattle.rulebook.specs.Words.{digit, field}
-use Rattle.rulebook.specs.Listing.{form, kind_form, by_kind, fields_from, fields_of, shape_reason}
+use Rattle.rulebook.specs.Listing.{form, fields_from, fields_of, shape_reason}
 use Rattle.text.specs.Puts.{Put, PutAt}
 use Rattle.text.proofs.Decimal.{decimal-within}
 use Rattle.text.proofs.Lay.{lay-none}
 use Rattle.text.proofs.Puts.{one-put, put-more, put-length}
 use Rattle.listing.specs.Lines.{spelt, line, line_at, first_lines, listing}
-use Rattle.listing.specs.Promises.{list_answer, ListsIn}
+use Rattle.listing.specs.declared.writing.NotListed.{NotListed}
+use Rattle.listing.specs.declared.writing.NotListed.TheVariants.{TooShort, WrongEdition, WrongCounts, WrongLength, NoRoom}
+use Rattle.listing.specs.Promises.{refusal_number, list_answer, ListsIn}
 use Rattle.listing.proofs.Widths.{short-name, few-fields, narrow}
-
--- the form of a line, by the form at its place and the word's kind
-pub form-of-line : {r g k w' : ℕ} (f w : ℕ) → r ≡ kind_form g k → g ≡ f → k ≡ field 0 4 w' → w' ≡ w → r ≡ by_kind f w
-form-of-line f w e a b c = e ∙ rw (a, b, c)
-
-pub same_line : {r w' : ℕ} (f w : ℕ) → r ≡ by_kind f w → w' ≡ w → line r w' ≡ line (by_kind f w) w
-same_line f w e b = rw (e, b)
-
-pub put_as : {xs ys out : List ℕ} {at n : ℕ} {o : List ℕ} → xs ≡ ys → PutAt xs out at n o → PutAt ys out at n o
-put_as {out = out} {at = at} {n = n} {o = o} e p = subst (λ (zs : List ℕ). PutAt zs out at n o) e p
 
 -- No line is longer than 47 bytes: 11 of the name, and six for each of six fields.
 
@@ -156,6 +148,13 @@ module _ (t : List ℕ) where
   left_end room left i e so = rw all_lines (rw e at so)
 
 -- the answers
+
+pub some-refusal : (n : NotListed) → refusal_number n ≡ 0 → ⊥
+some-refusal TooShort z = omega arith
+some-refusal WrongEdition z = omega arith
+some-refusal WrongCounts z = omega arith
+some-refusal WrongLength z = omega arith
+some-refusal NoRoom z = omega arith
 
 module _ (t out : List ℕ) where
   refused : (k : ℕ) → list_answer t (length out) ≡ k → (k ≡ 0 → ⊥) → ListsIn t out k 0 out

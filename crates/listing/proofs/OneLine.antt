@@ -1,11 +1,11 @@
 -- A line is its name and its fields; an expression's two forms have one name. Assumes nothing.
-use Prim.Native.Nat.{ℕ, ◌+◌, ◌-◌, ◌^◌, ◌<◌, ◌≤◌}
+use Prim.Native.Nat.{ℕ, ◌+◌, ◌-◌, ◌^◌, ◌<◌}
 use mathlib.Core.Path.{◌≡◌, sym, ap, ◌∙◌}
 use mathlib.Core.Bool.{Bool, true, false}
 use mathlib.Core.List.{List, ◌++◌, append_assoc}
 use native.Mathlib.Omega.{arith}
 use Rattle.std.specs.Prelude.{Option, Some, None}
-use lib.ListN.{length, take, drop, length-append, length-drop}
+use lib.ListN.{length, take, drop, length-drop}
 use lib.Seq.{drop-append_seam, drop-drop, take_all}
 use Rattle.std.specs.List.{starts_with}
 use Rattle.std.proofs.lemmas.Bool.Decides.{Decides-eqb}
@@ -54,9 +54,6 @@ module _ (text : List ℕ) (at f : ℕ) where
   no_name none w rest small same = none (spelt (fields_of (by_kind f w) w) ++ rest) (same ∙ line-parts f w rest)
 
   module _ (stands : Behind) where
-    pub name-inside : at ≤ length text → at + length name ≤ length text
-    name-inside h = omega (arith, sym (length-drop at text) ∙ ap length stands ∙ length-append name (drop (at + length name) text))
-
     module _ (g : ℕ) (by : KindAt text (at + length name) f g) where
       -- the form of any word whose fields stand there, in its form or in that by which they are read
 

@@ -1,10 +1,10 @@
 -- The words of a text that is a listing, written one after the other. Assumes nothing.
 use Prim.Native.Nat.{ℕ, suc, ◌+◌, ◌^◌, ◌<◌, ◌≤◌}
-use mathlib.Core.Path.{◌≡◌, refl, sym, ap, ◌∙◌}
+use mathlib.Core.Path.{◌≡◌, refl, sym, ◌∙◌}
 use mathlib.Core.List.{List, ◌++◌, append_assoc}
 use native.Mathlib.Numerals.{add-one}
 use native.Mathlib.Omega.{arith}
-use lib.ListN.{length, get_or, take, drop, set, length-append, length-drop}
+use lib.ListN.{length, get_or, take, drop, set}
 use lib.Seq.{length-take-le, get_or-take, take-suc, drop-cons, set_at, take_all}
 use Rattle.rulebook.specs.Words.{word}
 use Rattle.rulebook.specs.Table.{table_length}
@@ -47,11 +47,6 @@ module _ (text table lent : List ℕ) (is : ListingOf text table) (room : length
 
     pub long-header : length table ≡ table_length header
     long-header = long table is.listable ∙ sym (long_same header table heads)
-
-    pub length-after : length after ≡ length lent
-    length-after =
-        let front : length (take i table) ≡ i = length-take-le i table s.to in
-        ap length s.words ∙ simp (length-append, length-drop) (rw front (omega (arith, s.to)))
 
     module _ (more : i < length table) where
       line-there : (rest : List ℕ) × (drop at text ≡ line (by_kind (form_at header i) (word table i)) (word table i) ++ rest)

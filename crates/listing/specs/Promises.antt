@@ -15,13 +15,16 @@ list_answer t room = cond (not (eqb (shape_reason t) 0)) (shape_reason t) (cond 
 
 -- the answers in document 02's numbers, and how many bytes were laid
 
+abbrev pub refusal_number : NotListed → ℕ
+refusal_number TooShort = 1
+refusal_number WrongEdition = 2
+refusal_number WrongCounts = 3
+refusal_number WrongLength = 4
+refusal_number NoRoom = 11
+
 abbrev pub listed_number : Result ℕ NotListed → ℕ
 listed_number (Ok n) = 0
-listed_number (Err TooShort) = 1
-listed_number (Err WrongEdition) = 2
-listed_number (Err WrongCounts) = 3
-listed_number (Err WrongLength) = 4
-listed_number (Err NoRoom) = 11
+listed_number (Err e) = refusal_number e
 
 abbrev pub bytes_of : Result ℕ NotListed → ℕ
 bytes_of (Ok n) = n

@@ -1,14 +1,14 @@
 // The forms of lines: a section's name and the sizes of a word's fields. This one description serves writing and reading.
 ghost use Rattle.std.specs.Prelude.{◌≡◌, ◌+◌, ◌<◌, ◌≤◌, cond, length, ltb};
 ghost use Rattle.rulebook.specs.Listing.{form, kind_form, form_at, place_form};
-ghost use Rattle.words.specs.Sections.{Laid, Inside};
+ghost use Rattle.rulebook.specs.Table.{table_length};
 ghost use Rattle.words.specs.Parts.{part_of};
 ghost use Rattle.listing.specs.Forms.{form_number};
 ghost use Rattle.listing.specs.Inside.{sizes_of, OnHeader};
 
-use words::parts::{Part, part_at};
-use words::sections::Layout;
-use words::table::is_operator;
+use words::expressions::is_operator;
+use words::parts::Part;
+use words::table::Table;
 
 // The header's three lines have a form each, a network two lines, an expression's line one of two forms, and an item's one for each edition.
 #[derive(Clone, Copy, Debug, PartialEq, Eq)]
@@ -81,9 +81,9 @@ pub fn of_header(i: usize) -> Form
 
 // The form at a place, by its part. The edition is asked for here and nowhere else.
 #[tactic(auto, unfolding(rulebook::specs::Listing::place_form))]
-fn place_form(t: &[u32], h: Layout, i: usize, part: Part) -> Form
-    requires { Laid t.now h × OnHeader i (part_of part) }
-    ensures { form_number result ≡ place_form t.now i (part_of part) }
+fn place_form(t: &Table, i: usize, part: Part) -> Form
+    requires { OnHeader i (part_of part) }
+    ensures { form_number result ≡ place_form t.now.words i (part_of part) }
 {
     match part {
         Part::Header => of_header(i),
@@ -95,7 +95,7 @@ fn place_form(t: &[u32], h: Layout, i: usize, part: Part) -> Form
         Part::Rule(_) => Form::Rule,
         Part::List(_) => Form::List,
         Part::Item(_) => {
-            if h.second {
+            if t.is_second_edition() {
                 Form::SecondItem
             } else {
                 Form::FirstItem
@@ -105,12 +105,11 @@ fn place_form(t: &[u32], h: Layout, i: usize, part: Part) -> Form
 }
 
 #[tactic(auto, unfolding(rulebook::specs::Listing::form_at))]
-pub fn form_at(t: &[u32], h: Layout, i: usize) -> Form
-    requires { Inside t.now h h.length i }
-    ensures { form_number result ≡ form_at t.now i }
+pub fn form_at(t: &Table, i: usize) -> Form
+    requires { i < table_length t.now.words }
+    ensures { form_number result ≡ form_at t.now.words i }
 {
-    let part = part_at(t, h, i);
-    place_form(t, h, i, part)
+    place_form(t, i, t.part(i))
 }
 
 // The form of a line, by the form at its place: an expression of an operator's kind has an operator's.

@@ -8,7 +8,7 @@ ghost use Rattle.listing.specs.Promises.{read_number, words_of, line_in, ReadsWo
 use crate::forms::{Form, ending, form_at, name, of_header, of_kind, sizes};
 use tables::sound_header;
 use text::input::byte;
-use words::sections::read_layout;
+use words::table::Table;
 
 // The value of the decimal digit at a place.
 fn digit(text: &[u8], at: usize) -> Option<u32>
@@ -31,6 +31,7 @@ fn read_number(text: &[u8], at: usize, size: u32, end: u8) -> Option<(u32, usize
     }
     let mut value: u32 = 0;
     let mut p = at;
+    // p is read again behind the digits, so a `for` over the text would carry it too
     while let Some(d) = digit(text, p) {
         value = value * 10 + d;
         if size <= value {
@@ -113,11 +114,11 @@ fn scan_lines(text: &[u8], from: usize, header: &[u32]) -> Result<usize, usize>
     requires { Opened text.now header.now from }
     ensures { Scans text.now header.now result }
 {
-    let h = read_layout(header);
-    let n = h.length;
+    let t = Table::read(header);
+    let n = t.length();
     let mut at = from;
     for i in 3..n {
-        let (_, next) = read_line(text, at, form_at(header, h, i)).ok_or(i + 1)?;
+        let (_, next) = read_line(text, at, form_at(&t, i)).ok_or(i + 1)?;
         at = next;
     }
     if at < text.len() {
@@ -131,10 +132,10 @@ fn read_words(text: &[u8], header: &[u32], n: usize, words: &mut [u32])
     requires { Told text.now header.now words.old n }
     ensures { ReadsWords text.now words.old n words.new }
 {
-    let h = read_layout(header);
+    let t = Table::read(header);
     let mut at = 0;
     for i in 0..n {
-        let line = read_line(text, at, form_at(header, h, i));
+        let line = read_line(text, at, form_at(&t, i));
         let (w, next) = line.unwrap();
         words[i] = w;
         at = next;

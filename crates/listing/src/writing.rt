@@ -1,19 +1,19 @@
 // A table's listing laid into lent bytes: refused with reason 1 to 4 where one holds, then where the bytes are too few, and then nothing is written.
 ghost use Rattle.std.specs.Prelude.{◌≡◌, ◌+◌, ◌<◌, ◌≤◌, length};
 ghost use Rattle.text.specs.Puts.{PutAt};
-ghost use Rattle.tables.specs.Finding.{shape_number};
-ghost use Rattle.words.specs.Sections.{Whole};
+ghost use Rattle.tables.specs.Finding.{fault_of, fault_finding};
 ghost use Rattle.rulebook.specs.Listing.{fields_of};
+ghost use Rattle.rulebook.specs.Table.{table_length};
 ghost use Rattle.listing.specs.Forms.{form_number};
 ghost use Rattle.listing.specs.Lines.{spelt, line, line_at, listing};
-ghost use Rattle.listing.specs.Promises.{listed_number, bytes_of as bytes_in, Lists};
+ghost use Rattle.listing.specs.Promises.{refusal_number, listed_number, bytes_of as bytes_in, Lists};
 ghost use Rattle.listing.specs.Inside.{Leaves};
 
 use crate::forms::{Form, ending, form_at, name, of_kind, sizes};
-use tables::Shape;
+use tables::Misshapen;
 use text::output::{put_decimal, put_label};
-use words::sections::Layout;
-use words::table::expression_kind;
+use words::expressions::expression_kind;
+use words::table::Table;
 use words::word;
 
 // Lays a word's fields, spelt in a form. What is above a field in the word is a multiple of unit times size.
@@ -42,37 +42,37 @@ fn lay_form(out: &mut [u8], at: usize, f: Form, w: u32) -> usize
 }
 
 // Lays the line of the word at a place.
-fn lay_line(out: &mut [u8], at: usize, t: &[u32], h: Layout, i: usize) -> usize
-    requires { Whole t.now h × (i < length t.now) × (at + length (line_at t.now i) ≤ length out.old) }
-    ensures { PutAt (line_at t.now i) out.old at result out.new }
+fn lay_line(out: &mut [u8], at: usize, t: &Table, i: usize) -> usize
+    requires { (i < table_length t.now.words) × (at + length (line_at t.now.words i) ≤ length out.old) }
+    ensures { PutAt (line_at t.now.words i) out.old at result out.new }
 {
-    let w = word(t, i);
-    let f = of_kind(form_at(t, h, i), expression_kind(w));
+    let w = word(t.words(), i);
+    let f = of_kind(form_at(t, i), expression_kind(w));
     lay_form(out, at, f, w)
 }
 
 // What a listing leaves of a room, or None where it does not fit: each line is laid into bytes of our own for its length.
-fn listing_room(t: &[u32], h: Layout, room: usize) -> Option<usize>
-    requires { Whole t.now h }
-    ensures { Leaves (listing t.now) room result }
+fn listing_room(t: &Table, room: usize) -> Option<usize>
+    requires { table_length t.now.words ≡ length t.now.words }
+    ensures { Leaves (listing t.now.words) room result }
 {
     let mut left = room;
-    for i in 0..t.len() {
+    for i in 0..t.length() {
         let mut bytes = [0u8; 64];
-        let long = lay_line(&mut bytes, 0, t, h, i);
+        let long = lay_line(&mut bytes, 0, t, i);
         left = left.checked_sub(long)?;
     }
     Some(left)
 }
 
 // Lays a whole listing at the front.
-fn lay_listing(out: &mut [u8], t: &[u32], h: Layout) -> usize
-    requires { Whole t.now h × (length (listing t.now) ≤ length out.old) }
-    ensures { PutAt (listing t.now) out.old 0 result out.new }
+fn lay_listing(out: &mut [u8], t: &Table) -> usize
+    requires { (table_length t.now.words ≡ length t.now.words) × (length (listing t.now.words) ≤ length out.old) }
+    ensures { PutAt (listing t.now.words) out.old 0 result out.new }
 {
     let mut next = 0;
-    for i in 0..t.len() {
-        next = lay_line(out, next, t, h, i);
+    for i in 0..t.length() {
+        next = lay_line(out, next, t, i);
     }
     next
 }
@@ -85,6 +85,19 @@ pub enum NotListed {
     WrongCounts,
     WrongLength,
     NoRoom,
+}
+
+impl From<Misshapen> for NotListed {
+    ghost from_gives = { λ m n. refusal_number n ≡ (fault_finding (fault_of m)).reason };
+
+    fn from(misshapen: Misshapen) -> NotListed {
+        match misshapen {
+            Misshapen::TooShort => NotListed::TooShort,
+            Misshapen::WrongEdition => NotListed::WrongEdition,
+            Misshapen::WrongCounts => NotListed::WrongCounts,
+            Misshapen::WrongLength => NotListed::WrongLength,
+        }
+    }
 }
 
 // An answer's number.
@@ -108,29 +121,13 @@ pub fn bytes(listed: Result<usize, NotListed>) -> usize
     listed.unwrap_or(0)
 }
 
-// The answer where reason 1 to 4 holds.
-fn misshapen(shape: Shape) -> Result<usize, NotListed>
-    ensures { (listed_number result ≡ shape_number shape) × (bytes_in result ≡ 0) }
-{
-    match shape {
-        Shape::Shaped(_) => Ok(0),
-        Shape::TooShort => Err(NotListed::TooShort),
-        Shape::WrongEdition => Err(NotListed::WrongEdition),
-        Shape::WrongCounts => Err(NotListed::WrongCounts),
-        Shape::WrongLength => Err(NotListed::WrongLength),
-    }
-}
-
 // Lays a table's listing at the front of the lent bytes and answers how many they are, or refuses and changes none of them.
-pub fn list(t: &[u32], out: &mut [u8]) -> Result<usize, NotListed>
-    ensures { Lists t.now out.old result out.new }
+pub fn list(words: &[u32], out: &mut [u8]) -> Result<usize, NotListed>
+    ensures { Lists words.now out.old result out.new }
 {
-    let shape = tables::check_shape(t);
-    let Shape::Shaped(h) = shape else {
-        return misshapen(shape);
-    };
-    let Some(_) = listing_room(t, h, out.len()) else {
+    let t = tables::check_shape(words)?;
+    let Some(_) = listing_room(&t, out.len()) else {
         return Err(NotListed::NoRoom);
     };
-    Ok(lay_listing(out, t, h))
+    Ok(lay_listing(out, &t))
 }

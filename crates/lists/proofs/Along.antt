@@ -13,9 +13,12 @@ use Rattle.laws.proofs.Frame.{Framed, afresh, framed-words}
 use Rattle.lists.specs.declared.Written.{Written}
 use Rattle.lists.specs.Runs.{Safe, Ran, Addable, nothing, plus}
 
--- a run that starts in the state s, where `read` of the outcomes os are read
-abbrev pub begin : List ℕ → ℕ → List ℕ → Run
-begin os read s = start (drop read os) s
+-- the outcomes behind the first n, as the code lends them
+abbrev pub unread : List ℕ → ℕ → List ℕ
+unread os n = mid_of n (length os - n) os
+
+pub unread-is : (os : List ℕ) (n : ℕ) → unread os n ≡ drop n os
+unread-is os n = take_all (length os - n) (drop n os) (let e : length (drop n os) ≡ length os - n = length-drop n os in omega arith)
 
 -- the run so far, which has written w: the state s, as its words the first ones of the trace T, the outcomes behind those read, and the visits
 abbrev pub sofar : List ℕ → List ℕ → List ℕ → Written → Run
@@ -26,6 +29,7 @@ pub record Along (os : List ℕ) (whole : Run) (rest : Run → Run) (before s T 
   pub run : whole ≡ rest (sofar os s T w)
   pub kept : drop w.count T ≡ drop w.count before
   pub inside : w.count ≤ length T
+  pub read : w.read ≤ length os
   pub long : length T ≡ length before
 
 same-run : (x : Run) (s w u : List ℕ) (n : ℕ) → x.state ≡ s → x.words ≡ w → x.outcomes ≡ u → x.visits ≡ n
@@ -51,18 +55,17 @@ module _ (whole : Run) (rest : Run → Run) (framed : Framed rest) (x : Run) (ru
   begin-safe = record { room = begin-room; few = (let h = begin-few in omega arith) }
 
 -- nothing has run yet
-pub along-none : (os : List ℕ) (read : ℕ) (whole : Run) (rest : Run → Run) (s T : List ℕ) → whole ≡ rest (begin os read s)
-    → Along os whole rest T s T (nothing read)
-along-none os read whole rest s T h = record { run = h; kept = refl; inside = omega arith; long = refl }
+pub along-none : (os : List ℕ) (whole : Run) (rest : Run → Run) (s T : List ℕ) → whole ≡ rest (start os s) → Along os whole rest T s T nothing
+along-none os whole rest s T h = record { run = h; kept = refl; inside = omega arith; read = omega arith; long = refl }
 
 -- a run that only changes the state
-pub ran-none : (os : List ℕ) (read : ℕ) (s T : List ℕ) → Ran os (begin os read s) s T T (nothing read)
-ran-none os read s T = record { state = refl; words = refl; count = refl; outcomes = refl; visits = refl }
+pub ran-none : (os s T : List ℕ) → Ran os (start os s) s T T nothing
+ran-none os s T = record { state = refl; words = refl; count = refl; outcomes = refl; inside = omega arith; visits = refl }
 
 -- what is still to run may be said in another way
 pub along-as : (os : List ℕ) (whole : Run) (rest other : Run → Run) (before s T : List ℕ) (w : Written) → rest (sofar os s T w) ≡ other (sofar os s T w)
     → Along os whole rest before s T w → Along os whole other before s T w
-along-as os whole rest other before s T w h a = record { run = a.run ∙ h; kept = a.kept; inside = a.inside; long = a.long }
+along-as os whole rest other before s T w h a = record { run = a.run ∙ h; kept = a.kept; inside = a.inside; read = a.read; long = a.long }
 
 -- nothing is left to run
 pub along-end : (os : List ℕ) (whole : Run) (rest : Run → Run) (before s T : List ℕ) (w : Written) → ((x : Run) → rest x ≡ x)
@@ -76,15 +79,18 @@ along-end os whole rest before s T w h a =
       words = rw (n, ← a.kept) (sym (take-append-drop w.count T));
       count = sym n;
       outcomes = refl;
+      inside = a.read;
       visits = refl;
     })
 
--- what was written in two parts is counted in 64 bits, for the trace is, and its visits in 32, for those of the whole run are
+-- what was written in two parts is counted in 64 bits, for the trace is, so what was read, for the outcomes are, and its visits in 32, for those of the whole run are
 pub along-addable : (os : List ℕ) (whole : Run) (rest : Run → Run) → Framed rest → (before s T : List ℕ) (a b : Written)
-    → Along os whole rest before s T (plus a b) → Safe whole before → length before < 18446744073709551616 → Addable a b
-along-addable os whole rest framed before s T a b x safe h =
+    → Along os whole rest before s T (plus a b) → Safe whole before → length before < 18446744073709551616 → length os < 18446744073709551616
+    → Addable a b
+along-addable os whole rest framed before s T a b x safe h g =
     record {
       count = omega (arith, x.inside, x.long);
+      read = omega (arith, x.read);
       visits = (let f = begin-few whole rest framed (sofar os s T (plus a b)) x.run before safe in omega arith);
     }
 
@@ -104,6 +110,7 @@ along-ran os whole rest framed x run before s T w safe r =
           (sym r.outcomes) (sym r.visits));
       kept = ap (drop w.count) e ∙ drop_at x.words (drop w.count before) w.count m;
       inside = omega arith;
+      read = r.inside;
       long = omega arith;
     }
 
@@ -117,7 +124,7 @@ module _ (os : List ℕ) (whole : Run) (f rest : Run → Run) (ff : Framed f) (f
   part = mid_of at (length T - at) T
 
   part-is : part ≡ drop at T
-  part-is = take_all (length T - at) (drop at T) (let e : length (drop at T) ≡ length T - at = length-drop at T in omega arith)
+  part-is = unread-is T at
 
   none_after : drop (length T - at) (drop at T) ≡ []
   none_after = drop_of_length-le (drop at T) {i = length T - at} (let e : length (drop at T) ≡ length T - at = length-drop at T in omega arith)
@@ -153,7 +160,7 @@ module _ (os : List ℕ) (whole : Run) (f rest : Run → Run) (ff : Framed f) (f
         few = next-few;
       }
 
-  module _ (s' part' : List ℕ) (v : Written) (r : Ran os (f (afresh here)) s' part part' v) where
+  module _ (s' part' : List ℕ) (v : Written) (r : Ran (drop w.read os) (f (afresh here)) s' part part' v) where
     abbrev n : ℕ
     n = v.count
 
@@ -188,13 +195,14 @@ module _ (os : List ℕ) (whole : Run) (f rest : Run → Run) (ff : Framed f) (f
         rw whole_again
         (record {
           run = a.run
-              ∙ ap rest (same-run (f here) s' (take (at + n) (done ++ drop (at + n) T)) (drop v.read os) (w.visits + v.visits)
+              ∙ ap rest (same-run (f here) s' (take (at + n) (done ++ drop (at + n) T)) (drop (w.read + v.read) os) (w.visits + v.visits)
               (ap (λ (y : Run). y.state) (ff here) ∙ sym r.state)
               (next-words ∙ sym (take_at done (drop (at + n) T) (at + n) done-long))
-              (ap (λ (y : Run). y.outcomes) (ff here) ∙ sym r.outcomes)
+              (ap (λ (y : Run). y.outcomes) (ff here) ∙ sym r.outcomes ∙ drop-drop v.read w.read os)
               (next-visits ∙ ap (λ (k : ℕ). w.visits + k) (sym r.visits)));
           kept = drop_at done (drop (at + n) T) (at + n) done-long ∙ sym (drop-drop n at T) ∙ ap (drop n) a.kept ∙ drop-drop n at before;
           inside = omega arith;
+          read = (let left : length (drop w.read os) ≡ length os - w.read = length-drop w.read os in let h = a.read in let k = r.inside in omega arith);
           long = omega arith;
         })
 

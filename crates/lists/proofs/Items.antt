@@ -3,10 +3,10 @@ use Prim.Native.Nat.{ℕ, zero, suc, ◌+◌, ◌-◌, ◌≤◌, ◌<◌}
 use mathlib.Core.Path.{◌≡◌, refl, sym, ap, ◌∙◌}
 use mathlib.Core.Bool.{Bool, true, false, ◌&&◌, and-false}
 use mathlib.Core.List.{List, [], ◌∷◌}
-use native.Mathlib.Nat.{add-zero, zero-add}
+use native.Mathlib.Nat.{zero-add}
 use native.Mathlib.Omega.{arith}
-use lib.ListN.{length, drop, set, get_or, drop_of_length-le}
-use lib.Seq.{drop-drop, get_or-drop}
+use Rattle.std.specs.Prelude.{min}
+use lib.ListN.{length, drop, set}
 use lib.Dec.{eqb}
 use borrow.Author.Tests.{eq-eqb, ne_eqb}
 use Rattle.rulebook.specs.Words.{word, until}
@@ -23,7 +23,6 @@ use Rattle.words.specs.declared.sections.Item.{Item}
 use Rattle.words.specs.declared.sections.List.{List as ListRead}
 use Rattle.words.specs.Sections.{ItemAt, ListAt}
 use Rattle.lists.specs.Runs.{Safe, Ran, ReadOn, Stops, one_word}
-use Rattle.lists.proofs.Along.{begin}
 
 -- a run of one word, written at the front of the trace
 first_word : (T : List ℕ) (w : ℕ) → 1 ≤ length T → set T 0 w ≡ w ∷ drop 1 T
@@ -31,8 +30,8 @@ first_word [] w h = absurd (omega arith)
 first_word (x ∷ T) w h = refl
 
 pub one-ran : (os : List ℕ) (read visits : ℕ) (x : Run) (s T T' : List ℕ) (w : ℕ) → x.words ≡ w ∷ [] → Safe x T → s ≡ x.state → T' ≡ set T 0 w
-    → drop read os ≡ x.outcomes → visits ≡ x.visits → Ran os x s T T' (one_word read visits)
-one-ran os read visits x s T T' w hw safe hs h_t ho hv =
+    → drop read os ≡ x.outcomes → read ≤ length os → visits ≡ x.visits → Ran os x s T T' (one_word read visits)
+one-ran os read visits x s T T' w hw safe hs h_t ho hr hv =
     let l : length x.words ≡ 1 = ap length hw in
     let r : length x.words ≤ length T = safe.room in
     record {
@@ -40,6 +39,7 @@ one-ran os read visits x s T T' w hw safe hs h_t ho hv =
       words = rw (l, hw) (h_t ∙ first_word T w (omega arith));
       count = sym l;
       outcomes = ho;
+      inside = hr;
       visits = hv;
     }
 
@@ -60,14 +60,14 @@ module _ (t : List ℕ) (i : ℕ) (x : Item) (is : ItemAt t i x) where
   act-word o v os s hv = rw (hv, kind-is, names-it, is.b.value)
 
   -- the outcomes that it leaves
-  pub act-outcomes : (o : ℕ) (os : List ℕ) (read r : ℕ) (s : List ℕ) → ReadOn k os read r → drop r os ≡ (act t o i (begin os read s)).outcomes
+  pub act-outcomes : (o : ℕ) (os : List ℕ) (r : ℕ) (s : List ℕ) → ReadOn k os r → drop r os ≡ (act t o i (start os s)).outcomes
   unfolding act unread
-  act-outcomes o os read r s h = rw kind-is at h
+  act-outcomes o os r s h = rw kind-is at h.left
 
   -- whether it stops its list, by the outcome that is next
-  pub stops-by : (os : List ℕ) (read : ℕ) (b : Bool) → b ≡ (eqb k 0 && eqb x.abort 1 && eqb (get_or os read 0) 1) → Stops t i os read b
+  pub stops-by : (os : List ℕ) (b : Bool) → b ≡ (eqb k 0 && eqb x.abort 1 && eqb (word os 0) 1) → Stops t i os b
   unfolding stops
-  stops-by os read b hb y h = rw (h, get_or-drop, add-zero, ← kind-is, ← is.abort.value) (sym hb)
+  stops-by os b hb y h = rw (h, ← kind-is, ← is.abort.value) (sym hb)
 
   module _ (d o : ℕ) (y : Run) where
     pub runs-list : k ≡ 5 → run_item (run_list d t) t o i y ≡ run_list d t x.a y
@@ -123,24 +123,21 @@ pub act-state : (t : List ℕ) (o i : ℕ) (os s : List ℕ) → effect t i s �
 unfolding act
 act-state t o i os s = refl
 
--- An outcome past the end is good, and reading there reads nothing.
-module _ (os : List ℕ) (read : ℕ) (h : length os ≤ read) where
-  none_left : (n : ℕ) → read ≤ n → drop n os ≡ []
-  none_left n g = drop_of_length-le os {i = n} (omega arith)
+-- a call reads the next outcome, where there is one
+next-read : (os : List ℕ) → drop (min (length os) 1) os ≡ drop 1 os
+next-read [] = refl
+next-read (x ∷ os) = let e : min (length (x ∷ os)) 1 ≡ 1 = omega arith in rw e
 
-  pub reads-past : (k : ℕ) → k ≡ 0 → ReadOn k os read read
-  reads-past k e = rw (e, drop-drop, none_left read (omega arith), none_left (read + 1) (omega arith))
+pub reads-next : (os : List ℕ) (k r : ℕ) → k ≡ 0 → r ≡ min (length os) 1 → ReadOn k os r
+reads-next os k r e h = record { left = rw (e, h) (next-read os); inside = omega arith }
 
-pub reads_none : (os : List ℕ) (read k : ℕ) → (k ≡ 0 → ⊥) → ReadOn k os read read
-reads_none os read k n = rw (ne_eqb k 0 n)
-
-pub reads-next : (os : List ℕ) (read k : ℕ) → k ≡ 0 → ReadOn k os read (read + 1)
-reads-next os read k e = rw (e, drop-drop)
+pub reads_none : (os : List ℕ) (k : ℕ) → (k ≡ 0 → ⊥) → ReadOn k os 0
+reads_none os k n = record { left = rw (ne_eqb k 0 n); inside = omega arith }
 
 -- an outcome that does not say failed stops no list, whatever the item is
-pub good-next : (t os : List ℕ) (i read w : ℕ) → w ≡ word os read → (w ≡ 1 → ⊥) → Stops t i os read false
+pub good-next : (t os : List ℕ) (i w : ℕ) → w ≡ word os 0 → (w ≡ 1 → ⊥) → Stops t i os false
 unfolding stops
-good-next t os i read w is n x e = rw (e, get_or-drop, add-zero, ne_eqb (word os read) 1 (λ z. n (is ∙ z)), and-false)
+good-next t os i w is n x e = rw (e, ne_eqb (word os 0) 1 (λ z. n (is ∙ z)), and-false)
 
 -- The items from `first` up to `end` of a list of owner o, as the rulebook's `run_items` goes through them; a list that they name has d
 -- levels left.

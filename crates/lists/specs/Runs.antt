@@ -17,29 +17,31 @@ pub record Ran (os : List ℕ) (x : Run) (s before after : List ℕ) (w : Writte
   pub words : after ≡ x.words ++ drop (length x.words) before
   pub count : w.count ≡ length x.words
   pub outcomes : drop w.read os ≡ x.outcomes
+  pub inside : w.read ≤ length os
   pub visits : w.visits ≡ x.visits
 
--- What is written is counted from nothing, by one word, and by what one run writes after another; the outcomes read are those read last; the
--- visits are all that were made.
+-- What is written and read is counted from nothing, by one word, and by what one run does after another; the visits are all that were made.
 
-abbrev pub nothing : ℕ → Written
-nothing read = record { count = 0; read = read; visits = 0 }
+abbrev pub nothing : Written
+nothing = record { count = 0; read = 0; visits = 0 }
 
 abbrev pub one_word : ℕ → ℕ → Written
 one_word read visits = record { count = 1; read = read; visits = visits }
 
 abbrev pub plus : Written → Written → Written
-plus a b = record { count = a.count + b.count; read = b.read; visits = a.visits + b.visits }
+plus a b = record { count = a.count + b.count; read = a.read + b.read; visits = a.visits + b.visits }
 
 -- asked before they are added: the sums are numbers of 64 and of 32 bits
 pub record Addable (a b : Written) : Type 0 where
   pub count : a.count + b.count < 18446744073709551616
+  pub read : a.read + b.read < 18446744073709551616
   pub visits : a.visits + b.visits < 4294967296
 
--- What an item does with the outcomes, of which `read` are read: r are read after one of this kind, and whether it stops its list.
+-- What an item does with the outcomes that are left: so many are read after one of this kind, and whether it stops its list.
 
-abbrev pub ReadOn : ℕ → List ℕ → ℕ → ℕ → Type 0
-ReadOn kind os read r = drop r os ≡ cond (eqb kind item_call) (drop 1 (drop read os)) (drop read os)
+pub record ReadOn (kind : ℕ) (os : List ℕ) (r : ℕ) : Type 0 where
+  pub left : drop r os ≡ cond (eqb kind item_call) (drop 1 os) os
+  pub inside : r ≤ length os
 
-abbrev pub Stops : List ℕ → ℕ → List ℕ → ℕ → Bool → Type 0
-Stops t i os read r = (x : Run) → x.outcomes ≡ drop read os → stops t i x ≡ r
+abbrev pub Stops : List ℕ → ℕ → List ℕ → Bool → Type 0
+Stops t i os r = (x : Run) → x.outcomes ≡ os → stops t i x ≡ r

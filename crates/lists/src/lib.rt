@@ -1,7 +1,7 @@
 // Lists: what each item does, the trace words, and a list run with the lists and rules that it names.
 #![tactic(auto)]
 
-ghost use Rattle.std.specs.Prelude.{◌≡◌, true, [], drop};
+ghost use Rattle.std.specs.Prelude.{◌≡◌, true, []};
 ghost use Rattle.rulebook.specs.Lists.{start, trace_word, effect as effect_of, network_in, asking, set_network, choice_in, act as act_of, judge as judge_of};
 ghost use Rattle.rulebook.specs.Lists.{run_list, run_item, run_rule};
 ghost use Rattle.rulebook.specs.Reasons.{rule_nests, item_nests, list_within};
@@ -16,8 +16,8 @@ use words::state::{Network, set_port};
 use words::table::Table;
 use words::{put, state, word};
 
-// What a run has written, counted from nothing, by one word, and by what one run writes after another; how many of the lent outcome words
-// are read by then; and how many expression words its evaluations have visited.
+// What a run has written and read, counted from nothing, by one word, and by what one run does after another: the trace words, the lent
+// outcome words, and the expression words that its evaluations have visited.
 #[derive(Clone, Copy)]
 pub struct Written {
     pub count: usize,
@@ -26,12 +26,12 @@ pub struct Written {
 }
 
 impl Written {
-    pub fn nothing(read: usize) -> Written
-        ensures { result ≡ nothing_written read }
+    pub fn nothing() -> Written
+        ensures { result ≡ nothing_written }
     {
         Written {
             count: 0,
-            read,
+            read: 0,
             visits: 0,
         }
     }
@@ -52,7 +52,7 @@ impl Written {
     {
         Written {
             count: self.count + more.count,
-            read: more.read,
+            read: self.read + more.read,
             visits: self.visits + more.visits,
         }
     }
@@ -89,43 +89,35 @@ fn effect(t: &Table, i: u32, s: &mut [u32])
     }
 }
 
-// Of the outcome words, how many are read once an item of this kind has run: a call reads the next one, where there is one.
-fn read_on(kind: u32, outcomes: &[u32], read: usize) -> usize
-    ensures { ReadOn kind outcomes.now read result }
+// How many of the outcome words that are left an item of this kind reads: a call the next one, where there is one.
+fn read_by(kind: u32, outcomes: &[u32]) -> usize
+    ensures { ReadOn kind outcomes.now result }
 {
-    if kind == ITEM_CALL && read < outcomes.len() {
-        read + 1
+    if kind == ITEM_CALL {
+        outcomes.len().min(1)
     } else {
-        read
+        0
     }
 }
 
 // Item i, of kind 0 to 4, in a list of owner o: its effect and its word.
-fn act(
-    t: &Table,
-    o: u32,
-    i: u32,
-    s: &mut [u32],
-    trace: &mut [u32],
-    outcomes: &[u32],
-    read: usize,
-) -> Written
-    requires { Safe (act_of t.now.words o i (start (drop read outcomes.now) s.old)) trace.old }
-    ensures { Ran outcomes.now (act_of t.now.words o i (start (drop read outcomes.now) s.old))
+fn act(t: &Table, o: u32, i: u32, s: &mut [u32], trace: &mut [u32], outcomes: &[u32]) -> Written
+    requires { Safe (act_of t.now.words o i (start outcomes.now s.old)) trace.old }
+    ensures { Ran outcomes.now (act_of t.now.words o i (start outcomes.now s.old))
         s.new trace.old trace.new result }
 {
     effect(t, i, s);
     let item = t.item(i);
     put(trace, 0, trace_word(item.kind, o, item.a, item.b));
-    Written::one_word(read_on(item.kind, outcomes, read), 0)
+    Written::one_word(read_by(item.kind, outcomes), 0)
 }
 
 // Whether item i stops the list that holds it: it is a call with abort, and the outcome that it is about to read says failed. Where no
 // outcome is left every call is good; no item is looked at but for a failed outcome.
-fn stops(t: &Table, i: u32, outcomes: &[u32], read: usize) -> bool
-    ensures { Stops t.now.words i outcomes.now read result }
+fn stops(t: &Table, i: u32, outcomes: &[u32]) -> bool
+    ensures { Stops t.now.words i outcomes.now result }
 {
-    if word(outcomes, read) != 1 {
+    if word(outcomes, 0) != 1 {
         return false;
     }
     let item = t.item(i);
@@ -159,8 +151,8 @@ fn judge(t: &Table, o: u32, r: u32, s: &mut [u32], trace: &mut [u32]) -> Judged
 }
 
 // List l, which nests within the levels left: a word for its start, then its items, up to and with the one that stops it. Like each of the
-// cycle it fills the front of the trace that it is lent, goes by the lent outcome words behind those that are read, and returns what it has
-// written. A list has fewer levels left than the one that starts it.
+// cycle it fills the front of the trace that it is lent, goes by the outcome words that it is lent, and returns what it has written and
+// read. A list has fewer levels left than the one that starts it.
 #[cycle(run_item_run_list_run_rule)]
 pub fn run_list(
     t: &Table,
@@ -169,21 +161,21 @@ pub fn run_list(
     s: &mut [u32],
     trace: &mut [u32],
     outcomes: &[u32],
-    read: usize,
 ) -> Written
     requires l_value { list_within levels t.now.words l ≡ true }
-    requires safe { Safe (run_list levels t.now.words l (start (drop read outcomes.now) s.old)) trace.old }
-    ensures { Ran outcomes.now (run_list levels t.now.words l (start (drop read outcomes.now) s.old))
+    requires safe { Safe (run_list levels t.now.words l (start outcomes.now s.old)) trace.old }
+    ensures { Ran outcomes.now (run_list levels t.now.words l (start outcomes.now s.old))
         s.new trace.old trace.new result }
 {
     let list = t.list(l);
     put(trace, 0, trace_word(TRACE_LIST_START, list.owner, l, 0));
     let below = levels - 1;
-    let mut written = Written::one_word(read, 0);
+    let mut written = Written::one_word(0, 0);
     for i in list.first_item..list.first_item + list.item_count {
-        let last = stops(t, i, outcomes, written.read);
-        let rest = &mut trace[written.count..];
-        let more = run_item(t, list.owner, i, below, s, rest, outcomes, written.read);
+        let free = &mut trace[written.count..];
+        let unread = &outcomes[written.read..];
+        let last = stops(t, i, unread);
+        let more = run_item(t, list.owner, i, below, s, free, unread);
         written = written.plus(more);
         if last {
             return written;
@@ -202,22 +194,21 @@ fn run_item(
     s: &mut [u32],
     trace: &mut [u32],
     outcomes: &[u32],
-    read: usize,
 ) -> Written
     requires i_value { item_nests t.now.words (list_within below t.now.words) i ≡ true }
-    requires safe { Safe (run_item (run_list below t.now.words) t.now.words o i (start (drop read outcomes.now) s.old)) trace.old }
+    requires safe { Safe (run_item (run_list below t.now.words) t.now.words o i (start outcomes.now s.old)) trace.old }
     ensures { Ran outcomes.now (run_item (run_list below t.now.words) t.now.words o i
-        (start (drop read outcomes.now) s.old))
+        (start outcomes.now s.old))
         s.new trace.old trace.new result }
 {
     let item = t.item(i);
     if item.kind == ITEM_LIST {
-        return run_list(t, item.a, below, s, trace, outcomes, read);
+        return run_list(t, item.a, below, s, trace, outcomes);
     }
     if item.kind == ITEM_RULE {
-        return run_rule(t, o, item.a, below, s, trace, outcomes, read);
+        return run_rule(t, o, item.a, below, s, trace, outcomes);
     }
-    act(t, o, i, s, trace, outcomes, read)
+    act(t, o, i, s, trace, outcomes)
 }
 
 // Rule item r of a list of owner o.
@@ -230,23 +221,22 @@ fn run_rule(
     s: &mut [u32],
     trace: &mut [u32],
     outcomes: &[u32],
-    read: usize,
 ) -> Written
     requires r_value { rule_nests t.now.words (list_within below t.now.words) r ≡ true }
-    requires safe { Safe (run_rule (run_list below t.now.words) t.now.words o r (start (drop read outcomes.now) s.old)) trace.old }
+    requires safe { Safe (run_rule (run_list below t.now.words) t.now.words o r (start outcomes.now s.old)) trace.old }
     ensures { Ran outcomes.now (run_rule (run_list below t.now.words) t.now.words o r
-        (start (drop read outcomes.now) s.old))
+        (start outcomes.now s.old))
         s.new trace.old trace.new result }
 {
     if evaluation::unready(t, s, r) {
         put(trace, 0, trace_word(ITEM_RULE, o, r, UNDEFINED_RESULT));
-        return Written::one_word(read, 0);
+        return Written::one_word(0, 0);
     }
     let judged = judge(t, o, r, s, trace);
-    let first = Written::one_word(read, judged.visits);
+    let first = Written::one_word(0, judged.visits);
     if judged.list == NO_LIST {
         return first;
     }
-    let more = run_list(t, judged.list, below, s, &mut trace[1..], outcomes, read);
+    let more = run_list(t, judged.list, below, s, &mut trace[1..], outcomes);
     first.plus(more)
 }

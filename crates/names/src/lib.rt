@@ -1,5 +1,5 @@
 // Rule 6: each name is of a thing that is there, and of the right kind.
-#![tactic(auto)]
+#![tactic(auto, unfolding(rulebook::specs::Reasons::names))]
 
 ghost use Rattle.std.specs.Prelude.{◌≡◌, length};
 ghost use Rattle.rulebook.specs.Table.{table_length, at_network, at_source, at_expression, at_rule, at_list, at_item};
@@ -24,6 +24,7 @@ pub fn held(t: &Table, p: u32, n: u32, k: u32) -> bool
 }
 
 // Whether port p is one that a network or a source may show itself by: a deferred mode port without initial value.
+#[tactic(auto, unfolding(rulebook::specs::Reasons::may_show))]
 fn may_show(t: &Table, p: u32) -> bool
     ensures { result ≡ may_show t.now.words p }
 {
@@ -42,10 +43,10 @@ fn source_names(t: &Table, k: u32) -> bool
     ensures { result ≡ names_of t.now.words (at_source k) }
 {
     let port = t.source(k).port;
-    let networks = t.networks();
-    may_show(t, port) & !held(t, port, networks, k)
+    may_show(t, port) & !held(t, port, t.networks(), k)
 }
 
+#[tactic(auto, unfolding(rulebook::specs::Reasons::names, rulebook::specs::Reasons::expression_names, rulebook::specs::Expressions::operator))]
 fn expression_names(t: &Table, e: u32) -> bool
     ensures { result ≡ names_of t.now.words (at_expression e) }
 {
@@ -62,6 +63,7 @@ fn expression_names(t: &Table, e: u32) -> bool
         & (!(kind == CONDITION_AT_OR_ABOVE) | (port_kind == PORT_MODE))
 }
 
+#[tactic(auto, unfolding(rulebook::specs::Reasons::names, rulebook::specs::Reasons::list_or_none))]
 fn rule_names(t: &Table, r: u32) -> bool
     ensures { result ≡ names_of t.now.words (at_rule r) }
 {
@@ -78,6 +80,7 @@ fn list_names(t: &Table, l: u32) -> bool
     list.first_item + list.item_count <= t.items()
 }
 
+#[tactic(auto, unfolding(rulebook::specs::Reasons::names, rulebook::specs::Reasons::item_names, rulebook::specs::Reasons::port_of_kind))]
 fn item_names(t: &Table, i: u32) -> bool
     ensures { result ≡ names_of t.now.words (at_item i) }
 {

@@ -13,22 +13,19 @@ use native.Mathlib.Numerals.{add-one}
 use Rattle.rulebook.specs.Words.{all, word}
 use Rattle.rulebook.specs.Table.{lists, item_kind, item_a, item_list, item_rule, no_list, true_list, false_list, first_item, item_count}
 use Rattle.rulebook.specs.Reasons.{rule_nests, item_nests, list_nests, list_within}
-use Rattle.words.specs.declared.sections.Layout.{Layout}
-use Rattle.words.specs.declared.sections.List.{List as ListRead}
-use Rattle.words.specs.Sections.{Laid, ListAt}
 use Rattle.words.proofs.Fill.{zero_word}
 use Rattle.laws.proofs.Nesting.{nests-list, nests-rule, nests-act}
 use Rattle.laws.proofs.Tests.{split, clash, and_left, and_right, and_both, and-one-false, or-none, or-intro, or_elim}
 use Rattle.nesting.specs.Depths.{found_by, next_depth, Depths}
 
-module _ (t : List ℕ) (h : Layout) (laid : Laid t h) (below : ℕ → Bool) (l : ℕ) where
-  pub list-absent : h.lists ≤ l → false ≡ list_nests t below l
+module _ (t : List ℕ) (below : ℕ → Bool) (l : ℕ) where
+  pub list-absent : lists t ≤ l → false ≡ list_nests t below l
   unfolding list_nests
-  list-absent b = rw (le-ltb l (lists t) (omega arith))
+  list-absent b = rw (le-ltb l (lists t) b)
 
-  pub list-present : (x : ListRead) → ListAt t l x → l < h.lists → list_nests t below l ≡ all x.first_item x.item_count (item_nests t below)
+  pub list-present : l < lists t → list_nests t below l ≡ all (first_item t l) (item_count t l) (item_nests t below)
   unfolding list_nests
-  list-present x read b = rw (lt-ltb l (lists t) (omega arith), read.first-item.value, read.item_count.value)
+  list-present b = rw (lt-ltb l (lists t) b)
 
 -- What is found with fewer lists below is found with more.
 

@@ -1,10 +1,9 @@
 -- The depths of lists, as they are found level by level: a word for each list, 0 as long as it is not found.
 use Rattle.std.specs.Prelude.{ℕ, ◌+◌, ◌<◌, ◌≤◌, ◌≡◌, Bool, false, cond, ◌&&◌, List, leb, eqb, length}
 use Rattle.rulebook.specs.Words.{word}
+use Rattle.rulebook.specs.Table.{lists, table_length}
 use Rattle.rulebook.specs.Expressions.{deepest}
 use Rattle.rulebook.specs.Reasons.{list_nests, list_within}
-use Rattle.words.specs.declared.sections.Layout.{Layout}
-use Rattle.words.specs.Sections.{Laid}
 
 -- list l was found in the first d rounds
 unfoldable pub found_by : List ℕ → ℕ → ℕ → Bool
@@ -25,24 +24,17 @@ pub record Level (d : ℕ) (t : List ℕ) (more : Bool) (depths : List ℕ) : Ty
   pub next : Depths (d + 1) t depths
   pub none : more ≡ false → Depths d t depths
 
--- round d + 1, of seven
-pub record Round (d : ℕ) (t : List ℕ) (h : Layout) : Type 0 where
-  pub laid : Laid t h
-  pub shallow : d < 7
-
 -- a table whose lists have a word each, after d rounds
-pub record Searched (d : ℕ) (t : List ℕ) (h : Layout) (depths : List ℕ) : Type 0 where
-  pub laid : Laid t h
-  pub few : h.lists ≤ 256
+pub record Searched (d : ℕ) (t depths : List ℕ) : Type 0 where
+  pub few : lists t ≤ 256
   pub found : Depths d t depths
 
 -- the same, where a round is still to come
-pub record NextRound (d : ℕ) (t : List ℕ) (h : Layout) (depths : List ℕ) : Type 0 where
-  pub searched : Searched d t h depths
+pub record NextRound (d : ℕ) (t depths : List ℕ) : Type 0 where
+  pub searched : Searched d t depths
   pub shallow : d < 7
 
 -- a table that is as long as its header asks for, with the depths of its lists
-pub record Measured (t : List ℕ) (h : Layout) (depths : List ℕ) : Type 0 where
-  pub laid : Laid t h
-  pub whole : length t ≡ h.length
+pub record Measured (t depths : List ℕ) : Type 0 where
+  pub whole : length t ≡ table_length t
   pub found : Depths deepest t depths

@@ -1,30 +1,19 @@
 -- What the loops of rule 8 find, said of the rulebook's definitions. Assumes nothing.
-use Prim.Native.Nat.{ℕ, ◌+◌, ◌-◌, ◌<◌, ◌≤◌}
+use Prim.Native.Nat.{ℕ}
 use mathlib.Core.Path.{◌≡◌, refl, sym, ap, ◌∙◌}
 use mathlib.Core.Bool.{Bool, true, false, ◌&&◌, ◌||◌, not, and-true, or-true}
 use mathlib.Core.List.{List}
-use native.Mathlib.Omega.{arith}
-use lib.ListN.{length}
 use lib.Dec.{eqb, leb}
 use borrow.Author.Tests.{ne_eqb}
-use native.Mathlib.Nat.{zero-add}
-use Rattle.rulebook.specs.Words.{field, implies, between, all, first}
-use Rattle.rulebook.specs.Table.{part, at_list, port_word, port_owner, network_owner, rule_owner, list_owner, stranger, lists_from, items_from, lists, items}
-use Rattle.rulebook.specs.Reasons.{strangers_port, item_owned, owners, breaks, lowest}
-use Rattle.walks.proofs.Walks.{first-before, first-after, first-none, same_first}
-use Rattle.words.specs.declared.sections.Layout.{Layout}
+use Rattle.rulebook.specs.Words.{implies, between}
+use Rattle.rulebook.specs.Table.{port_owner, network_owner, rule_owner, list_owner}
+use Rattle.rulebook.specs.Reasons.{item_owned}
 use Rattle.words.specs.declared.sections.Port.{Port}
 use Rattle.words.specs.declared.sections.Network.{Network}
 use Rattle.words.specs.declared.sections.Rule.{Rule}
 use Rattle.words.specs.declared.sections.List.{List as ListRead}
 use Rattle.words.specs.declared.sections.Item.{Item}
-use Rattle.words.specs.Sections.{Laid, Whole, PortAt, NetworkAt, RuleAt, ListAt, ItemAt}
-use Rattle.words.proofs.Places.{list-part, item-part}
-
--- The test of a port whose word is w and whose owner is x.
-pub strange : (t : List ℕ) (o p w x : ℕ) → w ≡ port_word t p → x ≡ field 4 4 w → (not (eqb x o) && not (eqb x 0)) ≡ strangers_port t o p
-unfolding strangers_port stranger
-strange t o p w x hw hx = rw (hx, hw)
+use Rattle.words.specs.Sections.{PortAt, NetworkAt, RuleAt, ListAt, ItemAt}
 
 -- An item of kind k, where what it may name has owner o or not.
 
@@ -77,46 +66,3 @@ module _ (t : List ℕ) (o i : ℕ) (x : Item) (read : ItemAt t i x) where
       ≡ item_owned t o i
   other-owned p n port network f g =
       sym (is-judged ∙ judged-other _ _ _ _ _ x.kind (ne_eqb x.kind 5 f) (ne_eqb x.kind 6 g) ∙ rw (port.owner.value, network.owner.value))
-
--- A list, judged with its items.
-
-at-list : (t : List ℕ) (h : Layout) → Laid t h → (l : ℕ) → l < h.lists → part t (h.list0 + l) ≡ at_list l
-at-list t h laid l b =
-    let q : h.list0 + l - h.list0 ≡ l = omega arith in
-    sym (rw q at (list-part t h laid (h.list0 + l) (omega arith) (omega arith)))
-
-pub list-breaks : (t : List ℕ) (h : Layout) → Laid t h → (l : ℕ) (x : ListRead) → ListAt t l x → l < h.lists
-    → breaks owners t (h.list0 + l) ≡ not (all x.first_item x.item_count (item_owned t x.owner))
-unfolding breaks owners
-list-breaks t h laid l x read b = rw (at-list t h laid l b, read.owner.value, read.first-item.value, read.item_count.value)
-
--- The whole scan: before the lists, in the lists, and the items, which clash with nobody.
-
-module _ (t : List ℕ) (h : Layout) (entire : Whole t h) (r : ℕ) (hr : r ≡ first 0 (lists_from t) (breaks owners t)) where
-  rest : length t ≡ lists_from t + (lists t + items t)
-  rest = omega arith
-
-  pub clash-early : r < h.list0 → r ≡ lowest owners t
-  unfolding lowest
-  clash-early b = rw rest (hr ∙ sym (first-before 0 (lists_from t) (lists t + items t) (breaks owners t) (omega arith)))
-
-  later : h.list0 ≤ r → lowest owners t ≡ first (lists_from t) (lists t + items t) (breaks owners t)
-  unfolding lowest
-  later b =
-      rw rest
-      (first-after 0 (lists_from t) (lists t + items t) (breaks owners t) (omega arith) ∙ same_first (breaks owners t) (zero-add (lists_from t)) refl)
-
-  module _ (s : ℕ) (hs : s ≡ first (lists_from t) (lists t) (breaks owners t)) where
-    pub clash-in-lists : h.list0 ≤ r → s < h.item0 → s ≡ lowest owners t
-    clash-in-lists b d = hs ∙ sym (later b ∙ first-before (lists_from t) (lists t) (items t) (breaks owners t) (omega arith))
-
-    item-keeps : (k : ℕ) → items_from t ≤ k → breaks owners t k ≡ false
-    unfolding breaks owners
-    item-keeps k g = rw (← item-part t h entire.laid k (omega arith))
-
-    pub clash-nowhere : h.list0 ≤ r → h.item0 ≤ s → h.length ≡ lowest owners t
-    clash-nowhere b d =
-        sym (later b
-        ∙ first-after (lists_from t) (lists t) (items t) (breaks owners t) (omega arith)
-        ∙ first-none (items_from t) (items t) (breaks owners t) item-keeps
-        ∙ sym entire.laid.length)

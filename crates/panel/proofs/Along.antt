@@ -1,16 +1,17 @@
 -- The two loops over a part's words: what its lines leave of a room, and the lines laid. Both go by the lines that are still to come.
 -- Assumes nothing.
-use Prim.Native.Nat.{ℕ, ◌+◌, ◌-◌, ◌<◌, ◌≤◌}
+use Prim.Native.Nat.{ℕ, zero, suc, ◌+◌, ◌-◌, ◌<◌, ◌≤◌}
 use mathlib.Core.Path.{◌≡◌, refl, sym, ap, ◌∙◌}
-use mathlib.Core.List.{List, [], ◌++◌}
+use mathlib.Core.List.{List, [], ◌∷◌, ◌++◌}
+use native.Mathlib.Numerals.{add-one}
 use native.Mathlib.Omega.{arith}
-use lib.ListN.{length, length-append}
+use lib.ListN.{length, get_or, length-append}
 use Rattle.text.specs.Puts.{lay, PutAt}
 use Rattle.text.proofs.Lay.{lay-none, lay-more}
 use Rattle.text.proofs.Puts.{put-more, put-length}
-use Rattle.std.proofs.Common.{Option, Some, None}
 use Rattle.panel.specs.Printed.{count, line_at, lines, part_lines, panel, the_ports, the_networks, the_sources, the_trace}
-use Rattle.panel.specs.Inside.{Leaves}
+use Rattle.panel.specs.declared.Part.TheVariants.{Ports, Networks, Sources, Trace}
+use Rattle.panel.specs.Inside.{part_number}
 use Rattle.panel.proofs.Parts.{lines_next, lines_none}
 
 module _ (part o : ℕ) (t s ws : List ℕ) where
@@ -95,62 +96,66 @@ module _ (o : ℕ) (t s ws : List ℕ) where
   unfolding panel
   length-panel = simp length-append (omega arith)
 
-  -- and what they leave of a room, where the first parts leave this much
+  -- the lines of the first n parts
+  unfoldable pub first_parts : ℕ → List ℕ
+  first_parts zero = []
+  first_parts (suc n) = first_parts n ++ of n
+
+  all-parts : first_parts 4 ≡ panel o t s ws
+  unfolding first_parts panel
+  all-parts = refl
+
+  length-first : (n : ℕ) → length (first_parts (suc n)) ≡ length (first_parts n) + length (of n)
+  unfolding first_parts
+  length-first n = length-append (first_parts n) (of n)
+
+  -- one part more is no longer than the panel
+  parts-fit : (n : ℕ) → n < 4 → length (first_parts n) + length (of n) ≤ length (panel o t s ws)
+  unfolding first_parts
+  parts-fit zero h = omega (arith, length-panel)
+  parts-fit (suc zero) h = omega (arith, length-panel, length-first 0)
+  parts-fit (suc (suc zero)) h = omega (arith, length-panel, length-first 0, length-first 1)
+  parts-fit (suc (suc (suc zero))) h = omega (arith, length-panel, length-first 0, length-first 1, length-first 2)
+  parts-fit (suc (suc (suc (suc n)))) h = absurd (omega arith)
+
+  -- a part behind those before it: what its lines leave of a room, and its lines laid
 
   module _ (room : ℕ) where
-    pub no-room-ports : room < length (of the_ports) → room < length (panel o t s ws)
-    no-room-ports h = omega (arith, length-panel)
+    pub left-none : room + length (first_parts 0) ≡ room
+    unfolding first_parts
+    left-none = omega arith
 
-    module _ (l₁ : ℕ) (ports : l₁ + length (of the_ports) ≡ room) where
-      pub no-room-networks : l₁ < length (of the_networks) → room < length (panel o t s ws)
-      no-room-networks h = omega (arith, length-panel)
+    module _ (left n : ℕ) {part : ℕ} (is : part ≡ n) (all : left + length (first_parts n) ≡ room) where
+      pub left-more : (left' : ℕ) → left' + length (of part) ≡ left → left' + length (first_parts (n + 1)) ≡ room
+      left-more left' this = rw add-one (omega (arith, length-first n, rw is at this))
 
-      module _ (l₂ : ℕ) (networks : l₂ + length (of the_networks) ≡ l₁) where
-        pub no-room-sources : l₂ < length (of the_sources) → room < length (panel o t s ws)
-        no-room-sources h = omega (arith, length-panel)
+      pub no-more : n < 4 → left < length (of part) → room < length (panel o t s ws)
+      no-more h short = omega (arith, parts-fit n h, rw is at short)
 
-        pub panel-leaves : (l₃ : ℕ) → l₃ + length (of the_sources) ≡ l₂ → (r : Option ℕ) → Leaves (of the_trace) l₃ r → Leaves (panel o t s ws) room r
-        panel-leaves l₃ sources (Some n) h = omega (arith, length-panel)
-        panel-leaves l₃ sources None h = omega (arith, length-panel)
+    pub left-all : (left n : ℕ) → n ≡ 4 → left + length (first_parts n) ≡ room → left + length (panel o t s ws) ≡ room
+    left-all left n e all = rw (← all-parts, ← e) all
 
-  -- the four parts laid one behind the other, and that each has room
+  module _ (out : List ℕ) where
+    pub laid-none : PutAt (first_parts 0) out 0 0 out
+    unfolding first_parts
+    laid-none = put-none out 0
 
-  module _ (out : List ℕ) (room : length (panel o t s ws) ≤ length out) where
-    pub room-ports : 0 + length (of the_ports) ≤ length out
-    room-ports = omega (arith, length-panel)
+    module _ (room : length (panel o t s ws) ≤ length out) (n : ℕ) (h : n < 4) {part : ℕ} (is : part ≡ n) {next : ℕ} {out' : List ℕ}
+        (all : PutAt (first_parts n) out 0 next out') where
+      pub room-more : length out' ≡ length out → next + length (of part) ≤ length out'
+      room-more long = rw is (omega (arith, parts-fit n h, all.place))
 
-    module _ {n₁ : ℕ} {o₁ : List ℕ} (p : PutAt (of the_ports) out 0 n₁ o₁) where
-      pub room-networks : n₁ + length (of the_networks) ≤ length o₁
-      room-networks = omega (arith, length-panel, p.place, put-length {xs = of the_ports} room-ports p)
+      pub laid-more : {next' : ℕ} {out'' : List ℕ} → PutAt (of part) out' next next' out'' → PutAt (first_parts (n + 1)) out 0 next' out''
+      unfolding first_parts
+      laid-more this = rw add-one (put-more {xs = first_parts n} {ys = of n} (omega (arith, parts-fit n h)) all (rw is at this))
 
-      module _ {n₂ : ℕ} {o₂ : List ℕ} (q : PutAt (of the_networks) o₁ n₁ n₂ o₂) where
-        two : PutAt (of the_ports ++ of the_networks) out 0 n₂ o₂
-        two = put-more {xs = of the_ports} {ys = of the_networks} room-ports p q
+    pub laid-all : (n : ℕ) → n ≡ 4 → {next : ℕ} {out' : List ℕ} → PutAt (first_parts n) out 0 next out' → PutAt (panel o t s ws) out 0 next out'
+    laid-all n e all = rw (← all-parts, ← e) all
 
-        long-two : length (of the_ports ++ of the_networks) ≡ length (of the_ports) + length (of the_networks)
-        long-two = length-append (of the_ports) (of the_networks)
-
-        fits-two : 0 + length (of the_ports ++ of the_networks) ≤ length out
-        fits-two = omega (arith, length-panel, long-two)
-
-        pub room-sources : n₂ + length (of the_sources) ≤ length o₂
-        room-sources = omega (arith, length-panel, long-two, two.place, put-length {xs = of the_ports ++ of the_networks} fits-two two)
-
-        module _ {n₃ : ℕ} {o₃ : List ℕ} (r : PutAt (of the_sources) o₂ n₂ n₃ o₃) where
-          three : PutAt ((of the_ports ++ of the_networks) ++ of the_sources) out 0 n₃ o₃
-          three = put-more {xs = of the_ports ++ of the_networks} {ys = of the_sources} fits-two two r
-
-          long-three : length ((of the_ports ++ of the_networks) ++ of the_sources) ≡ length (of the_ports) + length (of the_networks) + length (of the_sources)
-          long-three = omega (arith, long-two, length-append (of the_ports ++ of the_networks) (of the_sources))
-
-          fits-three : 0 + length ((of the_ports ++ of the_networks) ++ of the_sources) ≤ length out
-          fits-three = omega (arith, length-panel, long-three)
-
-          pub room-trace : n₃ + length (of the_trace) ≤ length o₃
-          room-trace =
-              omega
-              (arith, length-panel, long-three, three.place, put-length {xs = (of the_ports ++ of the_networks) ++ of the_sources} fits-three three)
-
-          pub panel-laid : {n₄ : ℕ} {o₄ : List ℕ} → PutAt (of the_trace) o₃ n₃ n₄ o₄ → PutAt (panel o t s ws) out 0 n₄ o₄
-          unfolding panel
-          panel-laid w = put-more {xs = (of the_ports ++ of the_networks) ++ of the_sources} {ys = of the_trace} fits-three three w
+-- the parts stand in the order of their numbers
+pub nth-part : (n : ℕ) → n < 4 → part_number (get_or (Ports ∷ Networks ∷ Sources ∷ Trace ∷ []) n Ports) ≡ n
+nth-part zero h = refl
+nth-part (suc zero) h = refl
+nth-part (suc (suc zero)) h = refl
+nth-part (suc (suc (suc zero))) h = refl
+nth-part (suc (suc (suc (suc n)))) h = absurd (omega arith)

@@ -1,8 +1,9 @@
 // A panel for one operator: a line for each of its ports, networks, sources and trace words, laid into lent bytes. Of the manager it
-// knows the answer of the state check and nothing else: what it must know of the table's layout it reads from the words by itself.
+// knows the answer of the state check and nothing else: what it must know of the table's layout it reads from the words by itself, and not by
+// `words`, on which it may not stand (docs/PROMISES.md, Q-13).
 #![tactic(auto)]
 
-ghost use Rattle.std.specs.Prelude.{◌≡◌, [], ◌∷◌, ◌++◌, ◌+◌, ◌<◌, ◌≤◌, eqb, length, MatchOption};
+ghost use Rattle.std.specs.Prelude.{◌≡◌, [], ◌∷◌, ◌++◌, ◌+◌, ◌<◌, ◌≤◌, eqb, length};
 ghost use Rattle.rulebook.specs.Words.{word as word_of};
 ghost use Rattle.text.specs.Lines.{decimal};
 ghost use Rattle.text.specs.Puts.{PutAt};
@@ -11,7 +12,7 @@ ghost use Rattle.panel.specs.Printed.{numeral, line, line_at, part_lines, panel}
 ghost use Rattle.panel.specs.Promises.{number_of, bytes_of, Shows};
 ghost use Rattle.panel.specs.Inside.{part_number, Counted, Leaves, Fitting};
 
-use manager::Fit;
+use manager::NotAdmitted;
 use text::output::{places, put_decimal, put_hex_line, put_label};
 
 // A panel's parts, in table order, the newest step's words last.
@@ -22,6 +23,8 @@ enum Part {
     Sources,
     Trace,
 }
+
+const PARTS: [Part; 4] = [Part::Ports, Part::Networks, Part::Sources, Part::Trace];
 
 // The word at an index; past the end it reads as 0.
 fn word(ws: &[u32], i: usize) -> u32
@@ -199,10 +202,11 @@ impl View<'_> {
     fn room_left(&self, room: usize) -> Option<usize>
         ensures { let v = self.now in Leaves (panel v.operator v.table.now v.state.now v.words.now) room result }
     {
-        let behind_ports = self.part_room(Part::Ports, room)?;
-        let behind_networks = self.part_room(Part::Networks, behind_ports)?;
-        let behind_sources = self.part_room(Part::Sources, behind_networks)?;
-        self.part_room(Part::Trace, behind_sources)
+        let mut left = room;
+        for part in PARTS {
+            left = self.part_room(part, left)?;
+        }
+        Some(left)
     }
 
     // Lays the line of a part's i-th word, where the word is the operator's.
@@ -236,10 +240,11 @@ impl View<'_> {
         requires { let v = self.now in length (panel v.operator v.table.now v.state.now v.words.now) ≤ length out.old }
         ensures { let v = self.now in PutAt (panel v.operator v.table.now v.state.now v.words.now) out.old 0 result out.new }
     {
-        let behind_ports = self.lay_part(out, 0, Part::Ports);
-        let behind_networks = self.lay_part(out, behind_ports, Part::Networks);
-        let behind_sources = self.lay_part(out, behind_networks, Part::Sources);
-        self.lay_part(out, behind_sources, Part::Trace)
+        let mut next = 0;
+        for part in PARTS {
+            next = self.lay_part(out, next, part);
+        }
+        next
     }
 }
 
@@ -284,9 +289,9 @@ fn check_fit(t: &[u32], s: &[u32]) -> Result<(), NotShown>
     ensures { Fitting t.now s.now result }
 {
     match manager::check_state(t, s) {
-        Fit::Fits => Ok(()),
-        Fit::BadTable => Err(NotShown::BadTable),
-        Fit::Unfit => Err(NotShown::UnfitState),
+        Ok(()) => Ok(()),
+        Err(NotAdmitted::BadTable) => Err(NotShown::BadTable),
+        Err(NotAdmitted::UnfitState) => Err(NotShown::UnfitState),
     }
 }
 

@@ -10,11 +10,10 @@ use lib.Dec.{leb, eqb}
 use lib.ListN.{length}
 use borrow.Author.Tests.{eqb-true, eqb-false, eq-eqb, ne_eqb, leb-true}
 use Rattle.rulebook.specs.Words.{word}
-use Rattle.rulebook.specs.Table.{table_length, rules, lists, nested_only, no_list, at_list}
+use Rattle.rulebook.specs.Table.{rules, lists, nested_only, no_list, at_list}
 use Rattle.rulebook.specs.Expressions.{deepest}
 use Rattle.rulebook.specs.Reasons.{nesting, list_within, rule_reaches, reached}
 use Rattle.rulebook.proofs.Reached.{any-there}
-use Rattle.words.specs.declared.sections.Layout.{Layout}
 use Rattle.words.specs.Flags.{flagged}
 use Rattle.laws.specs.Sequence.{RuleNames, NamesList}
 use Rattle.laws.specs.Reached.{Reached, by_rule, by_list}
@@ -127,10 +126,7 @@ round-ends d l t flags all a =
 
 -- Before the first round: no list is deeper than seven.
 
-module _ (t : List ℕ) (h : Layout) (depths : List ℕ) (j : Judged t h depths) where
-  abbrev exact : length t ≡ table_length t
-  exact = j.whole ∙ j.sorted.laid.length
-
+module _ (t depths : List ℕ) (j : Judged t depths) where
   pub no-round : (flags : List ℕ) → Started t flags → Closed deepest t flags
   unfolding starts_list is_list nesting
   no-round flags s =
@@ -145,14 +141,14 @@ module _ (t : List ℕ) (h : Layout) (depths : List ℕ) (j : Judged t h depths)
             s.says l (rule-names-small t r l n)
             ∙ any-there (starts_list t l) 0 (rules t) r (omega arith) (omega arith)
             (and_both _ _ (eq-eqb (nested_only t r) 0 free) (rule-reaches← t (is_list l) r l n (eq-eqb l l refl)));
-        closed = λ l x b c deep n up. clash (at-list t exact nesting j.nested l b) deep;
+        closed = λ l x b c deep n up. clash (at-list t j.whole nesting j.nested l b) deep;
       }
 
   -- After the last: every list that names one has had its round, so all that is reached is up.
 
   module _ (flags : List ℕ) (c : Closed 1 t flags) where
     there : (l : ℕ) → Reached t l → l < lists t
-    there = chain-there t exact j.named j.nested
+    there = chain-there t j.whole j.named j.nested
 
     up-reached : (l : ℕ) → Reached t l → flagged flags l ≡ true
     unfolding list_within
@@ -160,14 +156,12 @@ module _ (t : List ℕ) (h : Layout) (depths : List ℕ) (j : Judged t h depths)
     up-reached x (by_list {l = l} q n) =
         let names : list_within 1 t l ≡ false = split (list_within 1 t l) (λ e. clash (named-within t 0 l x e n) refl) (λ e. e) in
         let few = j.sorted.few in
-        let all = j.sorted.laid.lists.value in
         let inside = there x (by_list q n) in
         c.closed l x (there l q) (omega arith) names n (up-reached l q)
 
     pub up-exactly : (l : ℕ) → l < lists t → flagged flags l ≡ reached t (at_list l)
     up-exactly l b =
         let few = j.sorted.few in
-        let all = j.sorted.laid.lists.value in
-        let chain = reached-exactly t exact j.named j.nested l in
+        let chain = reached-exactly t j.whole j.named j.nested l in
         split (flagged flags l) (λ e. e ∙ sym (chain.1 (c.sound l (omega arith) e)))
         (λ e. split (reached t (at_list l)) (λ d. clash (up-reached l (chain.0 d)) e) (λ d. e ∙ sym d))

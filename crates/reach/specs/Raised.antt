@@ -1,14 +1,12 @@
 -- Flags of lists, as they go up by what rules and lists name: a word for each number, of which those below 255 can be a list's.
-use Rattle.std.specs.Prelude.{ℕ, ◌+◌, ◌<◌, ◌≤◌, ◌≡◌, Bool, true, false, ◌&&◌, ◌||◌, List, eqb, length, replicate}
+use Rattle.std.specs.Prelude.{ℕ, ◌+◌, ◌<◌, ◌≤◌, ◌≡◌, Bool, true, false, ◌&&◌, ◌||◌, List, eqb, length}
 use Rattle.rulebook.specs.Words.{word, any}
-use Rattle.rulebook.specs.Table.{rules, lists, nested_only, no_list, first_item, item_count}
+use Rattle.rulebook.specs.Table.{table_length, rules, lists, nested_only, no_list, first_item, item_count}
 use Rattle.rulebook.specs.Expressions.{deepest}
 use Rattle.rulebook.specs.Reasons.{names, nesting, list_within, rule_reaches, item_reaches}
 use Rattle.laws.specs.Acceptance.{Everywhere}
 use Rattle.laws.specs.Sequence.{RuleNames, NamesList}
 use Rattle.laws.specs.Reached.{Reached}
-use Rattle.words.specs.declared.sections.Layout.{Layout}
-use Rattle.words.specs.Sections.{Laid}
 use Rattle.words.specs.Flags.{flagged}
 use Rattle.nesting.specs.Depths.{Depths}
 
@@ -42,18 +40,10 @@ pub record Gained (p : ℕ → Bool) (before after : List ℕ) : Type 0 where
   pub long : length after ≡ 256
   pub says : (k : ℕ) → k < no_list → flagged after k ≡ (flagged before k || p k)
 
-pub record Lent (t : List ℕ) (h : Layout) (flags : List ℕ) : Type 0 where
-  pub laid : Laid t h
-  pub long : length flags ≡ 256
-
 -- in the round of depth d + 1
-pub record Turn (d : ℕ) (t : List ℕ) (h : Layout) (flags : List ℕ) : Type 0 where
-  pub lent : Lent t h flags
+pub record Turn (d : ℕ) (flags : List ℕ) : Type 0 where
+  pub long : length flags ≡ 256
   pub shallow : d < 7
-
-pub record Down (t : List ℕ) (h : Layout) (flags : List ℕ) : Type 0 where
-  pub laid : Laid t h
-  pub down : flags ≡ replicate 256 0
 
 -- the lists of the rules that aren't nested-only are up, and no others
 pub record Started (t flags : List ℕ) : Type 0 where
@@ -69,25 +59,24 @@ pub record Closed (d : ℕ) (t flags : List ℕ) : Type 0 where
   pub closed : (l x : ℕ) → l < lists t → x < no_list → list_within d t l ≡ false → NamesList t l x → flagged flags l ≡ true → flagged flags x ≡ true
 
 -- a table with the depths of its lists, which have a number below 255 each
-pub record Sorted (t : List ℕ) (h : Layout) (depths : List ℕ) : Type 0 where
-  pub laid : Laid t h
-  pub few : h.lists ≤ no_list
+pub record Sorted (t depths : List ℕ) : Type 0 where
+  pub few : lists t ≤ no_list
   pub found : Depths deepest t depths
 
 -- the round of depth d + 1 is next
-pub record Level (d : ℕ) (t : List ℕ) (h : Layout) (depths flags : List ℕ) : Type 0 where
-  pub sorted : Sorted t h depths
+pub record Level (d : ℕ) (t depths flags : List ℕ) : Type 0 where
+  pub sorted : Sorted t depths
   pub shallow : d < 7
   pub closed : Closed (d + 1) t flags
 
 -- a table that keeps rules 6 and 7
-pub record Judged (t : List ℕ) (h : Layout) (depths : List ℕ) : Type 0 where
-  pub sorted : Sorted t h depths
-  pub whole : length t ≡ h.length
+pub record Judged (t depths : List ℕ) : Type 0 where
+  pub sorted : Sorted t depths
+  pub whole : length t ≡ table_length t
   pub named : Everywhere names t
   pub nested : Everywhere nesting t
 
 -- the same, where no round has been
-pub record Rooted (t : List ℕ) (h : Layout) (depths flags : List ℕ) : Type 0 where
-  pub judged : Judged t h depths
+pub record Rooted (t depths flags : List ℕ) : Type 0 where
+  pub judged : Judged t depths
   pub started : Started t flags

@@ -1,6 +1,7 @@
 -- The number of the answer that an event gets is the rulebook's; what comes after the checks of table, state and room, by that
 -- answer. Assumes nothing.
 use Prim.Native.Nat.{ℕ}
+use Rattle.std.specs.Prelude.{Result}
 use mathlib.Core.Path.{◌≡◌, ap, sym, ◌∙◌}
 use mathlib.Core.Bool.{true, false}
 use mathlib.Core.List.{List}
@@ -9,7 +10,7 @@ use Rattle.rulebook.specs.Step.{well_formed, outcomes_known, known, sent_by_owne
 use Rattle.laws.proofs.Tests.{split}
 use Rattle.laws.proofs.Steps.{done}
 use Rattle.refusals.specs.Answers.{answer_of, event_checked}
-use Rattle.refusals.specs.declared.EventCheck.{EventCheck}
+use Rattle.refusals.specs.declared.Unheeded.{Unheeded}
 
 module _ (t os : List ℕ) (e : ℕ) where
   pub checked-answer : answer_of (event_checked t os e) ≡ refused_event t os e
@@ -23,7 +24,7 @@ module _ (t os : List ℕ) (e : ℕ) where
       (λ a. rw a)
 
   -- the answer r is that of the check
-  module _ (s : List ℕ) (r : EventCheck) (h : r ≡ event_checked t os e) where
+  module _ (s : List ℕ) (r : Result (Unit {0}) Unheeded) (h : r ≡ event_checked t os e) where
     number : refused_event t os e ≡ answer_of r
     number = sym checked-answer ∙ ap answer_of (sym h)
 

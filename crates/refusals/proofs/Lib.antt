@@ -1,3 +1,3 @@
 -- Laws that belong to no one function.
-pub mod Tests
+pub mod Outcomes
 pub mod Answers

@@ -1,36 +1,36 @@
-// The event word: kind, owner, index, value, 0.
-ghost use Rattle.rulebook.specs.Words.{field as field_of};
-ghost use Rattle.rulebook.specs.Events.{event_kind, event_owner, event_index, event_value};
-ghost use Rattle.words.specs.Field.{Field};
+// The event word with its fields, each of which it says is the word's.
+ghost use Rattle.std.specs.Prelude.{◌≡◌, ◌<◌};
+ghost use Rattle.rulebook.specs.Events.{event_kind, event_owner, event_index, event_value, event_zero};
 
-use words::field;
+use words::bits;
 
-pub fn kind(e: u32) -> u32
-    ensures { Field (event_kind e) 16 result }
-{
-    field(e, 268435456, 16)
+#[derive(Clone, Copy)]
+pub struct Event {
+    pub word: u32,
+    pub kind: u32,
+    pub owner: u32,
+    pub index: u32,
+    pub value: u32,
+    pub zero: u32,
+    ghost kind_read: { kind ≡ event_kind word },
+    ghost owner_read: { owner ≡ event_owner word },
+    ghost index_read: { index ≡ event_index word },
+    ghost value_read: { value ≡ event_value word },
+    ghost zero_read: { zero ≡ event_zero word },
+    ghost index_small: { index < 256 },
 }
 
-pub fn owner(e: u32) -> u32
-    ensures { Field (event_owner e) 16 result }
-{
-    field(e, 16777216, 16)
-}
+impl From<u32> for Event {
+    ghost from_gives = { λ w e. e.word ≡ w };
 
-pub fn index(e: u32) -> u32
-    ensures { Field (event_index e) 256 result }
-{
-    field(e, 65536, 256)
-}
-
-pub fn value(e: u32) -> u32
-    ensures { Field (event_value e) 256 result }
-{
-    field(e, 256, 256)
-}
-
-pub fn zero(e: u32) -> u32
-    ensures { Field (field_of 24 8 e) 256 result }
-{
-    field(e, 1, 256)
+    fn from(word: u32) -> Event {
+        Event {
+            word,
+            kind: bits::<0, 4>(word),
+            owner: bits::<4, 4>(word),
+            index: bits::<8, 8>(word),
+            value: bits::<16, 8>(word),
+            zero: bits::<24, 8>(word),
+        }
+    }
 }

@@ -12,12 +12,13 @@ use borrow.Author.Tests.{eq-eqb, ne_eqb}
 use Rattle.rulebook.specs.Reasons.{check, accepted}
 use Rattle.rulebook.specs.State.{Thing, thing, fresh_thing, fresh_at, fresh, fresh_answer, fresh_state, state_length}
 use Rattle.laws.proofs.Walks.{listed-length, listed_at}
-use Rattle.tables.specs.declared.Checked.{Checked}
-use Rattle.tables.specs.declared.Checked.TheVariants.{Accepted, TooShort, WrongEdition, WrongCounts, WrongLength as LengthDiffers, Misfit, Misnamed}
-use Rattle.tables.specs.declared.Checked.TheVariants.{TooDeep, OwnersClash, Unreached, TooDear}
+use Rattle.std.specs.Prelude.{Result, Ok, Err}
+use Rattle.tables.specs.declared.Fault.{Fault}
+use Rattle.tables.specs.declared.Fault.TheVariants.{TooShort, WrongEdition, WrongCounts, WrongLength as LengthDiffers, Misfit, Misnamed, TooDeep, OwnersClash}
+use Rattle.tables.specs.declared.Fault.TheVariants.{Unreached, TooDear}
 use Rattle.tables.specs.Finding.{Finding, finding, promised}
-use Rattle.states.specs.declared.Made.{Made}
-use Rattle.states.specs.declared.Made.TheVariants.{Done, BadTable, WrongLength}
+use Rattle.states.specs.declared.NotMade.{NotMade}
+use Rattle.states.specs.declared.NotMade.TheVariants.{BadTable, WrongLength}
 use Rattle.states.specs.Made.{number_of, Fresh}
 
 pub fresh-here : (t : List ℕ) (i w : ℕ) (x : Thing) → w ≡ fresh_thing t x → x ≡ thing t i → w ≡ fresh_at t i
@@ -33,43 +34,43 @@ all-fresh t s n long asked words =
 
 -- The exits.
 
-pub is-accepted : (t : List ℕ) (b : ℕ) (r : Checked) → r ≡ Accepted b → finding r ≡ promised t → accepted t ≡ true
+pub is-accepted : (t : List ℕ) (b : ℕ) (r : Result ℕ Fault) → r ≡ Ok b → finding r ≡ promised t → accepted t ≡ true
 unfolding promised
-is-accepted t b r e h = eq-eqb (check t).reason 0 (ap (λ (x : Finding). x.reason) (sym h) ∙ ap (λ (x : Checked). (finding x).reason) e)
+is-accepted t b r e h = eq-eqb (check t).reason 0 (ap (λ (x : Finding). x.reason) (sym h) ∙ ap (λ (x : Result ℕ Fault). (finding x).reason) e)
 
--- an answer that is not `Accepted` tells a reason
-reason-of : (r : Checked) → ((b : ℕ) → r ≡ Accepted b → ⊥) → eqb (finding r).reason 0 ≡ false
-reason-of (Accepted b) f = absurd (f b refl)
-reason-of TooShort f = refl
-reason-of WrongEdition f = refl
-reason-of WrongCounts f = refl
-reason-of LengthDiffers f = refl
-reason-of (Misfit i) f = refl
-reason-of (Misnamed i) f = refl
-reason-of (TooDeep i) f = refl
-reason-of (OwnersClash i) f = refl
-reason-of (Unreached i) f = refl
-reason-of TooDear f = refl
+-- an answer that is not `Ok` tells a reason
+reason-of : (r : Result ℕ Fault) → ((b : ℕ) → r ≡ Ok b → ⊥) → eqb (finding r).reason 0 ≡ false
+reason-of (Ok b) f = absurd (f b refl)
+reason-of (Err TooShort) f = refl
+reason-of (Err WrongEdition) f = refl
+reason-of (Err WrongCounts) f = refl
+reason-of (Err LengthDiffers) f = refl
+reason-of (Err (Misfit i)) f = refl
+reason-of (Err (Misnamed i)) f = refl
+reason-of (Err (TooDeep i)) f = refl
+reason-of (Err (OwnersClash i)) f = refl
+reason-of (Err (Unreached i)) f = refl
+reason-of (Err TooDear) f = refl
 
-pub is-refused : (t : List ℕ) (r : Checked) → ((b : ℕ) → r ≡ Accepted b → ⊥) → finding r ≡ promised t → accepted t ≡ false
+pub is-refused : (t : List ℕ) (r : Result ℕ Fault) → ((b : ℕ) → r ≡ Ok b → ⊥) → finding r ≡ promised t → accepted t ≡ false
 unfolding promised
 is-refused t r other h =
     rw (ap (λ (x : Finding). x.reason) (sym h))
     (reason-of r other)
 
 module _ (t s : List ℕ) where
-  pub bad-table : accepted t ≡ false → Fresh t s BadTable s
+  pub bad-table : accepted t ≡ false → Fresh t s (Err BadTable) s
   unfolding fresh_answer fresh_state
   bad-table h = record { answer = rw h; state = rw h }
 
   module _ (good : accepted t ≡ true) (n : ℕ) (asked : n ≡ state_length t) where
-    pub wrong-length : (length s ≡ n → ⊥) → Fresh t s WrongLength s
+    pub wrong-length : (length s ≡ n → ⊥) → Fresh t s (Err WrongLength) s
     unfolding fresh_answer fresh_state
     wrong-length h =
         let other = ne_eqb (length s) (state_length t) (rw asked at h) in
         record { answer = rw (good, other); state = rw (good, other) }
 
-    pub done : (after : List ℕ) → length s ≡ n → after ≡ fresh t → Fresh t s Done after
+    pub done : (after : List ℕ) → length s ≡ n → after ≡ fresh t → Fresh t s (Ok tt) after
     unfolding fresh_answer fresh_state
     done after h e =
         let same = eq-eqb (length s) (state_length t) (h ∙ asked) in
@@ -77,15 +78,15 @@ module _ (t s : List ℕ) where
 
 -- Two answers, with the states that they leave, are the same.
 
-answering : ℕ → Made
-answering k = cond (eqb k 0) Done (cond (eqb k 1) BadTable WrongLength)
+answering : ℕ → Result (Unit {0}) NotMade
+answering k = cond (eqb k 0) (Ok tt) (cond (eqb k 1) (Err BadTable) (Err WrongLength))
 
-back : (r : Made) → answering (number_of r) ≡ r
+back : (r : Result (Unit {0}) NotMade) → answering (number_of r) ≡ r
 unfolding answering
-back Done = refl
-back BadTable = refl
-back WrongLength = refl
+back (Ok u) = refl
+back (Err BadTable) = refl
+back (Err WrongLength) = refl
 
-pub one_answer : (t s : List ℕ) (r q : Made) (a b : List ℕ) → Fresh t s r a → Fresh t s q b → (r ≡ q) × (a ≡ b)
+pub one_answer : (t s : List ℕ) (r q : Result (Unit {0}) NotMade) (a b : List ℕ) → Fresh t s r a → Fresh t s q b → (r ≡ q) × (a ≡ b)
 one_answer t s r q a b x y =
     (sym (back r) ∙ ap answering (x.answer ∙ sym y.answer) ∙ back q, x.state ∙ sym y.state)

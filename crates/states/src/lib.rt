@@ -1,30 +1,30 @@
 // The state: whether one fits a table, table and state checked together, and a fresh one.
 #![tactic(auto)]
 
-ghost use Rattle.std.specs.Prelude.{◌≡◌};
+ghost use Rattle.std.specs.Prelude.{◌≡◌, length};
 ghost use Rattle.rulebook.specs.State.{port_fits, rule_fits, network_fits, source_fits, thing_fits, fits as fits_of, fresh_port, pack_rule, fresh_thing};
-ghost use Rattle.rulebook.specs.State.{fresh as fresh_of};
+ghost use Rattle.rulebook.specs.State.{fresh as fresh_of, state_length};
 ghost use Rattle.rulebook.specs.Table.{first_result};
-ghost use Rattle.words.specs.Sections.{Laid};
 ghost use Rattle.words.specs.State.{thing_of};
 ghost use Rattle.states.specs.Admission.{Admits};
-ghost use Rattle.states.specs.Made.{OfLength, Fresh};
+ghost use Rattle.states.specs.Made.{Fresh};
 
-use tables::{Checked, check};
+use tables::check;
+use words::bits;
 use words::numbers::{
     ASKED_FULL, PORT_EVENT, PORT_MODE, PORT_TIMER, STATE_CHECK, STATE_RECOVER, STATUS_PENDING,
     TIMER_EXPIRED, TIMER_STARTED, UNDEFINED_RESULT,
 };
-use words::sections::{Layout, read_layout};
-use words::state::Thing;
-use words::{put, sections, state, word};
+use words::state::{Network, Port, Source, Thing, pack_rule, result};
+use words::table::Table;
 
-fn port_fits(t: &[u32], p: u32, w: u32) -> bool
-    ensures { result ≡ port_fits t.now p w }
+#[tactic(auto, unfolding(rulebook::specs::State::port_fits))]
+fn port_fits(t: &Table, p: u32, w: u32) -> bool
+    ensures { result ≡ port_fits t.now.words p w }
 {
-    let port = sections::port_at(t, p);
-    let zero = state::state_port_zero(w);
-    let c = state::port_of(w);
+    let port = t.port(p);
+    let zero = bits::<10, 6>(w);
+    let c = Port::from(w);
     let started = (port.kind == PORT_TIMER) & (c.value == TIMER_STARTED);
     (zero == 0)
         & (!((port.kind == PORT_MODE) & (port.deferred == 0)) | (c.marked == 0))
@@ -38,19 +38,18 @@ fn port_fits(t: &[u32], p: u32, w: u32) -> bool
 fn rule_fits(w: u32) -> bool
     ensures { result ≡ rule_fits w }
 {
-    let zero = state::state_rule_zero(w);
-    let result = state::result(w);
+    let zero = bits::<2, 30>(w);
+    let result = result(w);
     (zero == 0) & (result <= UNDEFINED_RESULT)
 }
 
-fn network_fits(t: &[u32], h: Layout, n: u32, w: u32) -> bool
-    requires { Laid t.now h }
-    ensures { result ≡ network_fits t.now n w }
+fn network_fits(t: &Table, n: u32, w: u32) -> bool
+    ensures { result ≡ network_fits t.now.words n w }
 {
-    let waits = sections::waits_at(t, h, n);
-    let longest = words::larger(waits.l1, waits.l2);
-    let zero = state::state_network_zero(w);
-    let c = state::network_of(w);
+    let waits = t.waits(n);
+    let longest = waits.l1.max(waits.l2);
+    let zero = bits::<14, 2>(w);
+    let c = Network::from(w);
     (zero == 0)
         & (c.asked <= ASKED_FULL)
         & (c.state <= STATE_RECOVER)
@@ -63,28 +62,27 @@ fn network_fits(t: &[u32], h: Layout, n: u32, w: u32) -> bool
         & (!(c.heard == 1) | (c.state == STATE_CHECK))
 }
 
-fn source_fits(t: &[u32], h: Layout, k: u32, w: u32) -> bool
-    requires { Laid t.now h }
-    ensures { result ≡ source_fits t.now k w }
+fn source_fits(t: &Table, k: u32, w: u32) -> bool
+    ensures { result ≡ source_fits t.now.words k w }
 {
-    let source = sections::source_at(t, h, k);
-    let zero = state::state_source_zero(w);
-    let c = state::source_of(w);
+    let source = t.source(k);
+    let zero = bits::<2, 14>(w);
+    let c = Source::from(w);
     (zero == 0)
         & ((c.status == STATUS_PENDING) & ((1 <= c.remaining) & (c.remaining <= source.timeout))
             | !(c.status == STATUS_PENDING) & (c.remaining == 0))
 }
 
 // Whether a thing's word fits.
-fn thing_fits(t: &[u32], h: Layout, thing: Thing, w: u32) -> bool
-    requires { Laid t.now h }
-    ensures { result ≡ thing_fits t.now (thing_of thing) w }
+#[tactic(auto, unfolding(rulebook::specs::State::thing_fits))]
+fn thing_fits(t: &Table, thing: Thing, w: u32) -> bool
+    ensures { result ≡ thing_fits t.now.words (thing_of thing) w }
 {
     match thing {
         Thing::Port(p) => port_fits(t, p, w),
         Thing::Rule(_) => rule_fits(w),
-        Thing::Network(n) => network_fits(t, h, n, w),
-        Thing::Source(k) => source_fits(t, h, k, w),
+        Thing::Network(n) => network_fits(t, n, w),
+        Thing::Source(k) => source_fits(t, k, w),
     }
 }
 
@@ -92,114 +90,111 @@ fn thing_fits(t: &[u32], h: Layout, thing: Thing, w: u32) -> bool
 pub fn fits(t: &[u32], s: &[u32]) -> bool
     ensures { result ≡ fits_of t.now s.now }
 {
-    let h = read_layout(t);
-    let end = state::length(t, h);
+    let table = Table::read(t);
+    let end = table.state_length();
     if s.len() != end {
         return false;
     }
-    let mut i: usize = 0;
-    while i < end {
-        let thing = state::thing_at(t, h, i);
-        let w = word(s, i);
-        if !thing_fits(t, h, thing, w) {
+    for i in 0..end {
+        if !thing_fits(&table, table.thing(i), s[i]) {
             return false;
         }
-        i += 1;
     }
     true
 }
 
-// What the check of a table and a state answers: both stand, with B, or which does not.
-#[derive(Clone, Copy)]
-pub enum Admission {
-    Stands(u32),
+// What refuses a table and a state of it.
+#[derive(Clone, Copy, Debug, PartialEq, Eq)]
+pub enum NotAdmitted {
     BadTable,
-    Unfit,
+    UnfitState,
 }
 
-// Checks a table and then a state of it, for all that goes on from both.
-pub fn admit(t: &[u32], s: &[u32]) -> Admission
+// Checks a table and then a state of it, for all that goes on from both: B, or what refuses them.
+pub fn admit(t: &[u32], s: &[u32]) -> Result<u32, NotAdmitted>
     ensures { Admits t.now s.now result }
 {
-    let checked = check(t);
-    let Checked::Accepted(b) = checked else {
-        return Admission::BadTable;
+    let Ok(b) = check(t) else {
+        return Err(NotAdmitted::BadTable);
     };
     if fits(t, s) {
-        return Admission::Stands(b);
+        Ok(b)
+    } else {
+        Err(NotAdmitted::UnfitState)
     }
-    Admission::Unfit
 }
 
-fn fresh_port(t: &[u32], p: u32) -> u32
-    ensures { result ≡ fresh_port t.now p }
+fn fresh_port(t: &Table, p: u32) -> u32
+    ensures { result ≡ fresh_port t.now.words p }
 {
-    let port = sections::port_at(t, p);
+    let port = t.port(p);
+    let nothing = Port {
+        defined: 0,
+        marked: 0,
+        value: 0,
+        remaining: 0,
+    };
     if port.has_initial == 1 {
-        return state::pack_port(1, 0, port.initial, 0);
+        return u32::from(Port {
+            defined: 1,
+            value: port.initial,
+            ..nothing
+        });
     }
     if port.kind == PORT_MODE {
-        return state::pack_port(0, 0, 0, 0);
+        return u32::from(nothing);
     }
-    state::pack_port(1, 0, 0, 0)
+    u32::from(Port {
+        defined: 1,
+        ..nothing
+    })
 }
 
-fn fresh_rule(t: &[u32], h: Layout, r: u32) -> u32
-    requires { Laid t.now h }
-    ensures { result ≡ pack_rule (first_result t.now r) }
+fn fresh_rule(t: &Table, r: u32) -> u32
+    ensures { result ≡ pack_rule (first_result t.now.words r) }
 {
-    let rule = sections::rule_at(t, h, r);
-    state::pack_rule(rule.first_result)
+    pack_rule(t.rule(r).first_result)
 }
 
 // A thing's word in a fresh state.
-fn fresh_word(t: &[u32], h: Layout, thing: Thing) -> u32
-    requires { Laid t.now h }
-    ensures { result ≡ fresh_thing t.now (thing_of thing) }
+#[tactic(auto, unfolding(rulebook::specs::State::fresh_thing))]
+fn fresh_word(t: &Table, thing: Thing) -> u32
+    ensures { result ≡ fresh_thing t.now.words (thing_of thing) }
 {
     match thing {
         Thing::Port(p) => fresh_port(t, p),
-        Thing::Rule(r) => fresh_rule(t, h, r),
-        Thing::Network(_) => 0,
-        Thing::Source(_) => 0,
+        Thing::Rule(r) => fresh_rule(t, r),
+        Thing::Network(_) | Thing::Source(_) => 0,
     }
 }
 
-fn write_fresh(t: &[u32], h: Layout, s: &mut [u32])
-    requires { OfLength t.now h s.old }
-    ensures { s.new ≡ fresh_of t.now }
+fn write_fresh(t: &Table, s: &mut [u32])
+    requires { length s.old ≡ state_length t.now.words }
+    ensures { s.new ≡ fresh_of t.now.words }
 {
-    let end = s.len();
-    let mut i: usize = 0;
-    while i < end {
-        let thing = state::thing_at(t, h, i);
-        let w = fresh_word(t, h, thing);
-        put(s, i, w);
-        i += 1;
+    for i in 0..s.len() {
+        s[i] = fresh_word(t, t.thing(i));
     }
 }
 
-// What making a fresh state answers.
-#[derive(Clone, Copy)]
-pub enum Made {
-    Done,
+// What refuses to make a fresh state.
+#[derive(Clone, Copy, Debug, PartialEq, Eq)]
+pub enum NotMade {
     BadTable,
     WrongLength,
 }
 
 // Makes a fresh state of the table in the lent words, or refuses and writes nothing.
-pub fn fresh(t: &[u32], s: &mut [u32]) -> Made
+pub fn fresh(t: &[u32], s: &mut [u32]) -> Result<(), NotMade>
     ensures { Fresh t.now s.old result s.new }
 {
-    let checked = check(t);
-    let Checked::Accepted(_) = checked else {
-        return Made::BadTable;
+    let Ok(_) = check(t) else {
+        return Err(NotMade::BadTable);
     };
-    let h = read_layout(t);
-    let end = state::length(t, h);
-    if s.len() != end {
-        return Made::WrongLength;
+    let table = Table::read(t);
+    if s.len() != table.state_length() {
+        return Err(NotMade::WrongLength);
     }
-    write_fresh(t, h, s);
-    Made::Done
+    write_fresh(&table, s);
+    Ok(())
 }

@@ -2,3 +2,4 @@
 pub mod Chain
 pub mod Unique
 pub mod Shapes
+pub mod Stages

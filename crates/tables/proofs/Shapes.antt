@@ -8,11 +8,11 @@ use borrow.Author.Tests.{ne_eqb}
 use Rattle.laws.proofs.Tests.{split}
 use Rattle.rulebook.specs.Reasons.{has_header, known_edition, counts_inside, exact_length, Verdict, verdict, Link, of_table, first_of, check}
 use Rattle.rulebook.specs.Listing.{shape_reason}
-use Rattle.words.specs.Sections.{Laid}
-use Rattle.words.specs.declared.sections.Layout.{Layout}
-use Rattle.tables.specs.declared.Shape.{Shape}
-use Rattle.tables.specs.declared.Shape.TheVariants as shape
-use Rattle.tables.specs.Finding.{refused, promised, shape_number, IsLayoutOf}
+use Rattle.std.specs.Prelude.{Result, Ok, Err}
+use Rattle.words.specs.Sections.{Read}
+use Rattle.tables.specs.declared.Misshapen.{Misshapen}
+use Rattle.tables.specs.declared.Misshapen.TheVariants as shape
+use Rattle.tables.specs.Finding.{finding, refused, promised, shape_number, fault_of}
 use Rattle.tables.proofs.Chain.{from-header, from_fields, none_left, kept, broken, refuses}
 
 abbrev reason-of : Verdict → ℕ
@@ -93,23 +93,24 @@ module _ (t : List ℕ) where
   pub stops : (shape_reason t ≡ 0 → ⊥) → check t ≡ verdict (shape_reason t) 0
   stops some = stops-by shaped some
 
--- what a shape's layout says
-pub laid_of : (t : List ℕ) {r : Shape} {h : Layout} → r ≡ shape.Shaped h → IsLayoutOf t r → Laid t h
-laid_of t e l = subst (λ (r : Shape). IsLayoutOf t r) e l
-
-pub none_of : (t : List ℕ) {r : Shape} {h : Layout} → r ≡ shape.Shaped h → shape_number r ≡ shape_reason t → shape_reason t ≡ 0
+pub none_of : (t : List ℕ) {r : Result Read Misshapen} {x : Read} → r ≡ Ok x → shape_number r ≡ shape_reason t → shape_reason t ≡ 0
 none_of t e n = sym n ∙ ap shape_number e
 
--- a shape that is none of the first case has a reason
-pub some_of : (r : Shape) → ((h : Layout) → r ≡ shape.Shaped h → ⊥) → shape_number r ≡ 0 → ⊥
-some_of (shape.Shaped h) other z = other h refl
-some_of shape.TooShort other z = omega arith
-some_of shape.WrongEdition other z = omega arith
-some_of shape.WrongCounts other z = omega arith
-some_of shape.WrongLength other z = omega arith
+-- a refusal has a reason
+pub some_of : (e : Misshapen) → shape_number (Err e) ≡ 0 → ⊥
+some_of shape.TooShort z = omega arith
+some_of shape.WrongEdition z = omega arith
+some_of shape.WrongCounts z = omega arith
+some_of shape.WrongLength z = omega arith
 
--- the check's answer is then the shape's
-pub misshapes : (t : List ℕ) (r : Shape) → ((h : Layout) → r ≡ shape.Shaped h → ⊥) → shape_number r ≡ shape_reason t → refused (shape_number r) 0 ≡ promised t
-misshapes t r other said =
-    let some : (shape_reason t ≡ 0 → ⊥) = λ z. some_of r other (said ∙ z) in
-    rw said (refuses t (shape_reason t) 0 (ne_eqb (shape_reason t) 0 some) (stops t some))
+as_refused : (e : Misshapen) → finding (Err (fault_of e)) ≡ refused (shape_number (Err e)) 0
+as_refused shape.TooShort = refl
+as_refused shape.WrongEdition = refl
+as_refused shape.WrongCounts = refl
+as_refused shape.WrongLength = refl
+
+-- the check's answer is then the refusal's
+pub misshapes : (t : List ℕ) (e : Misshapen) → shape_number (Err e) ≡ shape_reason t → finding (Err (fault_of e)) ≡ promised t
+misshapes t e said =
+    let some : (shape_reason t ≡ 0 → ⊥) = λ z. some_of e (said ∙ z) in
+    as_refused e ∙ rw said (refuses t (shape_reason t) 0 (ne_eqb (shape_reason t) 0 some) (stops t some))

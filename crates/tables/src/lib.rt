@@ -1,10 +1,10 @@
 // The table check: any words, of any number. Accepted with B, or the first reason that holds and its place.
 #![tactic(auto)]
 
-ghost use Rattle.std.specs.Prelude.{◌≡◌, ◌&&◌};
+ghost use Rattle.std.specs.Prelude.{◌≡◌, ◌&&◌, Err};
 ghost use Rattle.rulebook.specs.Reasons.{known_edition, counts_inside};
-ghost use Rattle.words.specs.Sections.{Laid};
-ghost use Rattle.tables.specs.Finding.{finding, refused, promised, Says, shape_number, Shapes};
+ghost use Rattle.rulebook.specs.Listing.{shape_reason};
+ghost use Rattle.tables.specs.Finding.{finding, refused, promised, Says, fault_of, Shapes};
 
 use cost::bound;
 use fields::first_misfit;
@@ -12,15 +12,11 @@ use names::first_misnamed;
 use nesting::{find_depths, first_deep};
 use owners::first_clash;
 use reach::first_unreached;
-use words::sections::{Layout, read_layout};
-use words::table::edition;
-use words::word;
+use words::table::Table;
 
-// A case for each answer: accepted, with B, and the ten reasons in their order, 10 before 9, with the place where there is
-// one.
-#[derive(Clone, Copy)]
-pub enum Checked {
-    Accepted(u32),
+// The ten reasons in their order, 10 before 9, with the place where there is one.
+#[derive(Clone, Copy, Debug, PartialEq, Eq)]
+pub enum Fault {
     TooShort,
     WrongEdition,
     WrongCounts,
@@ -33,94 +29,87 @@ pub enum Checked {
     TooDear,
 }
 
+// Reasons 1 to 4, which go by the header and the length alone.
+#[derive(Clone, Copy, Debug, PartialEq, Eq)]
+pub enum Misshapen {
+    TooShort,
+    WrongEdition,
+    WrongCounts,
+    WrongLength,
+}
+
+impl From<Misshapen> for Fault {
+    ghost from_gives = { λ e f. f ≡ fault_of e };
+
+    fn from(e: Misshapen) -> Fault {
+        match e {
+            Misshapen::TooShort => Fault::TooShort,
+            Misshapen::WrongEdition => Fault::WrongEdition,
+            Misshapen::WrongCounts => Fault::WrongCounts,
+            Misshapen::WrongLength => Fault::WrongLength,
+        }
+    }
+}
+
 // A check's answer in numbers: the reason, the place and B.
-#[derive(Clone, Copy)]
+#[derive(Clone, Copy, Debug, PartialEq, Eq)]
 pub struct InNumbers {
     pub reason: u32,
     pub place: usize,
     pub bound: u32,
 }
 
-pub fn numbers(checked: Checked) -> InNumbers
-    ensures { Says (finding checked) result.reason result.place result.bound }
+// A reason at a place; those that speak of no word are at place 0.
+fn refused(reason: u32, place: usize) -> InNumbers
+    ensures { Says (refused reason place) result.reason result.place result.bound }
 {
-    match checked {
-        Checked::Accepted(b) => InNumbers {
-            reason: 0,
-            place: 0,
-            bound: b,
-        },
-        Checked::TooShort => InNumbers {
-            reason: 1,
-            place: 0,
-            bound: 0,
-        },
-        Checked::WrongEdition => InNumbers {
-            reason: 2,
-            place: 0,
-            bound: 0,
-        },
-        Checked::WrongCounts => InNumbers {
-            reason: 3,
-            place: 0,
-            bound: 0,
-        },
-        Checked::WrongLength => InNumbers {
-            reason: 4,
-            place: 0,
-            bound: 0,
-        },
-        Checked::Misfit(i) => InNumbers {
-            reason: 5,
-            place: i,
-            bound: 0,
-        },
-        Checked::Misnamed(i) => InNumbers {
-            reason: 6,
-            place: i,
-            bound: 0,
-        },
-        Checked::TooDeep(i) => InNumbers {
-            reason: 7,
-            place: i,
-            bound: 0,
-        },
-        Checked::OwnersClash(i) => InNumbers {
-            reason: 8,
-            place: i,
-            bound: 0,
-        },
-        Checked::Unreached(i) => InNumbers {
-            reason: 10,
-            place: i,
-            bound: 0,
-        },
-        Checked::TooDear => InNumbers {
-            reason: 9,
-            place: 0,
-            bound: 0,
-        },
+    InNumbers {
+        reason,
+        place,
+        bound: 0,
     }
 }
 
-fn known_edition(t: &[u32]) -> bool
-    ensures { result ≡ known_edition t.now }
+pub fn numbers(checked: Result<u32, Fault>) -> InNumbers
+    ensures { Says (finding checked) result.reason result.place result.bound }
 {
-    let edition = edition(word(t, 0));
+    match checked {
+        Ok(bound) => InNumbers {
+            reason: 0,
+            place: 0,
+            bound,
+        },
+        Err(Fault::TooShort) => refused(1, 0),
+        Err(Fault::WrongEdition) => refused(2, 0),
+        Err(Fault::WrongCounts) => refused(3, 0),
+        Err(Fault::WrongLength) => refused(4, 0),
+        Err(Fault::Misfit(i)) => refused(5, i),
+        Err(Fault::Misnamed(i)) => refused(6, i),
+        Err(Fault::TooDeep(i)) => refused(7, i),
+        Err(Fault::OwnersClash(i)) => refused(8, i),
+        Err(Fault::Unreached(i)) => refused(10, i),
+        Err(Fault::TooDear) => refused(9, 0),
+    }
+}
+
+#[tactic(auto, unfolding(rulebook::specs::Reasons::known_edition))]
+fn known_edition(t: &Table) -> bool
+    ensures { result ≡ known_edition t.now.words }
+{
+    let edition = t.edition();
     (edition == 1) | (edition == 2)
 }
 
-fn counts_inside(t: &[u32], h: Layout) -> bool
-    requires { Laid t.now h }
-    ensures { result ≡ counts_inside t.now }
+fn counts_inside(t: &Table) -> bool
+    ensures { result ≡ counts_inside t.now.words }
 {
-    let ports = h.ports;
-    let networks = h.networks;
-    let sources = h.sources;
-    let expressions = h.expressions;
-    let rules = h.rules;
-    let lists = h.lists;
-    let items = h.items;
+    let ports = t.ports();
+    let networks = t.networks();
+    let sources = t.sources();
+    let expressions = t.expressions();
+    let rules = t.rules();
+    let lists = t.lists();
+    let items = t.items();
     (1 <= ports)
         & (ports <= 64)
         & (networks <= 8)
@@ -131,90 +120,73 @@ fn counts_inside(t: &[u32], h: Layout) -> bool
         & (items <= 2047)
 }
 
-// Reasons 1 to 4, which go by the header and the length alone: the layout, or a case for each of them.
-#[derive(Clone, Copy)]
-pub enum Shape {
-    Shaped(Layout),
-    TooShort,
-    WrongEdition,
-    WrongCounts,
-    WrongLength,
-}
-
 // Whether a header names a known edition and counts inside their limits.
 pub fn sound_header(t: &[u32]) -> bool
     ensures { result ≡ known_edition t.now && counts_inside t.now }
 {
-    let h = read_layout(t);
-    known_edition(t) & counts_inside(t, h)
+    let table = Table::read(t);
+    known_edition(&table) & counts_inside(&table)
 }
 
-pub fn check_shape(t: &[u32]) -> Shape
+// The table, where none of reasons 1 to 4 holds.
+pub fn check_shape<'a>(t: &'a [u32]) -> Result<Table<'a>, Misshapen>
     ensures { Shapes t.now result }
 {
     if t.len() < 3 {
-        return Shape::TooShort;
+        return Err(Misshapen::TooShort);
     }
-    let h = read_layout(t);
-    if !known_edition(t) {
-        return Shape::WrongEdition;
+    let table = Table::read(t);
+    if !known_edition(&table) {
+        return Err(Misshapen::WrongEdition);
     }
-    if !counts_inside(t, h) {
-        return Shape::WrongCounts;
+    if !counts_inside(&table) {
+        return Err(Misshapen::WrongCounts);
     }
-    let length = h.length;
-    if t.len() != length {
-        return Shape::WrongLength;
+    if t.len() != table.length() {
+        return Err(Misshapen::WrongLength);
     }
-    Shape::Shaped(h)
+    Ok(table)
 }
 
-// The answer where one of reasons 1 to 4 holds.
-fn misshapen(shape: Shape) -> Checked
-    ensures { finding result ≡ refused (shape_number shape) 0 }
+// B, or the first of reasons 5 to 10, where none of 1 to 4 holds.
+fn check_words(t: &Table) -> Result<u32, Fault>
+    requires { shape_reason t.now.words ≡ 0 }
+    ensures { finding result ≡ promised t.now.words }
 {
-    match shape {
-        Shape::Shaped(_) => Checked::Accepted(0),
-        Shape::TooShort => Checked::TooShort,
-        Shape::WrongEdition => Checked::WrongEdition,
-        Shape::WrongCounts => Checked::WrongCounts,
-        Shape::WrongLength => Checked::WrongLength,
+    let end = t.length();
+    let misfit = first_misfit(t);
+    if misfit < end {
+        return Err(Fault::Misfit(misfit));
     }
-}
-
-pub fn check(t: &[u32]) -> Checked
-    ensures { finding result ≡ promised t.now }
-{
-    let shape = check_shape(t);
-    let Shape::Shaped(h) = shape else {
-        return misshapen(shape);
-    };
-    let length = h.length;
-    let misfit = first_misfit(t, h);
-    if misfit < length {
-        return Checked::Misfit(misfit);
-    }
-    let misnamed = first_misnamed(t, h);
-    if misnamed < length {
-        return Checked::Misnamed(misnamed);
+    let misnamed = first_misnamed(t);
+    if misnamed < end {
+        return Err(Fault::Misnamed(misnamed));
     }
     let mut depths = [0u32; 256];
-    find_depths(t, h, &mut depths);
-    let deep = first_deep(t, h, &depths);
-    if deep < length {
-        return Checked::TooDeep(deep);
+    find_depths(t, &mut depths);
+    let deep = first_deep(t, &depths);
+    if deep < end {
+        return Err(Fault::TooDeep(deep));
     }
-    let clash = first_clash(t, h);
-    if clash < length {
-        return Checked::OwnersClash(clash);
+    let clash = first_clash(t);
+    if clash < end {
+        return Err(Fault::OwnersClash(clash));
     }
-    let unreached = first_unreached(t, h, &depths);
-    if unreached < length {
-        return Checked::Unreached(unreached);
+    let unreached = first_unreached(t, &depths);
+    if unreached < end {
+        return Err(Fault::Unreached(unreached));
     }
-    let b = bound(t, h, &depths);
+    let b = bound(t, &depths);
     if 4096 < b {
-        return Checked::TooDear;
+        return Err(Fault::TooDear);
     }
-    Checked::Accepted(b)
+    Ok(b)
+}
+
+// B, or the first reason that holds.
+pub fn check(t: &[u32]) -> Result<u32, Fault>
+    ensures { finding result ≡ promised t.now }
+{
+    let table = check_shape(t)?;
+    check_words(&table)
 }

@@ -31,8 +31,8 @@ pub fn read_words(bytes: &[u8], words: &mut [u32]) -> usize
     ensures { Front (words_of bytes.now) words.old result words.new }
 {
     let n = word_count(bytes).min(words.len());
-    for i in 0..n {
-        words[i] = read_word(bytes, i);
+    for (i, word) in words[..n].iter_mut().enumerate() {
+        *word = read_word(bytes, i);
     }
     n
 }

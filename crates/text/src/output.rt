@@ -1,5 +1,6 @@
 // Lines of text, and parts of lines, laid into lent bytes. What has no room is not begun: the answer is then the place that was asked
-// for, and every line has at least two bytes, so a caller can tell.
+// for, and every line has at least two bytes, so a caller can tell. The place goes beside the bytes, and not into a type with them: `Put` and
+// `PutAt`, on which the theorems of every crate above stand, speak of the two.
 ghost use Rattle.std.specs.Prelude.{◌≡◌, [], ◌∷◌, ◌++◌, ◌%◌, ◌<◌, ◌≤◌};
 ghost use Rattle.text.specs.Lines.{hex_digit, digits, places as places_of, decimal, hex_line, decimal_line};
 ghost use Rattle.text.specs.Puts.{Put, PutWords, run as run_of};

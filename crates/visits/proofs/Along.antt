@@ -10,15 +10,17 @@ use lib.ListN.{length, get_or, take, length-append}
 use lib.Seq.{take-suc, length-take-le}
 use lib.Dec.{eqb}
 use borrow.Author.Count.{below_more}
-use Rattle.rulebook.specs.Step.{Result, refused_call, handle}
-use Rattle.events.specs.declared.Answer.{Answer}
+use Rattle.std.specs.Prelude as std
+use Rattle.rulebook.specs.Step.{Result, refused_call}
+use Rattle.events.specs.declared.Report.{Report}
+use Rattle.events.specs.declared.Refusal.{Refusal}
 use Rattle.events.specs.Answers.{number_of, count_of, visits_of, Reports}
 use Rattle.text.specs.Puts.{PutAt}
 use Rattle.text.proofs.Lay.{lay-none}
 use Rattle.text.proofs.Puts.{put-more, put-length}
 use Rattle.session.specs.Printed.{taken, state_after}
 use Rattle.session.specs.Promises.{Ready, trace_after, offered}
-use Rattle.session.proofs.Steps.{next-long, traced-long, next-ready, number_is, count-is, visits-is, state-is, words_are}
+use Rattle.session.proofs.Steps.{next-long, traced-long, next-ready}
 use Rattle.session.proofs.Along.{state-last, trace-last}
 use Rattle.visits.specs.declared.Cost.{Cost}
 use Rattle.visits.specs.declared.Most.{Most}
@@ -82,7 +84,7 @@ module _ (t s xs : List ℕ) (e : ℕ) where
   most-last m = rw results-last (most-append m (results t s xs) (last ∷ []))
 
 -- an event's call: its number k, its count n and its visits v stand in the line of event i
-module _ (t s trace : List ℕ) (e : ℕ) (r : Result Report Refusal) (s' trace' : List ℕ) (told : Reports (taken t s e) trace r s' trace') (i k n v : ℕ)
+module _ (t s trace : List ℕ) (e : ℕ) (r : std.Result Report Refusal) (s' trace' : List ℕ) (told : Reports (taken t s e) trace r s' trace') (i k n v : ℕ)
     (hk : k ≡ number_of r) (hn : n ≡ count_of r) (hv : v ≡ visits_of r) where
   pub took : (at next : ℕ) (out out' : List ℕ) → PutFew most_line (cost_line i k n v) out at next out'
       → TookOne t e i s trace out at (record { trace = n; visits = v; next = next }) s' trace' out'

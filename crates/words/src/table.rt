@@ -17,6 +17,7 @@ use crate::{bits, word};
 use std::marker::Model;
 use std::ops::Range;
 
+#[derive(Drop)]
 pub struct Table<'a> {
     words: &'a [u32],
     layout: Layout,
@@ -88,6 +89,12 @@ impl<'a> Table<'a> {
         self.words
     }
 
+    pub fn edition(&self) -> u32
+        ensures { Field (rulebook.edition self.now.words) 256 result }
+    {
+        bits::<0, 8>(word(self.words, 0))
+    }
+
     pub fn is_second_edition(&self) -> bool
         ensures { result ≡ eqb (rulebook.edition self.now.words) 2 }
     {
@@ -153,6 +160,13 @@ impl<'a> Table<'a> {
         ensures { result ≡ rulebook.lists_from self.now.words }
     {
         self.layout.list0
+    }
+
+    // The place of list l.
+    pub fn list_place(&self, l: u32) -> usize
+        ensures { result ≡ rulebook.lists_from self.now.words + l }
+    {
+        self.layout.list0 + l as usize
     }
 
     pub fn item0(&self) -> usize

@@ -1,16 +1,11 @@
 -- `arbitration::any_marked` meets its contract: the chain asks for each port in turn. Assumes nothing.
-use Rattle.std.proofs.Common.{rules, arith, sym, refl, ◌∙◌, tests}
-use Rattle.std.proofs.lemmas.Iterator.{YieldsList-from_range}
-use Rattle.std.proofs.lemmas.Iterator.Search.{any_from_yields_List}
+use Rattle.std.proofs.Common.{rules, arith, refl, tests}
 use Rattle.rulebook.specs.Table.{ports}
 use Rattle.rulebook.specs.Events.{marked_in}
-use Rattle.evaluation.proofs.Ranges.{any-listed}
+use Rattle.walks.proofs.Ranges.{any-of_range}
 use Rattle.arbitration.proofs.any_marked.Goals as goal
 
 pub returns : goal.returns
 returns c =
-    let marked = marked_in c.args.t.now.words c.args.s.now in
-    let n = ports c.args.t.now.words in
-    any_from_yields_List marked _ _ _ c.any.ensures.ran (YieldsList-from_range 0 c.ports.result n refl (omega (arith, c.ports.ensures.value)))
-    (λ x b q k. search (rules, tests))
-    ∙ sym (any-listed marked 0 n)
+    let t = c.args.t.now.words in
+    any-of_range (marked_in t c.args.s.now) 0 (ports t) c.any.ensures.ran refl (omega (arith, c.ports.ensures.value)) (λ x y h k. search (rules, tests))

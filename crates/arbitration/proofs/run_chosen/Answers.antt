@@ -14,7 +14,7 @@ pub plus-written-requires : goal.plus-written-requires
 plus-written-requires c =
     along-addable _ _ _ (chosen-framed _ _ _) _ _ _ _ _
     (list-next _ _ _ c.in-Some.ensures.1 _ _ _ _ _ _ c.loop-l.invariant _ c.put.ensures c.in-Some.ensures.0 c.requires.safe _ _ _ c.run_list-more.ensures)
-    c.requires.safe (omega arith)
+    c.requires.safe (omega arith) (omega arith)
 
 pub loop-l-smaller : goal.loop-l-smaller
 loop-l-smaller c = rw c.put.ensures (fewer _ _ _ c.in-Some.ensures.0 (c.in-Some.ensures.1.up c.in-Some.ensures.0))

@@ -1,6 +1,5 @@
 -- `cost::next_cost` meets its contract: each exit by its law. Assumes nothing.
 use Rattle.cost.proofs.Capped.{cost-new, cost-kept}
-use borrow.Author.Rules.{rules}
 use Rattle.cost.proofs.next_cost.Goals as goal
 
 pub returns-then-depth-d : goal.returns-then-depth-d

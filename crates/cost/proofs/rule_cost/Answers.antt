@@ -1,16 +1,15 @@
 -- `cost::rule_cost` meets its contract: the fields read are the rulebook's. Assumes nothing.
-use native.Mathlib.Omega.{arith}
+use Rattle.std.proofs.Common.{arith}
 use Rattle.rulebook.specs.Reasons.{rule_cost}
-use borrow.Author.Rules.{rules}
 use Rattle.cost.proofs.rule_cost.Goals as goal
 
 pub returns : goal.returns
 unfolding rule_cost
 returns c =
-    let rule = c.rule_at-rule.ensures in
+    let rule = c.rule-rule.ensures in
     let on-true = c.chosen_cost-on_true.ensures in
     let on-false = c.chosen_cost-on_false.ensures in
     record {
-      value = rw (c.larger.ensures, on-true.value, on-false.value, rule.true-list.value, rule.false-list.value);
-      small = omega (arith, c.larger.ensures);
+      value = rw (c.max.ensures, on-true.value, on-false.value, rule.true-list.value, rule.false-list.value);
+      small = omega (arith, c.max.ensures, on-true.small, on-false.small);
     }

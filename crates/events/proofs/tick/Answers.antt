@@ -1,17 +1,10 @@
 -- `events::tick` meets its contract: what counts has counted, and the marked ports are arbitrated. Assumes nothing.
 use Rattle.rulebook.specs.Events.{tick}
-use borrow.Author.Rules.{rules}
 use Rattle.events.proofs.tick.Goals as goal
 
 pub arbitrate_marked-requires : goal.arbitrate_marked-requires
 unfolding tick
-arbitrate_marked-requires c =
-    record {
-      laid = c.requires.laid;
-      bounded = c.requires.bounded;
-      safe = rw c.tick_things.ensures
-          c.requires.safe;
-    }
+arbitrate_marked-requires c = record { bounded = c.requires.bounded; safe = rw c.tick_things.ensures c.requires.safe }
 
 pub returns : goal.returns
 unfolding tick

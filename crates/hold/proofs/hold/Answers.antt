@@ -9,7 +9,7 @@ use Rattle.hold.proofs.hold.Goals as goal
 pub returns-in_default : goal.returns-in_default
 returns-in_default c =
     step-refused _ _ _ _ _ c.take_event-answer.ensures c.count-count.ensures c.visits-visits.ensures _ _ c.number.ensures
-    (not_done c.take_event-answer.result c.in_default.not-Done)
+    (not_done c.take_event-answer.result c.in_default.not-Ok)
 
 pub slice_bounds-compare-end : goal.slice_bounds-compare-end
 slice_bounds-compare-end c =
@@ -23,4 +23,4 @@ slice_bounds-compare-end-2 c =
 pub returns : goal.returns
 returns c =
     step-done _ _ _ _ _ c.take_event-answer.ensures c.count-count.ensures c.visits-visits.ensures _ _
-    (ap number_of c.in-Done.is) c.compare-verdict.ensures
+    (ap number_of c.in-Ok.is) c.compare-verdict.ensures

@@ -48,14 +48,14 @@ run_list-overflow_sub-below t c = level-left _ _ _ c.requires.l_value
 
 pub run_list-loop-i-init : goal.run_list-loop-i-init
 run_list-loop-i-init t c =
-    let begun = list-begun _ c.args.outcomes.now c.args.read _ _ _ _ _ _ _ c.requires.l_value c.list-list.ensures c.trace_word.ensures c.put.ensures
+    let begun = list-begun _ c.args.outcomes.now _ _ _ _ _ _ _ c.requires.l_value c.list-list.ensures c.trace_word.ensures c.put.ensures
     c.requires.safe in
     rw c.one_word-written.ensures begun.along
 
 pub run_list-run_item-more-requires : goal.run_list-run_item-more-requires
 run_list-run_item-more-requires t c =
     let list = c.list-list.ensures in
-    let begun = list-begun _ c.args.outcomes.now c.args.read _ _ _ _ _ _ _ c.requires.l_value list c.trace_word.ensures c.put.ensures c.requires.safe in
+    let begun = list-begun _ c.args.outcomes.now _ _ _ _ _ _ _ c.requires.l_value list c.trace_word.ensures c.put.ensures c.requires.safe in
     let from-first : first_item c.args.t.now.words c.args.l ≤ c.loop-i.i = omega (arith, c.loop-i.auto.i, list.first-item.value) in
     let below-end : c.loop-i.i < first_item c.args.t.now.words c.args.l + item_count c.args.t.now.words c.args.l =
     omega (arith, c.loop-i-test.true, list.first-item.value, list.item_count.value) in (
@@ -68,14 +68,14 @@ run_list-run_item-more-requires t c =
 
 pub run_list-plus-written-requires : goal.run_list-plus-written-requires
 run_list-plus-written-requires t c =
-    let begun = list-begun _ c.args.outcomes.now c.args.read _ _ _ _ _ _ _ c.requires.l_value c.list-list.ensures c.trace_word.ensures c.put.ensures
+    let begun = list-begun _ c.args.outcomes.now _ _ _ _ _ _ _ c.requires.l_value c.list-list.ensures c.trace_word.ensures c.put.ensures
     c.requires.safe in
     item-addable _ _ _ _ _ _ _ _ _ _ _ c.loop-i.invariant c.loop-i-test.true begun.safe _ c.stops-last.ensures _ _ _ c.run_item-more.ensures
-    (omega (arith, c.put.auto.ws))
+    (omega (arith, c.put.auto.ws)) (omega arith)
 
 pub run_list-returns-then-last : goal.run_list-returns-then-last
 run_list-returns-then-last t c =
-    let begun = list-begun _ c.args.outcomes.now c.args.read _ _ _ _ _ _ _ c.requires.l_value c.list-list.ensures c.trace_word.ensures c.put.ensures
+    let begun = list-begun _ c.args.outcomes.now _ _ _ _ _ _ _ c.requires.l_value c.list-list.ensures c.trace_word.ensures c.put.ensures
     c.requires.safe in
     let stopped = item-last _ _ _ _ _ _ _ _ _ _ _ c.loop-i.invariant c.loop-i-test.true begun.safe _ c.stops-last.ensures _ _ _ c.run_item-more.ensures
     c.if-last.true in
@@ -83,7 +83,7 @@ run_list-returns-then-last t c =
 
 pub run_list-loop-i-preserved : goal.run_list-loop-i-preserved
 run_list-loop-i-preserved t c =
-    let begun = list-begun _ c.args.outcomes.now c.args.read _ _ _ _ _ _ _ c.requires.l_value c.list-list.ensures c.trace_word.ensures c.put.ensures
+    let begun = list-begun _ c.args.outcomes.now _ _ _ _ _ _ _ c.requires.l_value c.list-list.ensures c.trace_word.ensures c.put.ensures
     c.requires.safe in
     rw c.plus-written.ensures
     (item-next _ _ _ _ _ _ _ _ _ _ _ c.loop-i.invariant c.loop-i-test.true begun.safe _ c.stops-last.ensures _ _ _ c.run_item-more.ensures
@@ -91,29 +91,29 @@ run_list-loop-i-preserved t c =
 
 pub run_list-returns : goal.run_list-returns
 run_list-returns t c =
-    let begun = list-begun _ c.args.outcomes.now c.args.read _ _ _ _ _ _ _ c.requires.l_value c.list-list.ensures c.trace_word.ensures c.put.ensures
+    let begun = list-begun _ c.args.outcomes.now _ _ _ _ _ _ _ c.requires.l_value c.list-list.ensures c.trace_word.ensures c.put.ensures
     c.requires.safe in
     begun.lent _ _ _ (items-end _ _ _ _ _ _ _ _ _ _ _ c.loop-i.invariant c.loop-i-test.false)
 
 pub run_rule-returns-then-unready : goal.run_rule-returns-then-unready
 run_rule-returns-then-unready t c =
     rw c.one_word.ensures
-    (rule-undefined _ c.args.outcomes.now c.args.read _ _ _ _ _ c.requires.safe (sym c.unready.ensures ∙ c.if-unready.true) _ _
+    (rule-undefined _ c.args.outcomes.now _ _ _ _ _ c.requires.safe (sym c.unready.ensures ∙ c.if-unready.true) _ _
     c.trace_word.ensures c.put.ensures)
 
 pub run_rule-judge-judged-requires : goal.run_rule-judge-judged-requires
 run_rule-judge-judged-requires t c =
-    judge-safe _ c.args.outcomes.now c.args.read _ _ _ _ _ c.requires.safe (sym c.unready.ensures ∙ c.if-unready.false)
+    judge-safe _ c.args.outcomes.now _ _ _ _ _ c.requires.safe (sym c.unready.ensures ∙ c.if-unready.false)
 
 pub run_rule-returns-then-judged-eq-NO_LIST : goal.run_rule-returns-then-judged-eq-NO_LIST
 run_rule-returns-then-judged-eq-NO_LIST t c =
     rw c.one_word-first.ensures
-    (rule-done _ c.args.outcomes.now c.args.read _ _ _ _ _ c.requires.safe (sym c.unready.ensures ∙ c.if-unready.false) _ _
+    (rule-done _ c.args.outcomes.now _ _ _ _ _ c.requires.safe (sym c.unready.ensures ∙ c.if-unready.false) _ _
     c.judge-judged.ensures.list_value _ _ c.judge-judged.ensures.ran c.if-judged-eq-NO_LIST.true)
 
 pub run_rule-slice_bounds-run_list-start : goal.run_rule-slice_bounds-run_list-start
 run_rule-slice_bounds-run_list-start t c =
-    let begun = rule-begun _ c.args.outcomes.now c.args.read _ _ _ _ _ c.requires.safe (sym c.unready.ensures ∙ c.if-unready.false) _ _
+    let begun = rule-begun _ c.args.outcomes.now _ _ _ _ _ c.requires.safe (sym c.unready.ensures ∙ c.if-unready.false) _ _
     c.judge-judged.ensures.list_value _ _ c.judge-judged.ensures.ran c.if-judged-eq-NO_LIST.false in
     begun.inside
 
@@ -121,7 +121,7 @@ pub run_rule-run_list-more-requires : goal.run_rule-run_list-more-requires
 run_rule-run_list-more-requires t c =
     let chosen = c.judge-judged.ensures.list_value in
     let some = c.if-judged-eq-NO_LIST.false in
-    let begun = rule-begun _ c.args.outcomes.now c.args.read _ _ _ _ _ c.requires.safe (sym c.unready.ensures ∙ c.if-unready.false) _ _
+    let begun = rule-begun _ c.args.outcomes.now _ _ _ _ _ c.requires.safe (sym c.unready.ensures ∙ c.if-unready.false) _ _
     chosen _ _ c.judge-judged.ensures.ran some in (
       omega (arith, c.decreases),
       (
@@ -132,14 +132,14 @@ run_rule-run_list-more-requires t c =
 
 pub run_rule-plus-requires : goal.run_rule-plus-requires
 run_rule-plus-requires t c =
-    let begun = rule-begun _ c.args.outcomes.now c.args.read _ _ _ _ _ c.requires.safe (sym c.unready.ensures ∙ c.if-unready.false) _ _
+    let begun = rule-begun _ c.args.outcomes.now _ _ _ _ _ c.requires.safe (sym c.unready.ensures ∙ c.if-unready.false) _ _
     c.judge-judged.ensures.list_value _ _ c.judge-judged.ensures.ran c.if-judged-eq-NO_LIST.false in
     rw c.one_word-first.ensures
-    (last-addable _ _ _ (list-framed _ _ _) _ _ _ _ begun c.requires.safe _ _ _ c.run_list-more.ensures (omega arith))
+    (last-addable _ _ _ (list-framed _ _ _) _ _ _ _ begun c.requires.safe _ _ _ c.run_list-more.ensures (omega arith) (omega arith))
 
 pub run_rule-returns : goal.run_rule-returns
 run_rule-returns t c =
-    let begun = rule-begun _ c.args.outcomes.now c.args.read _ _ _ _ _ c.requires.safe (sym c.unready.ensures ∙ c.if-unready.false) _ _
+    let begun = rule-begun _ c.args.outcomes.now _ _ _ _ _ c.requires.safe (sym c.unready.ensures ∙ c.if-unready.false) _ _
     c.judge-judged.ensures.list_value _ _ c.judge-judged.ensures.ran c.if-judged-eq-NO_LIST.false in
     rw (c.plus.ensures, c.one_word-first.ensures)
     (last-ran _ _ _ (list-framed _ _ _) _ _ _ _ begun c.requires.safe _ _ _ c.run_list-more.ensures)

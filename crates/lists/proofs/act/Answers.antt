@@ -9,5 +9,6 @@ returns c =
     rw c.one_word.ensures
     (one-ran _ _ _ _ _ _ _ _ (act-word _ _ _ item _ _ _ _ c.trace_word.ensures) c.requires
     (c.effect.ensures ∙ act-state _ c.args.o _ _ _) c.put.ensures
-    (act-outcomes _ _ _ item c.args.o c.args.outcomes.now c.args.read c.read_on.result _ c.read_on.ensures)
+    (act-outcomes _ _ _ item c.args.o c.args.outcomes.now c.read_by.result _ c.read_by.ensures)
+    c.read_by.ensures.inside
     (act-visits _ c.args.o _ _ _))

@@ -6,9 +6,9 @@ use Rattle.lists.proofs.Items.{stops-by, good-next}
 use Rattle.lists.proofs.stops.Goals as goal
 
 pub returns-then-word-ne1 : goal.returns-then-word-ne1
-returns-then-word-ne1 c = good-next _ c.args.outcomes.now _ c.args.read _ c.word.ensures c.if-word-ne1.true
+returns-then-word-ne1 c = good-next _ c.args.outcomes.now _ _ c.word.ensures c.if-word-ne1.true
 
 pub returns : goal.returns
 returns c =
-    stops-by _ _ _ c.item-item.ensures c.args.outcomes.now c.args.read _
+    stops-by _ _ _ c.item-item.ensures c.args.outcomes.now _
     (sym (rw (eq-eqb _ 1 (sym c.word.ensures ∙ c.if-word-ne1.false), and-true)))

@@ -1,6 +1,5 @@
 -- `nesting::next_depth` meets its contract: each exit by its law. Assumes nothing.
 use Rattle.nesting.proofs.Levels.{depth-kept, depth-found, depth-open}
-use borrow.Author.Rules.{rules}
 use Rattle.nesting.proofs.next_depth.Goals as goal
 
 pub returns-then-depth-ne0 : goal.returns-then-depth-ne0

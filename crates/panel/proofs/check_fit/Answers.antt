@@ -2,11 +2,11 @@
 use Rattle.std.proofs.Common.{sym, arith}
 use Rattle.panel.proofs.check_fit.Goals as goal
 
-pub returns-in-Fits : goal.returns-in-Fits
-returns-in-Fits c = sym c.in-Fits.ensures
+pub returns-in-Ok : goal.returns-in-Ok
+returns-in-Ok c = sym c.in-Ok.ensures
 
-pub returns-in-BadTable : goal.returns-in-BadTable
-returns-in-BadTable c = (c.in-BadTable.ensures, λ z. omega arith)
+pub returns-in-Err-BadTable : goal.returns-in-Err-BadTable
+returns-in-Err-BadTable c = (c.in-Err-BadTable.ensures, λ z. omega arith)
 
-pub returns-in-Unfit : goal.returns-in-Unfit
-returns-in-Unfit c = (c.in-Unfit.ensures, λ z. omega arith)
+pub returns-in-Err-UnfitState : goal.returns-in-Err-UnfitState
+returns-in-Err-UnfitState c = (c.in-Err-UnfitState.ensures, λ z. omega arith)

@@ -1,10 +1,9 @@
 -- `reach::pass_on` meets its contract: each exit by its law. Assumes nothing.
-use borrow.Author.Rules.{rules}
 use Rattle.reach.proofs.Rounds.{pass-none, pass-down, pass_all}
 use Rattle.reach.proofs.pass_on.Goals as goal
 
 pub returns-then-depth-d : goal.returns-then-depth-d
-returns-then-depth-d c = pass-none _ _ _ _ _ _ c.word-depth.ensures c.requires.lent.long c.if-depth-d.true
+returns-then-depth-d c = pass-none _ _ _ _ _ _ c.word-depth.ensures c.requires.long c.if-depth-d.true
 
 pub returns-then-flag : goal.returns-then-flag
 returns-then-flag c =
@@ -12,4 +11,4 @@ returns-then-flag c =
 
 pub returns-else-flag : goal.returns-else-flag
 returns-else-flag c =
-    pass-down _ _ _ _ _ _ c.word-depth.ensures _ c.flag.ensures c.requires.lent.long c.if-flag.false
+    pass-down _ _ _ _ _ _ c.word-depth.ensures _ c.flag.ensures c.requires.long c.if-flag.false

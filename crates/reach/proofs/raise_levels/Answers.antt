@@ -1,24 +1,23 @@
--- `reach::raise_levels` meets its contract. The loop's invariant: the rounds of all depths above d are done. Assumes nothing.
-use Prim.Native.Nat.{◌+◌, ◌-◌, ◌≤◌}
-use mathlib.Core.Path.{◌≡◌, sym, ◌∙◌}
-use native.Mathlib.Omega.{arith}
-use Rattle.reach.specs.Raised.{Closed}
+-- `reach::raise_levels` meets its contract, from no round to that of depth 2. Assumes nothing.
+use Rattle.std.proofs.Common.{◌≡◌, ◌+◌, ◌-◌, sym, ◌∙◌, arith}
 use Rattle.reach.proofs.Rounds.{no-round}
 use Rattle.reach.proofs.raise_levels.Goals as goal
 
+pub loop-d-init : goal.loop-d-init
+loop-d-init c = record { some = omega arith; closed = no-round _ _ c.requires.judged _ c.requires.started }
+
 pub raise_level-requires : goal.raise_level-requires
 raise_level-requires c =
-    let same : c.loop-d.d - 1 + 1 ≡ c.loop-d.d = omega (arith, c.loop-d-test.true) in
-    record { sorted = c.requires.judged.sorted; shallow = omega (arith, c.loop-d-test.true); closed = rw same c.loop-d.invariant.2 }
-
-pub returns : goal.returns
-returns c = let last : c.loop-d.d ≡ 1 = omega (arith, c.loop-d-test.false, c.loop-d.invariant.0) in rw last at c.loop-d.invariant.2
-
-pub loop-d-init : goal.loop-d-init
-loop-d-init c = (omega arith, omega arith, no-round _ _ _ c.requires.judged _ c.requires.started)
+    let same : c.loop-d.d - 1 + 1 ≡ c.loop-d.d = omega arith in
+    record { sorted = c.requires.judged.sorted; shallow = omega arith; closed = rw same c.loop-d.invariant.closed }
 
 pub loop-d-preserved : goal.loop-d-preserved
-loop-d-preserved c = (omega arith, omega arith, c.raise_level.ensures)
+loop-d-preserved c = record { some = omega arith; closed = c.raise_level.ensures }
+
+pub returns : goal.returns
+returns c =
+    let last : c.loop-d.d ≡ 1 = let some = c.loop-d.invariant.some in omega arith in
+    rw last at c.loop-d.invariant.closed
 
 pub shape_of-flags : goal.shape_of-flags
-shape_of-flags c = c.loop-d.invariant.2.long ∙ sym c.requires.started.long
+shape_of-flags c = c.loop-d.invariant.closed.long ∙ sym c.requires.started.long

@@ -2,23 +2,22 @@
 use Rattle.rulebook.specs.State.{network_fits}
 use Rattle.walks.proofs.Walks.{either}
 use Rattle.words.proofs.Things.{same_asked, same-state, same-counter, same-heard, same-remaining}
-use borrow.Author.Rules.{rules}
 use Rattle.states.proofs.network_fits.Goals as goal
 
 pub returns : goal.returns
 unfolding network_fits
 returns c =
     rw (
-      ← c.waits_at-waits.ensures.l1.value,
-      ← c.waits_at-waits.ensures.l2.value,
-      ← c.larger-longest.ensures,
-      ← c.waits_at-waits.ensures.e-ticks.value,
-      ← c.state_network_zero-zero.ensures.value,
-      ← same_asked c.network_of-c.ensures,
-      ← same-state c.network_of-c.ensures,
-      ← same-counter c.network_of-c.ensures,
-      ← same-heard c.network_of-c.ensures,
-      ← same-remaining c.network_of-c.ensures,
+      ← c.waits-waits.ensures.l1.value,
+      ← c.waits-waits.ensures.l2.value,
+      ← c.max-longest.ensures,
+      ← c.waits-waits.ensures.e-ticks.value,
+      ← c.bits-zero.ensures.value,
+      ← same_asked c.from-c.ensures,
+      ← same-state c.from-c.ensures,
+      ← same-counter c.from-c.ensures,
+      ← same-heard c.from-c.ensures,
+      ← same-remaining c.from-c.ensures,
       either,
       either,
       either,

@@ -1,8 +1,7 @@
 -- `states::rule_fits` meets its contract: the fields read are the rulebook's. Assumes nothing.
 use Rattle.rulebook.specs.State.{rule_fits}
-use borrow.Author.Rules.{rules}
 use Rattle.states.proofs.rule_fits.Goals as goal
 
 pub returns : goal.returns
 unfolding rule_fits
-returns c = rw (c.state_rule_zero-zero.ensures.value, c.result-result.ensures.value)
+returns c = rw (← c.bits-zero.ensures.value, ← c.result-result.ensures.value)

@@ -20,22 +20,22 @@ overflow_add-given c =
 pub returns-then-events-n : goal.returns-then-events-n
 unfolding more_given
 returns-then-events-n c =
-    few-ticks _ _ _ _ _ _ _ c.requires.2 _ _ _ c.ticks_due-due.ensures.0 c.give_ticks-events.ensures _ c.no_room.ensures.end
+    few-ticks _ _ _ _ _ _ _ c.requires.1 _ _ _ c.ticks_due-due.ensures.0 c.give_ticks-events.ensures _ c.no_room.ensures.end
     c.no_room.ensures.cursor c.no_room.ensures.events c.no_room.ensures.bytes _ refl c.if-events-n.true
 
 pub returns-then-not-line : goal.returns-then-not-line
 returns-then-not-line c =
-    ticks-alone _ _ _ _ _ _ _ c.requires.2 _ _ _ c.ticks_due-due.ensures.0 c.give_ticks-events.ensures c.if-events-n.false
+    ticks-alone _ _ _ _ _ _ _ c.requires.1 _ _ _ c.ticks_due-due.ensures.0 c.give_ticks-events.ensures c.if-events-n.false
     c.if-not-line.true _ refl c.line_read-cursor.ensures refl refl
 
 pub returns-then-events-out : goal.returns-then-events-out
 unfolding more_given
 returns-then-events-out c =
-    no-bus-off _ _ _ _ _ _ _ c.requires.2 _ _ _ c.ticks_due-due.ensures.0 c.give_ticks-events.ensures _ c.no_room-then-events-out.ensures.end
+    no-bus-off _ _ _ _ _ _ _ c.requires.1 _ _ _ c.ticks_due-due.ensures.0 c.give_ticks-events.ensures _ c.no_room-then-events-out.ensures.end
     c.no_room-then-events-out.ensures.cursor c.no_room-then-events-out.ensures.events c.no_room-then-events-out.ensures.bytes c.if-not-line.false
     c.if-events-n.false (c.if-events-out.true ∙ c.give_ticks-events.ensures.long)
 
 pub returns : goal.returns
 returns c =
-    ticks-and-off _ _ _ _ _ _ _ c.requires.2 _ _ _ c.ticks_due-due.ensures.0 c.give_ticks-events.ensures c.if-events-n.false
+    ticks-and-off _ _ _ _ _ _ _ c.requires.1 _ _ _ c.ticks_due-due.ensures.0 c.give_ticks-events.ensures c.if-events-n.false
     c.if-not-line.false (omega (arith, c.give_ticks-events.ensures)) _ c.bus_off_word.ensures _ refl c.line_read-cursor.ensures refl refl

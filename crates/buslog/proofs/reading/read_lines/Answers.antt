@@ -1,6 +1,6 @@
 -- `buslog::reading::read_lines` meets its contract. The loop's invariant: `ReadTo`. The measure is what is left of the log. Assumes nothing.
 use mathlib.Core.Path.{sym, ◌∙◌}
-use Rattle.buslog.proofs.Taking.{read-begin, read-on, read-refused, read-end, line_on, no-error, an-error}
+use Rattle.buslog.proofs.Taking.{read-on, read-refused, read-end, line_on, no-error, an-error}
 use Rattle.buslog.proofs.reading.read_lines.Goals as goal
 
 pub returns-then-is_err : goal.returns-then-is_err
@@ -20,9 +20,3 @@ loop-at-smaller c =
 
 pub returns : goal.returns
 returns c = read-end _ _ _ _ _ _ _ _ _ c.loop-at.invariant c.loop-at-test.false _ c.stopped.ensures
-
-pub loop-at-init : goal.loop-at-init
-loop-at-init c = read-begin _ _ _ _ _
-
-pub take_line-step-requires : goal.take_line-step-requires
-take_line-step-requires c = (c.requires, c.loop-at.invariant.inside, c.loop-at.invariant.words)

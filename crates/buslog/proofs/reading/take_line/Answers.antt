@@ -8,21 +8,21 @@ use Rattle.buslog.proofs.reading.take_line.Goals as goal
 
 pub returns-in_default : goal.returns-in_default
 returns-in_default c =
-    stops _ _ _ _ _ _ _ c.requires.1 c.requires.2 12 (Err Misspelt) (fault-spelt _ _ _ _ c.in_default.ensures) (λ z. omega arith) refl _
+    stops _ _ _ _ _ _ _ c.requires.0 c.requires.1 12 (Err Misspelt) (fault-spelt _ _ _ _ c.in_default.ensures) (λ z. omega arith) refl _
     c.stopped.ensures
 
 pub returns-then-goes_back : goal.returns-then-goes_back
 returns-then-goes_back c =
     let says = c.in-Some.ensures in
-    stops _ _ _ _ _ _ _ c.requires.1 c.requires.2 14 (Err GoesBack)
+    stops _ _ _ _ _ _ _ c.requires.0 c.requires.1 14 (Err GoesBack)
     (fault-back _ _ _ _ says.spelt (back_as _ _ _ _ _ says c.goes_back.ensures ∙ c.if-goes_back.true)) (λ z. omega arith) refl _
     c.stopped-then-goes_back.ensures
 
 pub returns-in_default-number_of : goal.returns-in_default-number_of
 returns-in_default-number_of c =
     let says = c.in-Some.ensures in
-    let count = c.requires.0.networks.value in
-    stops _ _ _ _ _ _ _ c.requires.1 c.requires.2 15 (Err Unlisted)
+    let count = c.networks.ensures.value in
+    stops _ _ _ _ _ _ _ c.requires.0 c.requires.1 15 (Err Unlisted)
     (fault-name _ _ _ _ says.spelt (back_as _ _ _ _ _ says c.goes_back.ensures ∙ c.if-goes_back.false)
     (sym (same-network _ _ _ _ _ _ _ says count (sym c.in_default-number_of.ensures)) ∙ count)) (λ z. omega arith) refl _
     c.stopped-in_default-number_of.ensures
@@ -30,14 +30,14 @@ returns-in_default-number_of c =
 pub give-requires : goal.give-requires
 give-requires c =
     let told = c.in-Some-number_of.ensures in
-    (c.requires.0, omega (arith, told.1, c.requires.0.networks.small), c.requires.2)
+    (omega (arith, told.1, c.networks.ensures.small), c.requires.1)
 
 pub returns : goal.returns
 returns c =
     let says = c.in-Some.ensures in
-    let count = c.requires.0.networks.value in
+    let count = c.networks.ensures.value in
     let told = c.in-Some-number_of.ensures in
     let network = same-network _ _ _ _ _ _ _ says count told.0 in
-    gave _ _ _ _ _ _ _ c.requires.1 c.requires.2 _ _ says network
+    gave _ _ _ _ _ _ _ c.requires.0 c.requires.1 _ _ says network
     (no-fault _ _ _ _ says.spelt (back_as _ _ _ _ _ says c.goes_back.ensures ∙ c.if-goes_back.false)
     (λ e. omega (arith, network, e, count, told.1))) says.inside _ _ c.give.ensures

@@ -4,4 +4,4 @@ use Rattle.listing.proofs.Places.{on-header}
 use Rattle.listing.proofs.forms.form_at.Goals as goal
 
 pub place_form-requires : goal.place_form-requires
-place_form-requires c = (c.requires.laid, λ e. on-header _ _ (sym c.part_at-part.ensures ∙ e))
+place_form-requires c = λ e. on-header _ _ (sym c.part.ensures ∙ e)

@@ -11,12 +11,12 @@ pub form_at-requires : goal.form_at-requires
 form_at-requires c =
     let told = c.loop-i.invariant.0 in
     let all = long-header _ _ _ told.whole.listed (fits _ _ _ _ told) _ _ _ _ told.whole.headed c.loop-i.invariant.1 in
-    record { laid = c.read_layout-h.ensures; inside = omega (arith, told.whole.count, c.read_layout-h.ensures.length) }
+    rw c.read-t.ensures.0 (omega (arith, told.whole.count))
 
 pub unwrap-w-requires : goal.unwrap-w-requires
 unwrap-w-requires c =
     let told = c.loop-i.invariant.0 in
-    some_line c.args.text.now c.loop-i.at _ c.form_at.ensures c.read_line-line.ensures
+    some_line c.args.text.now c.loop-i.at _ (rw c.read-t.ensures.0 at c.form_at.ensures) c.read_line-line.ensures
     (never _ _ _ told.whole.listed (fits _ _ _ _ told) _ _ _ _ told.whole.headed c.loop-i.invariant.1 (omega (arith, told.whole.count)))
 
 pub loop-i-preserved : goal.loop-i-preserved
@@ -24,5 +24,5 @@ loop-i-preserved c =
     let told = c.loop-i.invariant.0 in (
       told,
       step _ _ _ told.whole.listed (fits _ _ _ _ told) _ _ _ _ told.whole.headed c.loop-i.invariant.1 (omega (arith, told.whole.count)) _ _
-          (line_as c.args.text.now c.loop-i.at _ c.form_at.ensures c.read_line-line.ensures c.unwrap-w.ensures),
+          (line_as c.args.text.now c.loop-i.at _ (rw c.read-t.ensures.0 at c.form_at.ensures) c.read_line-line.ensures c.unwrap-w.ensures),
     )

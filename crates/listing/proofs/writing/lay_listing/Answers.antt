@@ -7,10 +7,13 @@ pub loop-i-init : goal.loop-i-init
 loop-i-init c = laid-begin _ _
 
 pub lay_line-next-requires : goal.lay_line-next-requires
-lay_line-next-requires c = (c.requires.0, omega arith, laid-room _ _ c.requires.1 _ _ _ c.loop-i.invariant (omega arith))
+lay_line-next-requires c =
+    (omega arith, laid-room _ _ c.requires.1 _ _ _ c.loop-i.invariant (omega arith))
 
 pub loop-i-preserved : goal.loop-i-preserved
-loop-i-preserved c = laid_next _ _ c.requires.1 _ _ _ c.loop-i.invariant (omega arith) _ _ c.lay_line-next.ensures
+loop-i-preserved c =
+    laid_next _ _ c.requires.1 _ _ _ c.loop-i.invariant (omega arith) _ _ c.lay_line-next.ensures
 
 pub returns : goal.returns
-returns c = laid_end _ _ c.requires.1 _ _ _ c.loop-i.invariant (omega arith)
+returns c =
+    laid_end _ _ c.requires.1 _ _ _ c.loop-i.invariant (omega arith)

@@ -1,34 +1,40 @@
 -- `listing::writing::list` meets its promise: what refuses it, one after the other, or the listing. Assumes nothing.
-use mathlib.Core.Path.{sym, ◌∙◌}
+use mathlib.Core.Path.{◌≡◌, sym, ◌∙◌}
 use native.Mathlib.Omega.{arith}
 use borrow.Author.Tests.{eqb-true}
+use lib.ListN.{length}
+use Rattle.std.proofs.lemmas.Result.{err_from_is_err_and}
 use Rattle.rulebook.specs.Reasons.{exact_length}
-use Rattle.tables.proofs.Shapes.{kept_of, laid_of, none_of, some_of}
-use Rattle.listing.proofs.Lists.{no-shape, no_room, done}
+use Rattle.rulebook.specs.Table.{table_length}
+use Rattle.tables.proofs.Shapes.{kept_of}
+use Rattle.listing.proofs.Lists.{no-shape, some-refusal, no_room, done}
 use Rattle.listing.proofs.writing.list.Goals as goal
+use Rattle.listing.proofs.writing.list.Goals.{In_ok-t}
+
+-- a table that is accepted so far has the length that its header asks for
+whole : (c : In_ok-t) → table_length c.in_ok-t.t.words ≡ length c.in_ok-t.t.words
+unfolding exact_length
+whole c =
+    let told = c.in_ok-t.ensures in
+    rw told.table (sym (eqb-true _ _ (kept_of _ (sym told.reason)).exact))
+
+pub returns-in_err-t : goal.returns-in_err-t
+returns-in_err-t c =
+    let p = err_from_is_err_and c.from_residual.result c.from_residual.ensures.1 in
+    rw p.1 (no-shape _ _ _ (p.2 ∙ c.in_err-t.ensures.reason) (some-refusal p.0))
+
+pub listing_room-requires : goal.listing_room-requires
+listing_room-requires c = whole (goal.at.listing_room-requires c).In_ok-t
 
 pub returns-in_default : goal.returns-in_default
 returns-in_default c =
-    let said = c.check_shape-shape.ensures.reason in
-    rw c.misshapen.ensures.1
-    (no-shape _ _ _ (c.misshapen.ensures.0 ∙ said) (λ z. some_of _ c.in_default.not-Shaped (sym c.misshapen.ensures.0 ∙ z)))
-
-pub listing_room-requires : goal.listing_room-requires
-unfolding exact_length
-listing_room-requires c =
-    let laid = laid_of _ c.in-Shaped.is c.check_shape-shape.ensures.layout in
-    record { laid = laid; whole = eqb-true _ _ (kept_of _ (none_of _ c.in-Shaped.is c.check_shape-shape.ensures.reason)).exact ∙ sym laid.length }
-
-pub returns-in_default-listing_room : goal.returns-in_default-listing_room
-returns-in_default-listing_room c = no_room _ _ (none_of _ c.in-Shaped.is c.check_shape-shape.ensures.reason) c.in_default-listing_room.ensures
+    let told = c.in_ok-t.ensures in
+    no_room _ _ (sym told.reason) (rw told.table at c.in_default.ensures)
 
 pub lay_listing-requires : goal.lay_listing-requires
-unfolding exact_length
-lay_listing-requires c =
-    let laid = laid_of _ c.in-Shaped.is c.check_shape-shape.ensures.layout in (
-      record { laid = laid; whole = eqb-true _ _ (kept_of _ (none_of _ c.in-Shaped.is c.check_shape-shape.ensures.reason)).exact ∙ sym laid.length },
-      omega (arith, c.in-Some.ensures),
-    )
+lay_listing-requires c = (whole (goal.at.lay_listing-requires c).In_ok-t, omega (arith, c.in-Some.ensures))
 
 pub returns : goal.returns
-returns c = done _ _ (none_of _ c.in-Shaped.is c.check_shape-shape.ensures.reason) (omega (arith, c.in-Some.ensures)) c.lay_listing.ensures
+returns c =
+    let told = c.in_ok-t.ensures in
+    done _ _ (sym told.reason) (omega (arith, rw told.table at c.in-Some.ensures)) (rw told.table at c.lay_listing.ensures)

@@ -12,18 +12,18 @@ loop-i-init c = left-begin _ _
 
 pub lay_line-long-requires : goal.lay_line-long-requires
 lay_line-long-requires c =
-    let short : length (line_at c.args.t.now c.loop-i.i) ≤ 47 = line-short _ _ in
-    (c.requires, omega arith, omega arith)
+    let short : length (line_at c.args.t.now.words c.loop-i.i) ≤ 47 = line-short _ _ in
+    (omega arith, omega arith)
 
 pub returns-in_err-left : goal.returns-in_err-left
 returns-in_err-left c =
-    let long : c.lay_line-long.result ≡ length (line_at c.args.t.now c.loop-i.i) = omega (arith, c.lay_line-long.ensures.place) in
+    let long : c.lay_line-long.result ≡ length (line_at c.args.t.now.words c.loop-i.i) = omega (arith, c.lay_line-long.ensures.place) in
     rw c.from_residual.ensures
     (left-short _ _ _ _ _ (omega arith) long c.loop-i.invariant (omega (arith, c.in_err-left.ensures)))
 
 pub loop-i-preserved : goal.loop-i-preserved
 loop-i-preserved c =
-    let long : c.lay_line-long.result ≡ length (line_at c.args.t.now c.loop-i.i) = omega (arith, c.lay_line-long.ensures.place) in
+    let long : c.lay_line-long.result ≡ length (line_at c.args.t.now.words c.loop-i.i) = omega (arith, c.lay_line-long.ensures.place) in
     rw c.in_ok-left.ensures.1 (left-next _ _ _ _ _ (omega arith) long c.loop-i.invariant c.in_ok-left.ensures.0)
 
 pub returns : goal.returns

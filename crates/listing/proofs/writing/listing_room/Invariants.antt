@@ -3,4 +3,4 @@ use Rattle.listing.proofs.Lists.{LeftOf}
 use Rattle.listing.proofs.writing.listing_room.Given as goal
 
 abbrev pub invariant-loop-i : goal.invariant-loop-i
-invariant-loop-i l = LeftOf l.t l.room l.left l.i
+invariant-loop-i l = LeftOf l.t.words l.room l.left l.i

@@ -1,23 +1,20 @@
 -- `panel::View::lay` meets its contract, part behind part. Assumes nothing.
-use Rattle.panel.proofs.Along.{room-ports, room-networks, room-sources, room-trace, panel-laid}
+use Rattle.std.proofs.Common.{arith}
+use Rattle.panel.proofs.Along.{nth-part, laid-none, room-more, laid-more, laid-all}
 use Rattle.panel.proofs.View.lay.Goals as goal
 
-pub lay_part-behind_ports-requires : goal.lay_part-behind_ports-requires
-lay_part-behind_ports-requires c =
-    let v = c.args.self.now in
-    room-ports v.operator v.table.now v.state.now v.words.now c.args.out.now c.requires
+pub loop-part-init : goal.loop-part-init
+loop-part-init c = laid-none _ _ _ _ _
 
-pub lay_part-behind_networks-requires : goal.lay_part-behind_networks-requires
-lay_part-behind_networks-requires c = room-networks _ _ _ _ _ c.requires c.lay_part-behind_ports.ensures
+pub lay_part-next-requires : goal.lay_part-next-requires
+lay_part-next-requires c =
+    let l = c.loop-part in
+    room-more _ _ _ _ c.args.out.now c.requires l.part-index (omega arith) (nth-part l.part-index (omega arith)) l.invariant l.auto.out
 
-pub lay_part-behind_sources-requires : goal.lay_part-behind_sources-requires
-lay_part-behind_sources-requires c = room-sources _ _ _ _ _ c.requires c.lay_part-behind_ports.ensures c.lay_part-behind_networks.ensures
-
-pub lay_part-requires : goal.lay_part-requires
-lay_part-requires c =
-    room-trace _ _ _ _ _ c.requires c.lay_part-behind_ports.ensures c.lay_part-behind_networks.ensures c.lay_part-behind_sources.ensures
+pub loop-part-preserved : goal.loop-part-preserved
+loop-part-preserved c =
+    let l = c.loop-part in
+    laid-more _ _ _ _ c.args.out.now c.requires l.part-index (omega arith) (nth-part l.part-index (omega arith)) l.invariant c.lay_part-next.ensures
 
 pub returns : goal.returns
-returns c =
-    panel-laid _ _ _ _ _ c.requires c.lay_part-behind_ports.ensures c.lay_part-behind_networks.ensures c.lay_part-behind_sources.ensures
-    c.lay_part.ensures
+returns c = let l = c.loop-part in laid-all _ _ _ _ c.args.out.now l.part-index (omega arith) l.invariant

@@ -1,22 +1,20 @@
 -- `panel::View::room_left` meets its contract, part behind part. Assumes nothing.
-use Rattle.panel.proofs.Along.{no-room-ports, no-room-networks, no-room-sources, panel-leaves}
+use Rattle.std.proofs.Common.{arith}
+use Rattle.panel.proofs.Along.{nth-part, left-none, left-more, no-more, left-all}
 use Rattle.panel.proofs.View.room_left.Goals as goal
 
-pub returns-in_err-behind_ports : goal.returns-in_err-behind_ports
-returns-in_err-behind_ports c = rw c.from_residual.ensures (no-room-ports _ _ _ _ _ c.in_err-behind_ports.ensures)
+pub loop-part-init : goal.loop-part-init
+loop-part-init c = left-none _ _ _ _ _
 
-pub returns-in_err-behind_networks : goal.returns-in_err-behind_networks
-returns-in_err-behind_networks c =
-    rw c.from_residual-in_err-behind_networks.ensures
-    (no-room-networks _ _ _ _ _ _ c.in_ok-behind_ports.ensures c.in_err-behind_networks.ensures)
+pub returns-in_err-left : goal.returns-in_err-left
+returns-in_err-left c =
+    let l = c.loop-part in
+    rw c.from_residual.ensures (no-more _ _ _ _ _ l.left l.part-index (nth-part l.part-index (omega arith)) l.invariant (omega arith) c.in_err-left.ensures)
 
-pub returns-in_err-behind_sources : goal.returns-in_err-behind_sources
-returns-in_err-behind_sources c =
-    rw c.from_residual-in_err-behind_sources.ensures
-    (no-room-sources _ _ _ _ _ _ c.in_ok-behind_ports.ensures _ c.in_ok-behind_networks.ensures c.in_err-behind_sources.ensures)
+pub loop-part-preserved : goal.loop-part-preserved
+loop-part-preserved c =
+    let l = c.loop-part in
+    left-more _ _ _ _ _ l.left l.part-index (nth-part l.part-index (omega arith)) l.invariant _ c.in_ok-left.ensures
 
 pub returns : goal.returns
-returns c =
-    let v = c.args.self.now in
-    panel-leaves v.operator v.table.now v.state.now v.words.now c.args.room _ c.in_ok-behind_ports.ensures _
-    c.in_ok-behind_networks.ensures _ c.in_ok-behind_sources.ensures c.part_room-4.result c.part_room-4.ensures
+returns c = let l = c.loop-part in left-all _ _ _ _ _ l.left l.part-index (omega arith) l.invariant

@@ -4,4 +4,4 @@ use Rattle.text.specs.Words.{words_of}
 use Rattle.text.proofs.input.read_words.Given as goal
 
 abbrev pub invariant-loop-i : goal.invariant-loop-i
-invariant-loop-i l = l.words ≡ take l.i (words_of l.bytes) ++ drop l.i l.initial.words
+invariant-loop-i l = l.word-items ≡ take l.i (words_of l.bytes) ++ drop l.i l.initial.word-items

@@ -1,8 +1,0 @@
--- `names::source_names` meets its contract: the fields read are the rulebook's. Assumes nothing.
-use Rattle.rulebook.specs.Reasons.{names}
-use Rattle.names.proofs.source_names.Goals as goal
-
-pub returns : goal.returns
-unfolding names
-returns c =
-    rw (c.may_show.ensures, c.held.ensures, c.source-port.ensures.port.value, c.networks-networks.ensures.value)
