@@ -1,17 +1,8 @@
 -- What is found of an expression in the part of a table that starts with its expressions: the code goes over that part alone.
-use Rattle.std.specs.Prelude.{ℕ, ◌≡◌, Bool, List, drop}
-use Rattle.rulebook.specs.Table.{expressions_from}
-use Rattle.rulebook.specs.Expressions.{mentions}
+use Rattle.std.specs.Prelude.{ℕ, List}
+use Rattle.expression.specs.Section.{Section}
 use Rattle.evaluation.specs.Found.{Evaluates}
-
--- x is that part of table t
-abbrev pub Section : List ℕ → List ℕ → Type 0
-Section t x = x ≡ drop (expressions_from t) t
 
 -- r is what evaluating expression e, d deep at most, reports in every table of which x is that part
 abbrev pub EvaluatedIn : List ℕ → (ℕ → ℕ) → ℕ → ℕ → ℕ → Type 0
 EvaluatedIn x v e d r = (t : List ℕ) → Section t x → Evaluates t v e d r
-
--- b is whether such an expression mentions one of q's ports, in every such table
-abbrev pub MentionsIn : List ℕ → (ℕ → Bool) → ℕ → ℕ → Bool → Type 0
-MentionsIn x q e d b = (t : List ℕ) → Section t x → b ≡ mentions d t q e

@@ -1,16 +1,17 @@
-// Evaluation of expressions and of rules, by the port words of a state. Evaluation and the test for undefined
-// ports go down into the left and then the right argument, with one level less each time.
+// Evaluation of expressions and of rules, by the port words of a state. Evaluation goes down into the left and then the right argument,
+// with one level less each time.
 #![tactic(auto)]
 
 ghost use Rattle.std.specs.Prelude.{◌≡◌, ◌≤◌};
 ghost use Rattle.rulebook.specs.Words.{any};
-ghost use Rattle.rulebook.specs.Expressions.{mentions, met, joined as joined_of, settled as settled_of};
+ghost use Rattle.rulebook.specs.Expressions.{met, joined as joined_of, settled as settled_of};
 ghost use Rattle.rulebook.specs.Lists.{value_in, undefined_in, unready as unready_of, list_for, choice as choice_of};
 ghost use Rattle.words.specs.Field.{Field};
 ghost use Rattle.evaluation.specs.Condition.{condition_word, word_met};
-ghost use Rattle.evaluation.specs.Section.{Section, EvaluatedIn, MentionsIn};
+ghost use Rattle.evaluation.specs.Section.{EvaluatedIn};
 ghost use Rattle.evaluation.specs.Found.{in_word, Evaluates, Finds};
 
+use expression::{expression_words, mentions_where};
 use words::expressions::{
     condition_port, condition_value, expression_kind, is_operator, left, right,
 };
@@ -93,14 +94,6 @@ fn word_met(values: &[u32], w: u32) -> bool
     condition_met(expression_kind(w), value, condition_value(w))
 }
 
-// The part of a table that starts with its expressions. The recursions below go over it alone, and add the place to no number.
-fn expression_words<'a>(t: &Table<'a>) -> &'a [u32]
-    ensures { Section t.now.words result.now }
-{
-    let words = t.words();
-    &words[t.expression0().min(words.len())..]
-}
-
 // An evaluation in one word: twice its visits, and 1 more if the expression holds. Two fields by value would go through memory at each
 // level of the recursion.
 fn in_word(holds: bool, visits: u32) -> u32
@@ -162,50 +155,6 @@ fn argument_holds(x: &[u32], values: &[u32], e: u32, levels: u32) -> u32
     holds_in(x, values, e, levels)
 }
 
-// Whether expression e, down to so many levels, mentions a port that is undefined.
-fn mentions_undefined(t: &Table, s: &[u32], e: u32, levels: u32) -> bool
-    ensures { result ≡ mentions levels t.now.words (undefined_in s.now) e }
-{
-    mentions_in(expression_words(t), s, e, levels)
-}
-
-// The same by the part x of a table that starts with its expressions. Both sides are read, for document 01 asks for each port.
-#[cycle(argument_mentions_mentions_in)]
-fn mentions_in(x: &[u32], s: &[u32], e: u32, levels: u32) -> bool
-    ensures { MentionsIn x.now (undefined_in s.now) e levels result }
-{
-    if levels == 0 {
-        return false;
-    }
-    let w = word(x, e as usize);
-    if is_condition(w) {
-        return undefined_in(s, condition_port(w));
-    }
-    if argument_mentions(x, s, left(w), levels - 1) {
-        return true;
-    }
-    let kind = expression_kind(w);
-    if kind == OPERATOR_NOT {
-        return false;
-    }
-    argument_mentions(x, s, right(w), levels - 1)
-}
-
-// The same of an argument.
-#[cycle(argument_mentions_mentions_in)]
-fn argument_mentions(x: &[u32], s: &[u32], e: u32, levels: u32) -> bool
-    ensures { MentionsIn x.now (undefined_in s.now) e levels result }
-{
-    if levels == 0 {
-        return false;
-    }
-    let w = word(x, e as usize);
-    if is_condition(w) {
-        return undefined_in(s, condition_port(w));
-    }
-    mentions_in(x, s, e, levels)
-}
-
 // Whether any of so many ports is undefined.
 fn any_undefined(s: &[u32], ports: u32) -> bool
     ensures { result ≡ any 0 ports (undefined_in s.now) }
@@ -223,7 +172,7 @@ pub fn unready(t: &Table, s: &[u32], r: u32) -> bool
     if named && !any_undefined(s, t.ports()) {
         return false;
     }
-    mentions_undefined(t, s, rule.expression, 7)
+    mentions_where(t, &|p| undefined_in(s, p), rule.expression, 7)
 }
 
 // A rule's result, 0 false, 1 true, and the visits that finding it makes.

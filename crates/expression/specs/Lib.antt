@@ -1,2 +1,3 @@
 -- What the contracts of expressions cite beside the rulebook.
 pub mod Tests
+pub mod Section

@@ -1,20 +1,17 @@
 // The public entries. Each takes anything and checks for itself.
 #![tactic(auto)]
 
-ghost use Rattle.std.specs.Prelude.{◌≡◌, ◌≢◌};
-ghost use Rattle.states.specs.Admission.{number_of as admission_number};
-ghost use Rattle.events.specs.Answers.{number_of, count_of, visits_of};
-ghost use Rattle.manager.specs.Answers.{state_number, end_number};
+ghost use Rattle.std.specs.Prelude.{◌≡◌};
+ghost use Rattle.manager.specs.Answers.{end_number};
 ghost use Rattle.manager.specs.Promises.{ChecksTable, CountsWords, MakesFresh, ChecksState, Admitted, TakesEvent, Plays};
 
-use events::{Answer, Report};
-use refusals::{Check, passed_if};
-use states::{Admission, Made, admit};
-use tables::Checked;
-use words::sections::{Layout, read_accepted};
+use events::{Answer, Refusal, refusal_number};
+use states::{NotAdmitted, NotMade, admit};
+use tables::Fault;
+use words::table::Table;
 
 // Checks a table: accepted, with B, or the first reason that holds and its place.
-pub fn check_table(t: &[u32]) -> Checked
+pub fn check_table(t: &[u32]) -> Result<u32, Fault>
     ensures { ChecksTable t.now result }
 {
     tables::check(t)
@@ -24,73 +21,40 @@ pub fn check_table(t: &[u32]) -> Checked
 pub fn state_words(t: &[u32]) -> usize
     ensures { CountsWords t.now result }
 {
-    words::state::length(t, words::sections::read_layout(t))
+    Table::read(t).state_length()
 }
 
 // Makes a fresh state in the lent words, or refuses and writes nothing.
-pub fn make_fresh(t: &[u32], s: &mut [u32]) -> Made
+pub fn make_fresh(t: &[u32], s: &mut [u32]) -> Result<(), NotMade>
     ensures { MakesFresh t.now s.old result s.new }
 {
     states::fresh(t, s)
 }
 
-// What a state check answers.
-#[derive(Clone, Copy)]
-pub enum Fit {
-    Fits,
-    BadTable,
-    Unfit,
-}
-
-fn fit_of(admission: Admission) -> Fit
-    ensures { state_number result ≡ admission_number admission }
-{
-    match admission {
-        Admission::Stands(_) => Fit::Fits,
-        Admission::BadTable => Fit::BadTable,
-        Admission::Unfit => Fit::Unfit,
-    }
-}
-
 // Checks a state against a table.
-pub fn check_state(t: &[u32], s: &[u32]) -> Fit
+pub fn check_state(t: &[u32], s: &[u32]) -> Result<(), NotAdmitted>
     ensures { ChecksState t.now s.now result }
 {
-    fit_of(admit(t, s))
-}
-
-// The answer where table or state does not stand.
-fn not_admitted(admission: Admission) -> Answer
-    ensures { (number_of result ≡ admission_number admission) × (count_of result ≡ 0) × (visits_of result ≡ 0) }
-{
-    match admission {
-        Admission::Stands(_) => Answer::Done(Report {
-            count: 0,
-            visits: 0,
-        }),
-        Admission::BadTable => Answer::BadTable,
-        Admission::Unfit => Answer::UnfitState,
-    }
+    admit(t, s)?;
+    Ok(())
 }
 
 // One event behind the check of table and state, which gave B.
 fn take_next(
-    t: &[u32],
-    h: Layout,
+    t: &Table,
     b: u32,
     e: u32,
     s: &mut [u32],
     trace: &mut [u32],
     outcomes: &[u32],
 ) -> Answer
-    requires { Admitted t.now s.old h b }
-    ensures { TakesEvent t.now s.old trace.old outcomes.now e result s.new trace.new }
+    requires { Admitted t.now.words s.old b }
+    ensures { TakesEvent t.now.words s.old trace.old outcomes.now e result s.new trace.new }
 {
-    let room = passed_if(b as usize <= trace.len());
-    let Check::Passed = room else {
-        return Answer::ShortTrace;
-    };
-    events::handle(t, h, e, s, trace, outcomes)
+    if trace.len() < b as usize {
+        return Err(Refusal::ShortTrace);
+    }
+    events::handle(t, e, s, trace, outcomes)
 }
 
 // Takes one event, with the outcomes of the outside calls that it runs: 0 for good, 1 for failed, and past their end good. The state and
@@ -98,96 +62,60 @@ fn take_next(
 pub fn take_event(t: &[u32], s: &mut [u32], trace: &mut [u32], outcomes: &[u32], e: u32) -> Answer
     ensures { TakesEvent t.now s.old trace.old outcomes.now e result s.new trace.new }
 {
-    let admission = admit(t, s);
-    let Admission::Stands(b) = admission else {
-        return not_admitted(admission);
-    };
-    let h = read_accepted(t);
-    take_next(t, h, b, e, s, trace, outcomes)
+    let b = admit(t, s)?;
+    let table = Table::accepted(t);
+    take_next(&table, b, e, s, trace, outcomes)
 }
 
-// What ended a play: all its events are taken, or which answer stood before the next. A trace that is full is answer 3's.
-#[derive(Clone, Copy)]
-pub enum End {
-    Done,
-    BadTable,
-    UnfitState,
-    TraceFull,
-    Malformed,
-    NoSuchThing,
-    NotItsOwner,
-}
-
-// An end's number.
-pub fn end_number(end: End) -> u32
-    ensures { result ≡ end_number end }
-{
-    match end {
-        End::Done => 0,
-        End::BadTable => 1,
-        End::UnfitState => 2,
-        End::TraceFull => 3,
-        End::Malformed => 4,
-        End::NoSuchThing => 5,
-        End::NotItsOwner => 6,
-    }
-}
-
-// The end that a single call's answer makes. A play lends no outcomes, so answer 8 does not come.
-fn end_of(answer: Answer) -> End
-    requires { number_of answer ≢ 8 }
-    ensures { end_number result ≡ number_of answer }
-{
-    match answer {
-        Answer::Done(_) => End::Done,
-        Answer::BadTable => End::BadTable,
-        Answer::UnfitState => End::UnfitState,
-        Answer::ShortTrace => End::TraceFull,
-        Answer::Malformed => End::Malformed,
-        Answer::NoSuchThing => End::NoSuchThing,
-        Answer::NotItsOwner => End::NotItsOwner,
-        Answer::BadOutcome => End::Done,
-    }
-}
-
-// How many events were taken, how many trace words they wrote, how many expression words they visited, and what ended the play. The
-// visits are the lowest 64 bits of their sum, which is the sum itself in any play of up to 33 million million events.
-#[derive(Clone, Copy)]
+// How many events were taken, how many trace words they wrote, how many expression words they visited, and what ended the play: all its
+// events are taken, or the next is refused. A trace that is full is refusal 3's. The visits are the lowest 64 bits of their sum, which is
+// the sum itself in any play of up to 33 million million events.
+#[derive(Clone, Copy, Debug, PartialEq, Eq)]
 pub struct Played {
     pub taken: usize,
     pub count: usize,
     pub visits: u64,
-    pub end: End,
+    pub end: Result<(), Refusal>,
+}
+
+// An end's number.
+pub fn end_number(end: Result<(), Refusal>) -> u32
+    ensures { result ≡ end_number end }
+{
+    match end {
+        Ok(()) => 0,
+        Err(refusal) => refusal_number(refusal),
+    }
 }
 
 // The events of a play, each in the trace words that those before it left free. All calls are good: the outcomes lent are none.
-fn play_on(t: &[u32], h: Layout, b: u32, s: &mut [u32], trace: &mut [u32], es: &[u32]) -> Played
-    requires { Admitted t.now s.old h b }
-    ensures { Plays t.now s.old trace.old es.now result s.new trace.new }
+fn play_on(t: &Table, b: u32, s: &mut [u32], trace: &mut [u32], es: &[u32]) -> Played
+    requires { Admitted t.now.words s.old b }
+    ensures { Plays t.now.words s.old trace.old es.now result s.new trace.new }
 {
-    let mut taken: usize = 0;
-    let mut count: usize = 0;
-    let mut visits: u64 = 0;
-    while taken < es.len() {
-        let answer = take_next(t, h, b, es[taken], s, &mut trace[count..], &es[es.len()..]);
-        let Answer::Done(report) = answer else {
-            let end = end_of(answer);
-            return Played {
-                taken,
-                count,
-                visits,
-                end,
-            };
-        };
-        count += report.count;
-        visits = std::num::wrapping_add_u64(visits, report.visits as u64);
-        taken += 1;
+    let mut count = 0;
+    let mut visits = 0;
+    for (taken, e) in es.iter().enumerate() {
+        match take_next(t, b, *e, s, &mut trace[count..], &[]) {
+            Ok(report) => {
+                count += report.count;
+                visits = u64::wrapping_add(visits, u64::from(report.visits));
+            }
+            Err(refusal) => {
+                return Played {
+                    taken,
+                    count,
+                    visits,
+                    end: Err(refusal),
+                };
+            }
+        }
     }
     Played {
-        taken,
+        taken: es.len(),
         count,
         visits,
-        end: End::Done,
+        end: Ok(()),
     }
 }
 
@@ -196,16 +124,16 @@ fn play_on(t: &[u32], h: Layout, b: u32, s: &mut [u32], trace: &mut [u32], es: &
 pub fn play(t: &[u32], s: &mut [u32], trace: &mut [u32], es: &[u32]) -> Played
     ensures { Plays t.now s.old trace.old es.now result s.new trace.new }
 {
-    let admission = admit(t, s);
-    let Admission::Stands(b) = admission else {
-        let end = end_of(not_admitted(admission));
-        return Played {
+    match admit(t, s) {
+        Ok(b) => {
+            let table = Table::accepted(t);
+            play_on(&table, b, s, trace, es)
+        }
+        Err(why) => Played {
             taken: 0,
             count: 0,
             visits: 0,
-            end,
-        };
-    };
-    let h = read_accepted(t);
-    play_on(t, h, b, s, trace, es)
+            end: Err(Refusal::from(why)),
+        },
+    }
 }

@@ -5,7 +5,8 @@ use Prim.Native.Nat.{◌-◌, ◌≤◌}
 use mathlib.Core.Path.{sym, ◌∙◌}
 use native.Mathlib.Omega.{arith}
 use Rattle.rulebook.specs.Expressions as Expressions
-use Rattle.evaluation.proofs.Section.{section-word, few-visits}
+use Rattle.expression.proofs.Section.{section-word}
+use Rattle.evaluation.proofs.Section.{few-visits}
 use Rattle.evaluation.proofs.Level.{condition-evaluates, not-evaluates, settled-evaluates, both-evaluate}
 use Rattle.evaluation.proofs.+argument_holds_holds_in.Goals as goal
 

@@ -4,7 +4,8 @@ use mathlib.Core.Path.{sym}
 use native.Mathlib.Omega.{arith}
 use lib.Dec.{ltb}
 use borrow.Author.Tests.{ltb-true}
-use Rattle.rulebook.specs.Lists.{unready}
+use Rattle.std.proofs.Common.{rules}
+use Rattle.rulebook.specs.Lists.{undefined_in, unready}
 use Rattle.laws.proofs.Tests.{and_left, and_right}
 use Rattle.evaluation.proofs.Ready.{all-defined}
 use Rattle.evaluation.proofs.unready.Goals as goal
@@ -20,4 +21,6 @@ returns-then-not-any_undefined c =
 
 pub returns : goal.returns
 unfolding unready
-returns c = rw (← c.rule-rule.ensures.expression.value) c.mentions_undefined.ensures
+returns c =
+    rw (← c.rule-rule.ensures.expression.value)
+    (c.mentions_where.ensures (undefined_in c.args.s.now) (record { says = λ p yes h. search rules }))
