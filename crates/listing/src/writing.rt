@@ -1,7 +1,7 @@
 // A table's listing laid into lent bytes: refused with reason 1 to 4 where one holds, then where the bytes are too few, and then nothing is written.
-ghost use Rattle.std.specs.Prelude.{◌≡◌, ◌+◌, ◌<◌, ◌≤◌, length};
+ghost use Rattle.std.specs.Prelude.{◌≡◌, ◌+◌, ◌<◌, ◌≤◌, length, Err};
 ghost use Rattle.text.specs.Puts.{PutAt};
-ghost use Rattle.tables.specs.Finding.{fault_of, fault_finding};
+ghost use Rattle.tables.specs.Finding.{shape_number};
 ghost use Rattle.rulebook.specs.Listing.{fields_of};
 ghost use Rattle.rulebook.specs.Table.{table_length};
 ghost use Rattle.listing.specs.Forms.{form_number};
@@ -88,7 +88,7 @@ pub enum NotListed {
 }
 
 impl From<Misshapen> for NotListed {
-    ghost from_gives = { λ m n. refusal_number n ≡ (fault_finding (fault_of m)).reason };
+    ghost from_gives = { λ m n. refusal_number n ≡ shape_number (Err m) };
 
     fn from(misshapen: Misshapen) -> NotListed {
         match misshapen {

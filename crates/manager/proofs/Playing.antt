@@ -1,6 +1,6 @@
 -- A play goes along its events and along the lent trace: the words so far fill the front of the trace, and the next event gets the rest
 -- of it. Assumes nothing.
-use Rattle.std.proofs.Common.{◌≡◌, ℕ, suc, ◌+◌, ◌-◌, ◌%◌, ◌<◌, ◌≤◌, true, cond, eqb, List, [], ◌∷◌, ◌++◌, length, get_or, take, drop, sym, refl, ap, ◌∙◌, subst, append_assoc, append-nil, add-zero, add-one, arith, length-append, length-drop, take-append-drop, drop_of_length-le, length-take-le, take_all, drop-cons, drop-drop, take_at, drop_at, eqb-true}
+use Rattle.std.proofs.Common.{◌≡◌, ℕ, suc, ◌+◌, ◌-◌, ◌%◌, ◌<◌, ◌≤◌, cond, eqb, Result, Ok, Err, List, [], ◌∷◌, ◌++◌, length, get_or, take, drop, sym, refl, ap, ◌∙◌, append_assoc, append-nil, add-zero, add-one, arith, length-append, length-drop, take-append-drop, drop_of_length-le, length-take-le, take_all, drop-cons, drop-drop, take_at, drop_at}
 use native.Mathlib.Nat.{sub-zero, mod-add-mod}
 use borrow.Rule.Slice.PartMut.{mid_of, put_mid, put_same}
 use Rattle.rulebook.specs.Step.{refused_state, heeded, step}
@@ -10,25 +10,11 @@ use Rattle.laws.proofs.Fit.{fits-length}
 use Rattle.laws.proofs.Facts.{facts}
 use Rattle.laws.proofs.Steps.{small-answer, step-cases, happen-paid, step_fits, refusal-changes-nothing}
 use Rattle.laws.proofs.Play.{stood-table, stood-state, play-stands, play-unadmitted, onto-none, onto-onto}
-use Rattle.events.specs.declared.Answer.{Answer}
-use Rattle.events.specs.declared.Answer.TheVariants.{Done, BadTable, UnfitState, ShortTrace, Malformed, NoSuchThing, NotItsOwner, BadOutcome}
-use Rattle.events.specs.declared.Report.{Report}
-use Rattle.events.specs.Answers.{number_of, count_of, visits_of, Reports}
-use Rattle.manager.specs.declared.End.{End}
-use Rattle.manager.specs.declared.End.TheVariants as ends
+use Rattle.events.specs.declared.Refusal.{Refusal}
+use Rattle.events.specs.declared.Refusal.TheVariants.{BadTable, UnfitState, ShortTrace, Malformed, NoSuchThing, NotItsOwner, BadOutcome}
+use Rattle.events.specs.Answers.{Answered, number_of, count_of, visits_of, Reports}
 use Rattle.manager.specs.Answers.{end_number}
 use Rattle.manager.specs.Promises.{PlaysIn}
-
--- what `let .. else` knows of an answer that is not `Done`
-pub not_done : (r : Answer) → ((report : Report) → r ≡ Done report → ⊥) → number_of r ≡ 0 → ⊥
-not_done (Done report) other z = other report refl
-not_done BadTable other z = omega arith
-not_done UnfitState other z = omega arith
-not_done ShortTrace other z = omega arith
-not_done Malformed other z = omega arith
-not_done NoSuchThing other z = omega arith
-not_done NotItsOwner other z = omega arith
-not_done BadOutcome other z = omega arith
 
 -- the words behind the last event are none
 pub none-behind : (es : List ℕ) → mid_of (length es) (length es - length es) es ≡ []
@@ -113,7 +99,7 @@ module _ {t es s₀ before s T : List ℕ} {taken count visits : ℕ} (a : Along
   along-end all = tells 0 (rw (drop_of_length-le es {i = taken} all))
 
   -- event e is next; a single call in the rest of the trace, with no outcomes lent, gave r
-  module _ (e : ℕ) (left : taken < length es) (is : e ≡ get_or es taken 0) (s' part' : List ℕ) (r : Answer)
+  module _ (e : ℕ) (left : taken < length es) (is : e ≡ get_or es taken 0) (s' part' : List ℕ) (r : Answered)
       (os : List ℕ) (none : os ≡ []) (lent : Reports (step t s (length part) os e) part r s' part') where
     told : Reports (step t s (length part) [] e) part r s' part'
     told = rw none at lent
@@ -240,22 +226,24 @@ one-play t s trace es k k' n n' m m' v v' a a' w w' x y = (
 )
 
 -- an end has its number alone
-answering : ℕ → End
+answering : ℕ → Result (Unit {0}) Refusal
 answering k =
-    cond (eqb k 0) ends.Done
-    (cond (eqb k 1) ends.BadTable
-    (cond (eqb k 2) ends.UnfitState
-    (cond (eqb k 3) ends.TraceFull (cond (eqb k 4) ends.Malformed (cond (eqb k 5) ends.NoSuchThing ends.NotItsOwner)))))
+    cond (eqb k 0) (Ok tt)
+    (cond (eqb k 1) (Err BadTable)
+    (cond (eqb k 2) (Err UnfitState)
+    (cond (eqb k 3) (Err ShortTrace)
+    (cond (eqb k 4) (Err Malformed) (cond (eqb k 5) (Err NoSuchThing) (cond (eqb k 6) (Err NotItsOwner) (Err BadOutcome)))))))
 
-back : (r : End) → answering (end_number r) ≡ r
+back : (r : Result (Unit {0}) Refusal) → answering (end_number r) ≡ r
 unfolding answering
-back ends.Done = refl
-back ends.BadTable = refl
-back ends.UnfitState = refl
-back ends.TraceFull = refl
-back ends.Malformed = refl
-back ends.NoSuchThing = refl
-back ends.NotItsOwner = refl
+back (Ok u) = refl
+back (Err BadTable) = refl
+back (Err UnfitState) = refl
+back (Err ShortTrace) = refl
+back (Err Malformed) = refl
+back (Err NoSuchThing) = refl
+back (Err NotItsOwner) = refl
+back (Err BadOutcome) = refl
 
-pub one_end : (a b : End) → end_number a ≡ end_number b → a ≡ b
+pub one_end : (a b : Result (Unit {0}) Refusal) → end_number a ≡ end_number b → a ≡ b
 one_end a b h = sym (back a) ∙ ap answering h ∙ back b

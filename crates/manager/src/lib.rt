@@ -94,12 +94,12 @@ fn play_on(t: &Table, b: u32, s: &mut [u32], trace: &mut [u32], es: &[u32]) -> P
     ensures { Plays t.now.words s.old trace.old es.now result s.new trace.new }
 {
     let mut count = 0;
-    let mut visits = 0;
+    let mut visits = 0u64;
     for (taken, e) in es.iter().enumerate() {
         match take_next(t, b, *e, s, &mut trace[count..], &[]) {
             Ok(report) => {
                 count += report.count;
-                visits = u64::wrapping_add(visits, u64::from(report.visits));
+                visits = visits.wrapping_add(u64::from(report.visits));
             }
             Err(refusal) => {
                 return Played {

@@ -1,22 +1,18 @@
 -- The words of a fresh state, the exits of making one, and that two answers allowed are the same. Assumes nothing.
 use Prim.Native.Nat.{ℕ, ◌<◌}
-use mathlib.Core.Path.{◌≡◌, refl, sym, ap, subst, ◌∙◌}
+use mathlib.Core.Path.{◌≡◌, refl, sym, ap, ◌∙◌}
 use mathlib.Core.Bool.{true, false, cond}
-use mathlib.Core.List.{List, [], ◌∷◌}
+use mathlib.Core.List.{List}
 use native.Mathlib.Nat.{zero-add}
 use native.Mathlib.Omega.{arith}
 use lib.Dec.{eqb}
 use lib.ListN.{length, get_or}
 use lib.Seq.{ext_get_or}
 use borrow.Author.Tests.{eq-eqb, ne_eqb}
-use Rattle.rulebook.specs.Reasons.{check, accepted}
+use Rattle.rulebook.specs.Reasons.{accepted}
 use Rattle.rulebook.specs.State.{Thing, thing, fresh_thing, fresh_at, fresh, fresh_answer, fresh_state, state_length}
 use Rattle.laws.proofs.Walks.{listed-length, listed_at}
 use Rattle.std.specs.Prelude.{Result, Ok, Err}
-use Rattle.tables.specs.declared.Fault.{Fault}
-use Rattle.tables.specs.declared.Fault.TheVariants.{TooShort, WrongEdition, WrongCounts, WrongLength as LengthDiffers, Misfit, Misnamed, TooDeep, OwnersClash}
-use Rattle.tables.specs.declared.Fault.TheVariants.{Unreached, TooDear}
-use Rattle.tables.specs.Finding.{Finding, finding, promised}
 use Rattle.states.specs.declared.NotMade.{NotMade}
 use Rattle.states.specs.declared.NotMade.TheVariants.{BadTable, WrongLength}
 use Rattle.states.specs.Made.{number_of, Fresh}
@@ -33,30 +29,6 @@ all-fresh t s n long asked words =
     (λ k h. words k (omega arith) ∙ sym (listed_at (fresh_at t) 0 (state_length t) k (omega arith) ∙ ap (fresh_at t) (zero-add k)))
 
 -- The exits.
-
-pub is-accepted : (t : List ℕ) (b : ℕ) (r : Result ℕ Fault) → r ≡ Ok b → finding r ≡ promised t → accepted t ≡ true
-unfolding promised
-is-accepted t b r e h = eq-eqb (check t).reason 0 (ap (λ (x : Finding). x.reason) (sym h) ∙ ap (λ (x : Result ℕ Fault). (finding x).reason) e)
-
--- an answer that is not `Ok` tells a reason
-reason-of : (r : Result ℕ Fault) → ((b : ℕ) → r ≡ Ok b → ⊥) → eqb (finding r).reason 0 ≡ false
-reason-of (Ok b) f = absurd (f b refl)
-reason-of (Err TooShort) f = refl
-reason-of (Err WrongEdition) f = refl
-reason-of (Err WrongCounts) f = refl
-reason-of (Err LengthDiffers) f = refl
-reason-of (Err (Misfit i)) f = refl
-reason-of (Err (Misnamed i)) f = refl
-reason-of (Err (TooDeep i)) f = refl
-reason-of (Err (OwnersClash i)) f = refl
-reason-of (Err (Unreached i)) f = refl
-reason-of (Err TooDear) f = refl
-
-pub is-refused : (t : List ℕ) (r : Result ℕ Fault) → ((b : ℕ) → r ≡ Ok b → ⊥) → finding r ≡ promised t → accepted t ≡ false
-unfolding promised
-is-refused t r other h =
-    rw (ap (λ (x : Finding). x.reason) (sym h))
-    (reason-of r other)
 
 module _ (t s : List ℕ) where
   pub bad-table : accepted t ≡ false → Fresh t s (Err BadTable) s

@@ -3,3 +3,4 @@ pub mod Chain
 pub mod Unique
 pub mod Shapes
 pub mod Stages
+pub mod Accepted

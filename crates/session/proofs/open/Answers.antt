@@ -1,6 +1,6 @@
 -- `session::open` meets its promise: a reason's place is below 3,185, so it fits. Assumes nothing.
 use native.Mathlib.Omega.{arith}
-use Rattle.states.proofs.Making.{is-accepted, is-refused}
+use Rattle.tables.proofs.Accepted.{is-accepted, is-refused}
 use Rattle.states.proofs.Admitting.{finding-bound}
 use Rattle.session.proofs.Checks.{place-small, place_is, refuses, stands}
 use Rattle.session.proofs.open.Goals as goal

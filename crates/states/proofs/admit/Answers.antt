@@ -1,6 +1,6 @@
 -- `states::admit` meets its promise: each exit by its law. Assumes nothing.
 use mathlib.Core.Path.{sym, ◌∙◌}
-use Rattle.states.proofs.Making.{is-accepted, is-refused}
+use Rattle.tables.proofs.Accepted.{is-accepted, is-refused}
 use Rattle.states.proofs.Admitting.{finding-bound, bad-table, unfit, stands}
 use Rattle.states.proofs.admit.Goals as goal
 

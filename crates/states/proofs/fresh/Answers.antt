@@ -1,6 +1,7 @@
 -- `states::fresh` meets its promise: each exit by its law. Assumes nothing.
-use Rattle.std.proofs.Common.{sym, ◌∙◌}
-use Rattle.states.proofs.Making.{is-accepted, is-refused, bad-table, wrong-length, done}
+use Rattle.std.proofs.Common.{◌∙◌}
+use Rattle.tables.proofs.Accepted.{is-accepted, is-refused}
+use Rattle.states.proofs.Making.{bad-table, wrong-length, done}
 use Rattle.states.proofs.fresh.Goals as goal
 
 pub returns-in_default : goal.returns-in_default

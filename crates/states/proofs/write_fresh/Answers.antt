@@ -1,5 +1,5 @@
 -- `states::write_fresh` meets its contract. Assumes nothing.
-use Rattle.std.proofs.Common.{arith, ◌≡◌, length, length-set}
+use Rattle.std.proofs.Common.{arith, ◌≡◌, length-set}
 use Rattle.rulebook.specs.State.{fresh_at}
 use Rattle.words.proofs.Fill.{set_more}
 use Rattle.states.proofs.Making.{fresh-here, all-fresh}

@@ -1,6 +1,6 @@
 -- `buslog::reading::read_log` meets its promise: the table or the list is refused, or the lines are read. Assumes nothing.
 use mathlib.Core.Path.{◌∙◌}
-use Rattle.states.proofs.Making.{is-accepted, is-refused}
+use Rattle.tables.proofs.Accepted.{is-accepted, is-refused}
 use Rattle.buslog.proofs.Logs.{no_table, no_names, read, stand-as}
 use Rattle.buslog.proofs.reading.read_log.Goals as goal
 
