@@ -1,6 +1,6 @@
--- `audit::say` is safe: a number is laid inside its room. Assumes nothing.
+-- `audit::complaint::say` is safe: a number is laid inside its room. Assumes nothing.
 use Rattle.std.proofs.Common.{sym, arith, length-take-le, rules}
-use Rattle.audit.proofs.say.Goals as goal
+use Rattle.audit.proofs.complaint.say.Goals as goal
 
 pub slice_bounds-out-end : goal.slice_bounds-out-end
 slice_bounds-out-end c =
