@@ -79,7 +79,8 @@ fn find_results(t: &Table, flags: &[u32], s: &[u32], results: &mut [u32]) -> u32
     visits
 }
 
-// The list that rule r starts by its result; 256 where it has no result.
+// The list that rule r starts by its result; 256 where it has no result. A number and no Option, for `Chosen` says of every number, of
+// 255 too, whether a rule chooses it.
 #[tactic(auto, unfolding(crate::specs::Results::pick_by))]
 fn pick(t: &Table, results: &[u32], s: &[u32], r: u32) -> u32
     ensures { result ≡ pick_by t.now.words results.now s.now r }

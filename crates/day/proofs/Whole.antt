@@ -18,12 +18,14 @@ use Rattle.laws.proofs.Play.{stands, stood-table, stood-state}
 use Rattle.states.specs.Made.{Makes}
 use Rattle.text.specs.Words.{words_of}
 use Rattle.text.specs.Puts.{lay}
+use Rattle.std.specs.Prelude.{Ok, Err}
 use Rattle.session.specs.declared.Opening.{Opening}
+use Rattle.session.specs.declared.Refused.{Refused}
 use Rattle.session.specs.Printed.{reason_lines, printed}
 use Rattle.session.specs.Promises.{Opens, PutLines}
 use Rattle.session.proofs.Lines.{laid-front}
 use Rattle.session.proofs.Checks.{state-small}
-use Rattle.session.proofs.Whole.{two-parts, opened, opened-state, made-fresh, reason-printed}
+use Rattle.session.proofs.Whole.{two-parts, made-fresh, reason-printed}
 use Rattle.day.specs.declared.Part.{Part}
 use Rattle.day.specs.Printed.{trace_lines, state_lines, in64, whole, day_lines, played}
 use Rattle.day.specs.Promises.{room_of, PlaysPart, most_state, most_end, shown, LaysState, LaysEnd}
@@ -92,21 +94,21 @@ pub state-front : (t s : List ℕ) {out : List ℕ} {n : ℕ} {o : List ℕ} →
     → take n o ≡ state_lines t s
 state-front t s z room laid = laid-front most_state room (rw (stands-shown t s z) at laid)
 
-module _ (table events : List ℕ) {o : Opening} {s₀ s : List ℕ} {k₀ : ℕ} (opens : Opens (words_of table) o) (none : o.reason ≡ 0)
+module _ (table events : List ℕ) {o : Opening} {s₀ s : List ℕ} {k₀ : ℕ} (opens : Opens (words_of table) (Ok o))
     (long : length s₀ ≡ o.state) (made : Makes (words_of table) s₀ k₀ s) where
   abbrev t : List ℕ
   t = words_of table
 
   ok : accepted t ≡ true
-  ok = opened opens none
+  ok = opens.accepted
 
   is-fresh : s ≡ fresh t
-  is-fresh = made-fresh ok (long ∙ opened-state opens none) made
+  is-fresh = made-fresh ok (long ∙ opens.state) made
 
   pub fresh-stands : refused_state t s ≡ 0
   fresh-stands = stands t s ok (rw is-fresh (fresh-fits t ok))
 
-  -- no reason from `open`, a state from `make_fresh`, the file's blocks from there, and then the state and the end in room for them
+  -- sizes from `open`, a state from `make_fresh`, the file's blocks from there, and then the state and the end in room for them
   pub day-printed : {ls : List ℕ} {n v k : ℕ} {s₁ : List ℕ} → Blocks t s events ls n v k s₁
       → {out : List ℕ} {a : ℕ} {out' : List ℕ} → most_state ≤ length out → LaysState t s₁ out a out'
       → {last : List ℕ} {b : ℕ} {last' : List ℕ} → most_end ≤ length last → LaysEnd n v k last b last'
@@ -118,12 +120,10 @@ module _ (table events : List ℕ) {o : Opening} {s₀ s : List ℕ} {k₀ : ℕ
       rw (ok, state-front t s₁ after room laid, laid-front most_end room' laid', c.lines, c.taken, c.visits, c.number, c.state, is-fresh)
 
 -- a reason from `open`, and the bytes that `lay_reason` lays for it where there is room
-pub reason-played : (table events : List ℕ) {o : Opening} {out : List ℕ} {n : ℕ} {out' : List ℕ} → Opens (words_of table) o → (o.reason ≡ 0 → ⊥)
+pub reason-played : (table events : List ℕ) {o : Refused} {out : List ℕ} {n : ℕ} {out' : List ℕ} → Opens (words_of table) (Err o)
     → 22 ≤ length out → PutLines 22 (reason_lines (verdict o.reason o.place)) out n out' → take n out' ≡ played table events
 unfolding played printed
-reason-played table events opens some room put =
-    let no : accepted (words_of table) ≡ false = ne_eqb (check (words_of table)).reason 0 (λ e. some (opens.reason ∙ e)) in
-    reason-printed table events opens some room put ∙ rw no
+reason-played table events opens room put = reason-printed table events opens room put ∙ rw opens.refused
 
 -- No part is stuck: with B trace words and the bytes of their lines lent, one that is full has taken an event. What a part leaves
 -- stands again, and it takes no more events than there are.

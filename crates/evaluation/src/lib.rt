@@ -139,7 +139,8 @@ fn holds_in(x: &[u32], values: &[u32], e: u32, levels: u32) -> u32
     in_word(joined(kind, left, right), visits + b / 2)
 }
 
-// The same of an argument. Half the words of a whole tree are conditions, and they are looked at here without a further call.
+// The same of an argument. Half the words of a whole tree are conditions, and they are looked at here without a further call: for speed,
+// these are two functions (docs/BENCHMARKS.md, Q-3).
 #[cycle(argument_holds_holds_in)]
 fn argument_holds(x: &[u32], values: &[u32], e: u32, levels: u32) -> u32
     requires { levels ≤ 7 }

@@ -73,7 +73,8 @@ fn mentions_in<F: Fn(u32) -> bool>(x: &[u32], asked: &F, e: u32, levels: u32) ->
     argument_mentions(x, asked, right(w), levels - 1)
 }
 
-// The same of an argument. Half the words of a whole tree are conditions, and they are looked at here without a further call.
+// The same of an argument. Half the words of a whole tree are conditions, and they are looked at here without a further call: for speed,
+// these are two functions (docs/BENCHMARKS.md, Q-3).
 #[cycle(argument_mentions_mentions_in)]
 fn argument_mentions<F: Fn(u32) -> bool>(x: &[u32], asked: &F, e: u32, levels: u32) -> bool
     requires { F.IsAlwaysCallable asked.now }

@@ -124,7 +124,7 @@ fn stops(t: &Table, i: u32, outcomes: &[u32]) -> bool
     (item.kind == ITEM_CALL) & (item.abort == 1)
 }
 
-// What comes of judging a rule: the list that it starts, 255 for none, and the visits of its evaluation.
+// What comes of judging a rule: the list that it starts, 255 for none, as the rulebook has it, and the visits of its evaluation.
 #[derive(Clone, Copy)]
 struct Judged {
     list: u32,
@@ -152,7 +152,8 @@ fn judge(t: &Table, o: u32, r: u32, s: &mut [u32], trace: &mut [u32]) -> Judged
 
 // List l, which nests within the levels left: a word for its start, then its items, up to and with the one that stops it. Like each of the
 // cycle it fills the front of the trace that it is lent, goes by the outcome words that it is lent, and returns what it has written and
-// read. A list has fewer levels left than the one that starts it.
+// read. A list has fewer levels left than the one that starts it. State, trace and outcomes are lent one by one: each has a clause of its own,
+// and a struct of them would be taken apart at each call on the rest of a trace.
 #[cycle(run_item_run_list_run_rule)]
 pub fn run_list(
     t: &Table,

@@ -6,9 +6,12 @@ ghost use Rattle.manager.specs.Answers.{end_number};
 ghost use Rattle.manager.specs.Promises.{ChecksTable, CountsWords, MakesFresh, ChecksState, Admitted, TakesEvent, Plays};
 
 use events::{Answer, Refusal, refusal_number};
-use states::{NotAdmitted, NotMade, admit};
+use states::{NotMade, admit};
 use tables::Fault;
 use words::table::Table;
+
+// For callers that know of this crate alone.
+pub use states::NotAdmitted;
 
 // Checks a table: accepted, with B, or the first reason that holds and its place.
 pub fn check_table(t: &[u32]) -> Result<u32, Fault>

@@ -81,7 +81,7 @@ module _ (t : List ℕ) (r : Result ℕ Fault) (tells : finding r ≡ promised t
 
   pub refuses : accepted t ≡ false → IsRefused t (record { reason = k; place = i })
   unfolding promised
-  refuses no = record { reason = kr ∙ ap (λ (x : Finding). x.reason) tells; place = place_is; refused = no }
+  refuses unlike = record { reason = kr ∙ ap (λ (x : Finding). x.reason) tells; place = place_is; refused = unlike }
 
 pub stands : (t : List ℕ) {n b : ℕ} → accepted t ≡ true → n ≡ state_length t → b ≡ bound t → Stands t (record { state = n; trace = b })
 stands t ok en eb =

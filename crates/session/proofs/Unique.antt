@@ -14,11 +14,11 @@ use Rattle.session.specs.declared.Taken.{Taken}
 use Rattle.session.specs.Printed.{run_lines, state_after}
 use Rattle.session.specs.Promises.{Opens, PutLines, trace_after, TookEvents}
 
-pub one-opening : {t : List ℕ} (p q : Result Opening Refused) → Opens t p → Opens t q → p ≡ q
-one-opening (Ok p) (Ok q) a b = rw (a.state ∙ sym b.state, a.trace ∙ sym b.trace) refl
-one-opening (Ok p) (Err q) a b = absurd (false≢true (sym b.refused ∙ a.accepted))
-one-opening (Err p) (Ok q) a b = absurd (false≢true (sym a.refused ∙ b.accepted))
-one-opening (Err p) (Err q) a b = rw (a.reason ∙ sym b.reason, a.place ∙ sym b.place) refl
+pub one-opening : (t : List ℕ) (p q : Result Opening Refused) → Opens t p → Opens t q → p ≡ q
+one-opening t (Ok p) (Ok q) a b = rw (a.state ∙ sym b.state, a.trace ∙ sym b.trace) refl
+one-opening t (Ok p) (Err q) a b = absurd (false≢true (sym b.refused ∙ a.accepted))
+one-opening t (Err p) (Ok q) a b = absurd (false≢true (sym a.refused ∙ b.accepted))
+one-opening t (Err p) (Err q) a b = rw (a.reason ∙ sym b.reason, a.place ∙ sym b.place) refl
 
 pub one-laying : {room : ℕ} {xs out : List ℕ} {m n : ℕ} {a b : List ℕ} → PutLines room xs out m a → PutLines room xs out n b → (m ≡ n) × (a ≡ b)
 one-laying p q = (p.count ∙ sym q.count, p.bytes ∙ sym q.bytes)

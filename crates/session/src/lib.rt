@@ -89,14 +89,7 @@ pub fn take(t: &Table, e: u32, s: &mut [u32], trace: &mut [u32]) -> Answer
 }
 
 // Takes one event and lays its lines.
-fn take_one(
-    t: &Table,
-    e: u32,
-    s: &mut [u32],
-    trace: &mut [u32],
-    out: &mut [u8],
-    at: usize,
-) -> usize
+fn take_one(t: &Table, e: u32, s: &mut [u32], trace: &mut [u32], out: &mut [u8], at: usize) -> usize
     requires { Ready t.now.words s.old trace.old × (at + most ≤ length out.old) }
     ensures { TookOne t.now.words e s.old trace.old out.old at result s.new trace.new out.new }
 {

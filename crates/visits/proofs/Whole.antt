@@ -13,13 +13,15 @@ use Rattle.states.specs.Made.{Makes}
 use Rattle.text.specs.Words.{words_of}
 use Rattle.text.specs.Puts.{lay}
 use Rattle.text.proofs.Digits.{below}
+use Rattle.std.specs.Prelude.{Ok, Err}
 use Rattle.session.specs.declared.Opening.{Opening}
+use Rattle.session.specs.declared.Refused.{Refused}
 use Rattle.session.specs.Printed.{state_after, reason_lines, printed}
 use Rattle.session.specs.Promises.{Opens, PutLines, Ready, offered}
 use Rattle.session.proofs.Lines.{laid-front}
 use Rattle.session.proofs.Steps.{ready-is}
 use Rattle.session.proofs.Along.{state-append, offered-long}
-use Rattle.session.proofs.Whole.{left-then, drop-none, two-parts, next-words, opened, opened-state, made-fresh, reason-printed, ready-after}
+use Rattle.session.proofs.Whole.{left-then, drop-none, two-parts, next-words, made-fresh, reason-printed, ready-after}
 use Rattle.visits.specs.declared.Most.{Most}
 use Rattle.visits.specs.declared.Taken.{Taken}
 use Rattle.visits.specs.Printed.{results, cost_lines, nothing, most_after, cost_of, cost_printed}
@@ -92,26 +94,24 @@ blocks-print t s m file ls s₂ m₂ (blocks.block {bytes = bytes} {rest = rest}
 
 -- The program, by what its functions promise.
 
--- no reason from `open`, a state from `make_fresh`, the file's blocks from there, and then the end in room for it
-pub cost-printed : (table events : List ℕ) {o : Opening} {s₀ s : List ℕ} {k : ℕ} → Opens (words_of table) o → o.reason ≡ 0 → length s₀ ≡ o.state
+-- sizes from `open`, a state from `make_fresh`, the file's blocks from there, and then the end in room for it
+pub cost-printed : (table events : List ℕ) {o : Opening} {s₀ s : List ℕ} {k : ℕ} → Opens (words_of table) (Ok o) → length s₀ ≡ o.state
     → Makes (words_of table) s₀ k s → {ls s₁ : List ℕ} {m : Most} → Blocks (words_of table) s nothing events ls s₁ m
     → {out : List ℕ} {n : ℕ} {out' : List ℕ} → most_end ≤ length out → LaysMost (words_of table) m out n out'
     → ls ++ take n out' ≡ cost_printed table events
 unfolding cost_printed cost_of
-cost-printed table events {s = s} opens none long made {ls} {s₁} {m} b room laid =
+cost-printed table events {s = s} opens long made {ls} {s₁} {m} b room laid =
     let t = words_of table in
-    let ok = opened opens none in
+    let ok = opens.accepted in
     let c = blocks-print t s nothing events ls s₁ m b in
     let end = laid-front most_end room (rw ok at laid) in
-    rw (ok, end, c.lines, c.leaves.most, made-fresh ok (long ∙ opened-state opens none) made)
+    rw (ok, end, c.lines, c.leaves.most, made-fresh ok (long ∙ opens.state) made)
 
 -- a reason from `open`, and the bytes that `lay_reason` lays for it where there is room
-pub reason-cost : (table events : List ℕ) {o : Opening} {out : List ℕ} {n : ℕ} {out' : List ℕ} → Opens (words_of table) o → (o.reason ≡ 0 → ⊥)
+pub reason-cost : (table events : List ℕ) {o : Refused} {out : List ℕ} {n : ℕ} {out' : List ℕ} → Opens (words_of table) (Err o)
     → 22 ≤ length out → PutLines 22 (reason_lines (verdict o.reason o.place)) out n out' → take n out' ≡ cost_printed table events
 unfolding cost_printed printed
-reason-cost table events opens some room put =
-    let no : accepted (words_of table) ≡ false = ne_eqb (check (words_of table)).reason 0 (λ e. some (opens.reason ∙ e)) in
-    reason-printed table events opens some room put ∙ rw no
+reason-cost table events opens room put = reason-printed table events opens room put ∙ rw opens.refused
 
 -- No call is stuck: ready, with an event left and with room for one, it takes one, and what it leaves is ready again.
 

@@ -16,7 +16,7 @@ returns-then-out-lt-MOST_STATE c = unlaid most_state _ _ c.if-out-lt-MOST_STATE.
 pub returns-then-s-words : goal.returns-then-s-words
 returns-then-s-words c =
     let a = c.args in
-    let words = c.length-words.ensures in
+    let words = rw c.read-table.ensures.0 at c.state_length-words.ensures in
     nothing-shown _ _ _ (other_length a.t.now a.s.now a.out.now (λ e. c.if-s-words.true (e ∙ sym words))) c.if-out-lt-MOST_STATE.false
 
 pub returns-then-words-gt-MOST_WORDS : goal.returns-then-words-gt-MOST_WORDS
@@ -33,16 +33,17 @@ lay_state_word-at-requires c =
     let l = c.loop-i in
     let few = l.invariant.1.few in
     let long = l.invariant.1.long in
-    (record { laid = c.read_layout-h.ensures; inside = omega (arith, c.length-words.ensures) }, omega arith, omega arith)
+    (omega (arith, c.state_length-words.ensures), omega arith, omega arith)
 
 pub loop-i-preserved : goal.loop-i-preserved
 loop-i-preserved c =
     let l = c.loop-i in
     let long = (c.if-s-words.false) in
-    (omega arith, next _ _ _ _ _ _ l.invariant.1 (omega arith) (omega arith) c.if-out-lt-MOST_STATE.false _ _ c.lay_state_word-at.ensures)
+    let put = rw c.read-table.ensures.0 at c.lay_state_word-at.ensures in
+    (omega arith, next _ _ _ _ _ _ l.invariant.1 (omega arith) (omega arith) c.if-out-lt-MOST_STATE.false _ _ put)
 
 pub returns : goal.returns
 returns c =
     let l = c.loop-i in
     let long = (c.if-s-words.false) in
-    end _ _ _ _ _ _ l.invariant.1 (omega arith) (omega arith) (long ∙ c.length-words.ensures) (omega arith) c.if-out-lt-MOST_STATE.false
+    end _ _ _ _ _ _ l.invariant.1 (omega arith) (omega arith) (long ∙ rw c.read-table.ensures.0 at c.state_length-words.ensures) (omega arith) c.if-out-lt-MOST_STATE.false

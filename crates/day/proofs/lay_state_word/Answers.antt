@@ -8,12 +8,12 @@ pub lay_name-next-requires : goal.lay_name-next-requires
 lay_name-next-requires c =
     let a = c.args in
     let asked = c.requires in
-    let small = number_small a.t.now a.i in
-    (rw c.thing_at-thing.ensures (omega arith), omega arith)
+    let small = number_small a.t.now.words a.i in
+    (rw c.thing.ensures (omega arith), omega arith)
 
 pub returns : goal.returns
 returns c =
     let a = c.args in
     let asked = c.requires in
-    let small = number_small a.t.now a.i in
-    state-word-laid _ _ (omega arith) asked.2 (rw c.thing_at-thing.ensures at c.lay_name-next.ensures) c.put_hex_line.ensures
+    let small = number_small a.t.now.words a.i in
+    state-word-laid _ _ (omega arith) asked.2 (rw c.thing.ensures at c.lay_name-next.ensures) c.put_hex_line.ensures

@@ -2,14 +2,14 @@
 use mathlib.Core.Path.{sym, ap}
 use lib.Seq.{length-take-le}
 use Rattle.events.specs.Answers.{number_of}
-use Rattle.manager.proofs.Playing.{not_done}
+use Rattle.manager.proofs.Steps.{refuses}
 use Rattle.hold.proofs.Verdicts.{count-inside, step-refused, step-done}
 use Rattle.hold.proofs.hold.Goals as goal
 
 pub returns-in_default : goal.returns-in_default
 returns-in_default c =
     step-refused _ _ _ _ _ c.take_event-answer.ensures c.count-count.ensures c.visits-visits.ensures _ _ c.number.ensures
-    (not_done c.take_event-answer.result c.in_default.not-Ok)
+    (λ z. refuses c.in_default.field-0 (rw c.in_default.is at z))
 
 pub slice_bounds-compare-end : goal.slice_bounds-compare-end
 slice_bounds-compare-end c =

@@ -6,7 +6,7 @@ pub returns-in-Ok : goal.returns-in-Ok
 returns-in-Ok c = sym c.in-Ok.ensures
 
 pub returns-in-Err-BadTable : goal.returns-in-Err-BadTable
-returns-in-Err-BadTable c = (c.in-Err-BadTable.ensures, λ z. omega arith)
+returns-in-Err-BadTable c = (rw c.in-Err-BadTable.field-0-is at c.in-Err-BadTable.ensures, λ z. omega arith)
 
 pub returns-in-Err-UnfitState : goal.returns-in-Err-UnfitState
-returns-in-Err-UnfitState c = (c.in-Err-UnfitState.ensures, λ z. omega arith)
+returns-in-Err-UnfitState c = (rw c.in-Err-UnfitState.field-0-is at c.in-Err-UnfitState.ensures, λ z. omega arith)

@@ -1,15 +1,14 @@
 -- `session::ready` meets its contract: each exit by its law. Assumes nothing.
-use mathlib.Core.Path.{◌∙◌}
-use Rattle.states.proofs.Admitting.{not-standing, standing, standing-bound}
+use Rattle.std.proofs.Common.{refl}
+use Rattle.states.proofs.Admitting.{standing, standing-bound}
+use Rattle.manager.proofs.Steps.{unadmitted-refused}
 use Rattle.session.proofs.Steps.{not-admitted, room-decides}
-use borrow.Author.Rules.{rules}
 use Rattle.session.proofs.ready.Goals as goal
 
-pub returns-in_default : goal.returns-in_default
-returns-in_default c = not-admitted _ _ _ (λ z. not-standing c.admit-admission.result c.in_default.not-Stands (c.admit-admission.ensures.number ∙ z))
+pub returns-in-Ok : goal.returns-in-Ok
+returns-in-Ok c =
+    let said = c.in-Ok.ensures in
+    rw (standing-bound refl said) (room-decides _ _ _ (standing refl said))
 
-pub returns : goal.returns
-returns c =
-    let told = c.in-Stands.is in
-    let said = c.admit-admission.ensures in
-    rw (standing-bound told said) (room-decides _ _ _ (standing told said))
+pub returns-in-Err : goal.returns-in-Err
+returns-in-Err c = not-admitted _ _ _ (unadmitted-refused c.in-Err.field-0 c.in-Err.ensures)

@@ -18,5 +18,6 @@ accepted-requires c = c.in-Ok.ensures.accepted
 pub returns : goal.returns
 returns c =
     let o = c.in-Ok.ensures in
-    most-laid _ _ _ _ o.accepted o.trace (omega (arith, c.rules-rules.ensures.value))
+    let rules = rw c.accepted.ensures.0 at c.rules-rules.ensures.value in
+    most-laid _ _ _ _ o.accepted o.trace (omega arith)
     c.if-out-lt-MOST_END.false c.lay_largest-second.ensures c.lay_largest.ensures

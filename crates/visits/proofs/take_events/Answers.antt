@@ -13,20 +13,19 @@ use Rattle.visits.proofs.Along.{Along, begin, next, end, none-taken}
 use Rattle.visits.proofs.take_events.Goals as goal
 
 pub returns-then-not-ready : goal.returns-then-not-ready
-returns-then-not-ready c = none-taken _ _ _ _ _ _ _ (sym c.ready.ensures ∙ not-true _ c.if-not-ready.true-raw)
+returns-then-not-ready c = none-taken _ _ _ _ _ _ _ (sym c.ready.ensures ∙ c.if-not-ready.true)
 
-pub read_accepted-h-requires : goal.read_accepted-h-requires
-read_accepted-h-requires c = (ready-from _ _ _ (sym c.ready.ensures ∙ not-false _ c.if-not-ready.false-raw)).table
+pub accepted-table-requires : goal.accepted-table-requires
+accepted-table-requires c = (ready-from _ _ _ (sym c.ready.ensures ∙ c.if-not-ready.false)).table
 
 pub loop-i-init : goal.loop-i-init
-loop-i-init c = begin _ _ _ _ _ _ (ready-from _ _ _ (sym c.ready.ensures ∙ not-false _ c.if-not-ready.false-raw))
+loop-i-init c = begin _ _ _ _ _ _ (ready-from _ _ _ (sym c.ready.ensures ∙ c.if-not-ready.false))
 
 pub take_one-cost-requires : goal.take_one-cost-requires
 take_one-cost-requires c =
     let l = c.loop-i in
     let free = c.if-saturating_sub-lt-MOST_LINE.false in (
-      c.read_accepted-h.ensures.laid,
-      l.invariant.ready,
+      rw c.accepted-table.ensures.0 l.invariant.ready,
       omega (arith, c.saturating_sub.ensures),
     )
 
@@ -46,7 +45,7 @@ pub loop-i-preserved : goal.loop-i-preserved
 loop-i-preserved c =
     let a = c.args in
     let l = c.loop-i in
-    let ok = sym c.ready.ensures ∙ not-false _ c.if-not-ready.false-raw in
+    let ok = sym c.ready.ensures ∙ c.if-not-ready.false in
     let long = offered-long a.t.now a.s.now a.trace.now a.bytes.now a.from ok in
     let free = c.if-saturating_sub-lt-MOST_LINE.false in
     next _ _ _ _ _ _ _ _ _ _ _ _ l.invariant _ _ _ _ _ _
@@ -54,7 +53,7 @@ loop-i-preserved c =
     (omega (arith, c.saturating_sub.ensures, l.invariant.out_long))
     (offered-at a.t.now a.s.now a.trace.now a.bytes.now a.from ok l.i _
     c.read_word-e.ensures)
-    c.take_one-cost.ensures c.counted-so_far.ensures
+    (rw c.accepted-table.ensures.0 at c.take_one-cost.ensures) c.counted-so_far.ensures
 
 pub returns-then-saturating_sub-lt-MOST_LINE : goal.returns-then-saturating_sub-lt-MOST_LINE
 returns-then-saturating_sub-lt-MOST_LINE c =
@@ -65,7 +64,7 @@ returns-then-saturating_sub-lt-MOST_LINE c =
 pub returns : goal.returns
 returns c =
     let a = c.args in
-    let ok = sym c.ready.ensures ∙ not-false _ c.if-not-ready.false-raw in
+    let ok = sym c.ready.ensures ∙ c.if-not-ready.false in
     let long = offered-long a.t.now a.s.now a.trace.now a.bytes.now a.from ok in
     let all : c.saturating_sub-total.result ≡ c.loop-i.i = omega arith in
     rw all
