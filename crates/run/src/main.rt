@@ -11,28 +11,20 @@ ghost use Rattle.run.specs.Kept.{Lent, TookBlock, Goes, Ran};
 
 mod space;
 
-use files::{print, read_block};
-use std::fs::File;
+use files::{Source, print};
 use text::input::word_count;
 
-// What stays as it is during a run: the host, the table, and the events file with its name.
+// What stays as it is during a run: the host, the table, and the file of the events.
 #[derive(Clone, Copy)]
 struct Run<'a> {
     rt: HostRuntime,
     table: &'a [u32],
-    source: &'a File,
-    path: &'a [u8],
+    events: Source<'a>,
 }
 
 impl Run<'_> {
     // Takes the events of a block and prints their lines; false where they cannot be written.
-    fn run_block(
-        &self,
-        s: &mut [u32],
-        trace: &mut [u32],
-        block: &[u8],
-        out: &mut [u8],
-    ) -> bool
+    fn run_block(&self, s: &mut [u32], trace: &mut [u32], block: &[u8], out: &mut [u8]) -> bool
         requires { Ready self.now.table.now s.old trace.old × (most ≤ length out.old) }
         ensures { TookBlock self.now.table.now s.old (words_of block.now) result s.new }
     {
@@ -65,7 +57,7 @@ impl Run<'_> {
         if !written {
             return None;
         }
-        Some(read_block(self.rt, self.source, self.path, block).unwrap_or(0))
+        Some(self.events.read_block(self.rt, block).unwrap_or(0))
     }
 
     // Runs the first block and then those that the file still has; false where one was left before its end. A proved loop has to end, and
@@ -96,24 +88,29 @@ impl Run<'_> {
         let _ = manager::make_fresh(self.table, s);
         self.run(s, trace, block, first)
     }
+}
 
-    // The session with the table: its reason, or its run from the fresh state.
-    fn open_run(&self, block: &mut [u8], n: usize)
-        requires { IsPrefixLen n block.old }
-    {
-        let opening = match session::open(self.table) {
-            Ok(opening) => opening,
-            Err(refused) => {
-                files::print_reason(self.rt, refused.reason, refused.place);
-                return;
-            }
-        };
-        let mut states = files::space::state_words();
-        let mut traces = space::trace_words();
-        let s = &mut states[..opening.state];
-        let trace = &mut traces[..opening.trace];
-        self.run_fresh(s, trace, block, n);
-    }
+// The session with a table: its reason, or its run from the fresh state.
+fn open_run(rt: HostRuntime, t: &[u32], events: Source<'_>, block: &mut [u8], n: usize)
+    requires { IsPrefixLen n block.old }
+{
+    let opening = match session::open(t) {
+        Ok(opening) => opening,
+        Err(refused) => {
+            files::print_reason(rt, refused.reason, refused.place);
+            return;
+        }
+    };
+    let run = Run {
+        rt,
+        table: t,
+        events,
+    };
+    let mut states = files::space::state_words();
+    let mut traces = space::trace_words();
+    let s = &mut states[..opening.state];
+    let trace = &mut traces[..opening.trace];
+    run.run_fresh(s, trace, block, n);
 }
 
 // The events file is opened and its first block read before anything is printed.
@@ -122,13 +119,11 @@ fn events(rt: HostRuntime, t: &[u32], path: &mut [u8]) {
     let Some(file) = files::open(rt, 2, b"EVENTS", b"run TABLE EVENTS", path, &mut block) else {
         return;
     };
-    let run = Run {
-        rt,
-        table: t,
-        source: &file.source,
-        path: &path[..file.named],
+    let events = Source {
+        file: &file.source,
+        name: &path[..file.named],
     };
-    run.open_run(&mut block, file.bytes);
+    open_run(rt, t, events, &mut block, file.bytes);
 }
 
 fn main(rt: HostRuntime) {

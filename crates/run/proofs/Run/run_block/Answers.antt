@@ -1,5 +1,5 @@
 -- `run::Run::run_block` meets its contract: every turn of its loop takes an event at least. Assumes nothing.
-use Rattle.std.proofs.Common.{◌+◌, ◌≡◌, refl, ap, ◌∙◌, arith, take_all}
+use Rattle.std.proofs.Common.{◌+◌, refl, ap, ◌∙◌, arith, take_all}
 use mathlib.Core.Bool.{false≢true}
 use Rattle.text.specs.Words.{words_of}
 use Rattle.session.specs.Printed.{state_after}
