@@ -1,7 +1,6 @@
 -- Blocks one after the other, each from the state that the one before left. Assumes nothing.
-use Rattle.std.proofs.Common.{◌≡◌, ℕ, ◌+◌, ◌*◌, ◌≤◌, Bool, true, false, eqb, List, [], ◌++◌, length, take, drop, sym, refl, ◌∙◌, subst, append-nil, arith, Result, Ok, Err, take_all, eqb-true}
+use Rattle.std.proofs.Common.{◌≡◌, ℕ, ◌+◌, ◌≤◌, Bool, true, false, List, [], ◌++◌, length, take, drop, sym, refl, ◌∙◌, subst, append-nil, arith, Result, Ok, Err, take_all}
 use lib.Seq.{take-append_seam}
-use Rattle.rulebook.specs.Reasons.{bound}
 use Rattle.rulebook.specs.Step.{refused_state}
 use Rattle.laws.proofs.Steps.{fresh-fits}
 use Rattle.states.specs.Made.{Makes}

@@ -10,8 +10,7 @@ ghost use Rattle.play.specs.Kept.{Loaded, Ready, Lent, Played, Goes, Ended};
 
 mod space;
 
-use files::{print, read_block};
-use std::fs::File;
+use files::{Source, print};
 use text::input::read_words;
 
 // The number of a part that ends because its trace is full. The next part starts with an empty one. A part tells it as a number, the one that
@@ -50,13 +49,12 @@ struct Turn {
     bytes: usize,
 }
 
-// What stays as it is during a play: the host, the table, and the events file with its name.
+// What stays as it is during a play: the host, the table, and the file of the events.
 #[derive(Clone, Copy)]
 struct Play<'a> {
     rt: HostRuntime,
     table: &'a [u32],
-    source: &'a File,
-    path: &'a [u8],
+    events: Source<'a>,
 }
 
 impl Play<'_> {
@@ -125,7 +123,7 @@ impl Play<'_> {
         if count.number != 0 {
             return Ok(Turn { count, bytes: 0 });
         }
-        match read_block(self.rt, self.source, self.path, block) {
+        match self.events.read_block(self.rt, block) {
             Some(bytes) => Ok(Turn { count, bytes }),
             None => Err(count),
         }
@@ -193,25 +191,30 @@ impl Play<'_> {
         let end = day::lay_end(out, day.taken, day.visits, day.number);
         print(self.rt, &out[..end]);
     }
+}
 
-    // The day with the table: its reason, or its play from the fresh state.
-    fn play(&self, block: &mut [u8], n: usize)
-        requires { Loaded n block.old }
-    {
-        let opening = match session::open(self.table) {
-            Ok(opening) => opening,
-            Err(refused) => {
-                files::print_reason(self.rt, refused.reason, refused.place);
-                return;
-            }
-        };
-        let mut states = files::space::state_words();
-        let mut trace = space::trace_words();
-        let mut out = files::space::lines();
-        let s = &mut states[..opening.state];
-        if let Ok(day) = self.play_fresh(s, &mut trace, block, n, &mut out) {
-            self.print_end(s, day, &mut out);
+// The day with a table: its reason, or its play from the fresh state.
+fn open_play(rt: HostRuntime, t: &[u32], events: Source<'_>, block: &mut [u8], n: usize)
+    requires { Loaded n block.old }
+{
+    let opening = match session::open(t) {
+        Ok(opening) => opening,
+        Err(refused) => {
+            files::print_reason(rt, refused.reason, refused.place);
+            return;
         }
+    };
+    let play = Play {
+        rt,
+        table: t,
+        events,
+    };
+    let mut states = files::space::state_words();
+    let mut trace = space::trace_words();
+    let mut out = files::space::lines();
+    let s = &mut states[..opening.state];
+    if let Ok(day) = play.play_fresh(s, &mut trace, block, n, &mut out) {
+        play.print_end(s, day, &mut out);
     }
 }
 
@@ -221,13 +224,11 @@ fn events(rt: HostRuntime, t: &[u32], path: &mut [u8]) {
     let Some(file) = files::open(rt, 2, b"EVENTS", b"play TABLE EVENTS", path, &mut block) else {
         return;
     };
-    let play = Play {
-        rt,
-        table: t,
-        source: &file.source,
-        path: &path[..file.named],
+    let events = Source {
+        file: &file.source,
+        name: &path[..file.named],
     };
-    play.play(&mut block, file.bytes);
+    open_play(rt, t, events, &mut block, file.bytes);
 }
 
 fn main(rt: HostRuntime) {

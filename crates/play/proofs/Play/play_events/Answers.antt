@@ -1,9 +1,8 @@
 -- `play::Play::play_events` meets its contract and ends: a part that is full has taken an event. Assumes nothing.
-use Rattle.std.proofs.Common.{◌≡◌, ◌+◌, ◌≤◌, List, ℕ, length, take, drop, sym, refl, ◌∙◌, arith}
+use Rattle.std.proofs.Common.{◌+◌, refl, ◌∙◌, arith}
 use mathlib.Core.Bool.{false≢true}
 use borrow.Author.Rules.{part_to_end}
-use Rattle.day.specs.declared.Part.{Part}
-use Rattle.play.proofs.Parts.{told_none, told-as, all-some, parts-took, parts_whole, parts_within, ready-again, full-took}
+use Rattle.play.proofs.Parts.{told_none, all-some, parts-took, parts_whole, parts_within, ready-again, full-took}
 use Rattle.play.proofs.Play.play_events.Goals as goal
 
 pub loop-part-init : goal.loop-part-init
