@@ -1,18 +1,15 @@
 -- Blocks one after the other, each from the state and the largest counts that the one before left. Assumes nothing.
 use Prim.Native.Nat.{ℕ, ◌+◌, ◌≤◌}
-use mathlib.Core.Path.{◌≡◌, refl, subst, ◌∙◌}
+use mathlib.Core.Path.{◌≡◌}
 use mathlib.Core.Bool.{Bool, true, false}
-use mathlib.Core.List.{List, [], ◌++◌, append_assoc, append-nil}
+use mathlib.Core.List.{List, [], ◌++◌}
 use native.Mathlib.Omega.{arith}
 use lib.ListN.{length, take, length-take}
-use lib.Dec.{eqb}
-use borrow.Author.Tests.{eqb-true}
 use Rattle.states.specs.Made.{Makes}
 use Rattle.text.specs.Words.{words_of}
 use Rattle.text.proofs.Words.{counted}
 use Rattle.session.proofs.Whole.{made-fresh, fresh-ready, ready-after}
 use Rattle.visits.specs.declared.Most.{Most}
-use Rattle.visits.specs.Promises.{most_line}
 use Rattle.visits.specs.Blocks.{Leaves}
 use Rattle.visits.proofs.Whole.{leaves-then, leaves-count, leaves_none}
 use Rattle.timing.specs.Kept.{Loaded, Lent, Going, TookBlock, Ran}

@@ -10,8 +10,7 @@ ghost use Rattle.timing.specs.Kept.{Loaded, Lent, Going, Countable, Timed, Goes,
 
 mod space;
 
-use files::{print, read_block};
-use std::fs::File;
+use files::{Source, print};
 use text::input::word_count;
 use visits::Most;
 
@@ -25,13 +24,12 @@ struct Turn {
     bytes: usize,
 }
 
-// What stays as it is during a run: the host, the table, and the events file with its name.
+// What stays as it is during a run: the host, the table, and the file of the events.
 #[derive(Clone, Copy)]
 struct Timing<'a> {
     rt: HostRuntime,
     table: &'a [u32],
-    source: &'a File,
-    path: &'a [u8],
+    events: Source<'a>,
 }
 
 impl Timing<'_> {
@@ -77,7 +75,7 @@ impl Timing<'_> {
         ensures { Goes self.now.table.now s.old (words_of (take n block.old)) most result s.new block.new }
     {
         let most = self.time_block(s, trace, &block[..n], most, out)?;
-        match read_block(self.rt, self.source, self.path, block) {
+        match self.events.read_block(self.rt, block) {
             Some(bytes) => Ok(Turn { most, bytes }),
             None => Err(most),
         }
@@ -130,26 +128,31 @@ impl Timing<'_> {
         let end = visits::lay_most(out, self.table, most);
         print(self.rt, &out[..end]);
     }
+}
 
-    // The events with the table: its reason, or what they cost from the fresh state on.
-    fn cost(&self, block: &mut [u8], n: usize)
-        requires { Loaded n block.old }
-    {
-        let opening = match session::open(self.table) {
-            Ok(opening) => opening,
-            Err(refused) => {
-                files::print_reason(self.rt, refused.reason, refused.place);
-                return;
-            }
-        };
-        let mut states = files::space::state_words();
-        let mut traces = space::trace_words();
-        let mut out = files::space::lines();
-        let s = &mut states[..opening.state];
-        let trace = &mut traces[..opening.trace];
-        if let Ok(most) = self.time_fresh(s, trace, block, n, &mut out) {
-            self.print_end(most, &mut out);
+// The events with a table: its reason, or what they cost from the fresh state on.
+fn cost(rt: HostRuntime, t: &[u32], events: Source<'_>, block: &mut [u8], n: usize)
+    requires { Loaded n block.old }
+{
+    let opening = match session::open(t) {
+        Ok(opening) => opening,
+        Err(refused) => {
+            files::print_reason(rt, refused.reason, refused.place);
+            return;
         }
+    };
+    let timing = Timing {
+        rt,
+        table: t,
+        events,
+    };
+    let mut states = files::space::state_words();
+    let mut traces = space::trace_words();
+    let mut out = files::space::lines();
+    let s = &mut states[..opening.state];
+    let trace = &mut traces[..opening.trace];
+    if let Ok(most) = timing.time_fresh(s, trace, block, n, &mut out) {
+        timing.print_end(most, &mut out);
     }
 }
 
@@ -159,13 +162,11 @@ fn events(rt: HostRuntime, t: &[u32], path: &mut [u8]) {
     let Some(file) = files::open(rt, 2, b"EVENTS", b"cost TABLE EVENTS", path, &mut block) else {
         return;
     };
-    let timing = Timing {
-        rt,
-        table: t,
-        source: &file.source,
-        path: &path[..file.named],
+    let events = Source {
+        file: &file.source,
+        name: &path[..file.named],
     };
-    timing.cost(&mut block, file.bytes);
+    cost(rt, t, events, &mut block, file.bytes);
 }
 
 fn main(rt: HostRuntime) {

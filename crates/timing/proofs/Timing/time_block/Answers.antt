@@ -1,5 +1,5 @@
 -- `timing::Timing::time_block` meets its contract: every turn of its loop takes an event at least. Assumes nothing.
-use Rattle.std.proofs.Common.{◌+◌, ◌≡◌, refl, ◌∙◌, arith, take_all, length-take-le}
+use Rattle.std.proofs.Common.{◌+◌, refl, ◌∙◌, arith, take_all, length-take-le}
 use mathlib.Core.Bool.{false≢true}
 use Rattle.text.specs.Words.{words_of}
 use Rattle.session.proofs.Along.{offered-within}

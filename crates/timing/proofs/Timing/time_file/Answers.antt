@@ -1,5 +1,5 @@
 -- `timing::Timing::time_file` meets its contract: what a run gives from the block at hand it gives from the first one. Assumes nothing.
-use Rattle.std.proofs.Common.{◌≡◌, refl, ap, ◌∙◌, arith}
+use Rattle.std.proofs.Common.{refl, ap, ◌∙◌, arith}
 use mathlib.Core.Bool.{true, false}
 use Rattle.std.proofs.lemmas.Result.{err_from_is_err_and}
 use Rattle.visits.specs.declared.Most.{Most}
