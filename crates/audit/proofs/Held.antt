@@ -1,26 +1,21 @@
 -- One event taken, held against the supplier's recording and told: what is in order behind it, and from which state it goes on. Assumes nothing.
-use Rattle.std.proofs.Common.{◌≡◌, ℕ, ◌+◌, ◌≤◌, Bool, true, false, cond, not, ◌&&◌, eqb, leb, List, length, take, sym, refl, ap, ◌∙◌, arith, length-take-le, ne_eqb, eqb-true, leb-true}
-use mathlib.Core.Bool.{false≢true}
+use Rattle.std.proofs.Common.{◌≡◌, ℕ, ◌+◌, ◌≤◌, Bool, true, false, cond, not, ◌&&◌, eqb, leb, List, length, take, sym, refl, ap, ◌∙◌, arith, length-take-le, eqb-true, leb-true}
 use lib.Seq.{take-append_seam}
 use borrow.Author.Tests.{eqb-false}
 use Rattle.rulebook.specs.State.{fits}
 use Rattle.rulebook.specs.Step.{Result, refused_state}
 use Rattle.rulebook.specs.Hold.{as_ordered}
-use Rattle.laws.proofs.Tests.{split, clash, and_left, and_right}
+use Rattle.laws.proofs.Tests.{split, and_left, and_right}
 use Rattle.laws.proofs.Play.{stood-state}
-use Rattle.words.specs.declared.sections.Layout.{Layout}
 use Rattle.session.specs.Printed.{taken}
 use Rattle.session.specs.Promises.{Ready}
 use Rattle.session.proofs.Steps.{next-long, traced-long, next-ready, words-few}
+use Rattle.events.specs.Answers as answers
 use Rattle.telling.specs.Told.{held_event, event_line, told_lines}
-use Rattle.telling.specs.Promises.{Took, result, Room, Tells, Adopts}
+use Rattle.telling.specs.Promises.{Took, result, Room, Tells}
 use Rattle.audit.specs.declared.Told.{Told}
 use Rattle.audit.specs.Kept.{Going, most_words, told_bytes}
 use Rattle.audit.specs.Held.{ordered, fitting, on_from, Followed, HeldOne}
-
--- `adopt` in the words of the program
-pub adopted : {t s ws : List ℕ} {r : Bool} {s' : List ℕ} → Adopts t s ws r s' → s' ≡ on_from t s ws
-adopted {t} {s} {ws} a = a.state ∙ ap (λ (b : Bool). cond b (take (length s) ws) s) a.fits
 
 -- a state that is gone on from is as long as ours, and fits as ours does
 module _ (t s ws : List ℕ) where
@@ -66,8 +61,14 @@ held_same : (r : Result) (said : ℕ) (ws : List ℕ) → held_event (result r.a
 unfolding held_event
 held_same r said ws = refl
 
+-- what is told of our step
+pub reports-took : (t s : List ℕ) {trace : List ℕ} (e : ℕ) {k n v a m : ℕ} {s' trace' : List ℕ} → answers.Tells (taken t s e) trace k n v s' trace' → a ≡ k
+    → m ≡ n → Took t e s trace a m s' trace'
+reports-took t s e told number count =
+    record { answer = number ∙ told.answer; count = count ∙ told.count; state = told.state; words = told.words }
+
 -- Behind our step.
-module _ {t : List ℕ} {h : Layout} {s trace : List ℕ} (g : Going t h s trace) {e k m : ℕ} {s₁ trace₁ : List ℕ} (took : Took t e s trace k m s₁ trace₁)
+module _ {t s trace : List ℕ} (g : Going t s trace) {e k m : ℕ} {s₁ trace₁ : List ℕ} (took : Took t e s trace k m s₁ trace₁)
   where
     trace-long : length trace₁ ≡ length trace
     trace-long = rw took.words (traced-long t s trace e g.ready)
@@ -113,12 +114,11 @@ module _ {t : List ℕ} {h : Layout} {s trace : List ℕ} (g : Going t h s trace
       -- followed, with so many bytes lent
       module _ {all : Bool} {r : Told} {s₂ : List ℕ} (long : length (take bytes out₁) ≡ bytes) (f : Followed t s₁ ws (take bytes out₁) all r s₂) where
         -- all is in order, whichever state it goes on from
-        pub held-going : Going t h s₂ trace₁
+        pub held-going : Going t s₂ trace₁
         held-going =
             let few = g.few in
             let small = g.small in
             record {
-              laid = g.laid;
               ready = record {
                 table = g.ready.table;
                 state = rw f.state (behind-fits t s₁ ws (r.parted && all) took-ready.state);
@@ -141,43 +141,3 @@ module _ {t : List ℕ} {h : Layout} {s trace : List ℕ} (g : Going t h s trace
               told = λ p. f.told p ∙ ap (λ (n : ℕ). not (eqb n 0)) long ∙ ap not ordered-is;
               stops = f.stops;
             }
-
--- The four ends of following.
-module _ (t s ws lines : List ℕ) (all : Bool) where
-  pub none-followed : length lines ≡ 0 → Followed t s ws lines all (record { going = true; parted = false }) s
-  none-followed z =
-      record {
-        state = refl;
-        parts = λ p. absurd (false≢true p);
-        told = λ _. rw z;
-        stops = λ p. absurd (false≢true p);
-      }
-
-  pub unwritten : Followed t s ws lines all (record { going = false; parted = false }) s
-  unwritten =
-      record {
-        state = refl;
-        parts = λ p. absurd (false≢true p);
-        told = λ p. absurd (false≢true p);
-        stops = λ p. absurd (false≢true p);
-      }
-
-  module _ (z : length lines ≡ 0 → ⊥) where
-    pub first-followed : all ≡ false → Followed t s ws lines all (record { going = false; parted = true }) s
-    first-followed one =
-        record {
-          state = rw one;
-          parts = λ _. z;
-          told = λ p. absurd (false≢true p);
-          stops = λ _ _. refl;
-        }
-
-    pub all-followed : (going : Bool) {s' : List ℕ} → all ≡ true → s' ≡ on_from t s ws
-        → Followed t s ws lines all (record { going = going; parted = true }) s'
-    all-followed going every is =
-        record {
-          state = rw every is;
-          parts = λ _. z;
-          told = λ _. rw (ne_eqb (length lines) 0 z);
-          stops = λ _ one. clash every one;
-        }

@@ -1,4 +1,3 @@
--- Laws of the window that a log is read through, of what is in order from event to event, and of one event.
-pub mod Window
+-- Laws of what is in order from event to event, and of one event.
 pub mod Kept
 pub mod Held

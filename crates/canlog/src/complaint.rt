@@ -1,9 +1,9 @@
 // What is said of a log that is refused: one line on standard error, with the number of the line, 0 where the table or the list of the interfaces is
 // refused.
 use crate::space;
-use buslog::reading::Ending;
+use buslog::reading::Halt;
 use files::faults::say_bytes;
-use words::sections::read_layout;
+use words::table::Table;
 
 // Says something on standard error, and a number behind it that a byte ends.
 fn say(rt: HostRuntime, what: &[u8], n: u64, end: u8) {
@@ -15,9 +15,11 @@ fn say(rt: HostRuntime, what: &[u8], n: u64, end: u8) {
 
 // What is wrong with a table: its reason, and the word that has it.
 fn tell_table(rt: HostRuntime, t: &[u32]) {
-    let opening = session::open(t);
-    say(rt, b" the table has reason ", opening.reason as u64, b' ');
-    say(rt, b"at word ", opening.place as u64, b'\n');
+    let Err(refused) = session::open(t) else {
+        return;
+    };
+    say(rt, b" the table has reason ", u64::from(refused.reason), b' ');
+    say(rt, b"at word ", u64::from(refused.place), b'\n');
 }
 
 // What a list of the interfaces has to be with a table of so many networks.
@@ -29,7 +31,7 @@ fn tell_names(rt: HostRuntime, networks: u32) {
         );
         return;
     }
-    say(rt, b" INTERFACES is not ", networks as u64, b' ');
+    say(rt, b" INTERFACES is not ", u64::from(networks), b' ');
     if networks == 1 {
         say_bytes(rt, b"name, one a line\n");
         return;
@@ -37,24 +39,15 @@ fn tell_names(rt: HostRuntime, networks: u32) {
     say_bytes(rt, b"different names, one a line\n");
 }
 
-// Tells of the refusal of a line. Nothing is refused where all is read; and where the output is full it is emptied, so nobody hears of that.
-pub fn complain(rt: HostRuntime, t: &[u32], end: Ending, line: u64) {
+// Tells of the refusal of a line. Where the output is full it is emptied, so nobody hears of that.
+pub fn complain(rt: HostRuntime, t: &[u32], halt: Halt, line: u64) {
     say(rt, b"herringcart: line ", line, b':');
-    match end {
-        Ending::Read => {}
-        Ending::BadTable => tell_table(rt, t),
-        Ending::BadNames => tell_names(rt, read_layout(t).networks),
-        Ending::Misspelt => {
-            say_bytes(rt, b" misspelt\n");
-        }
-        Ending::GoesBack => {
-            say_bytes(rt, b" the time goes back\n");
-        }
-        Ending::Unlisted => {
-            say_bytes(rt, b" an interface that is not listed\n");
-        }
-        Ending::NoRoom => {
-            say_bytes(rt, b" no room for the events\n");
-        }
+    match halt {
+        Halt::BadTable => tell_table(rt, t),
+        Halt::BadNames => tell_names(rt, Table::read(t).networks()),
+        Halt::Misspelt => say_bytes(rt, b" misspelt\n"),
+        Halt::GoesBack => say_bytes(rt, b" the time goes back\n"),
+        Halt::Unlisted => say_bytes(rt, b" an interface that is not listed\n"),
+        Halt::NoRoom => say_bytes(rt, b" no room for the events\n"),
     }
 }

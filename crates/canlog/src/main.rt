@@ -2,93 +2,24 @@
 // events are laid as a file has them by `text`, and what is said of a refusal stands in `complaint`.
 #![tactic(auto)]
 
-ghost use Rattle.std.specs.Prelude.{◌≡◌, true, ◌*◌, ◌≤◌, length};
+ghost use Rattle.std.specs.Prelude.{◌≡◌, ◌*◌, ◌≤◌, eqb, length};
 ghost use Rattle.text.specs.Window.{Within};
-ghost use Rattle.buslog.specs.Promises.{cursor_as};
-ghost use Rattle.canlog.specs.Kept.{Ends, ReadOn, More};
+ghost use Rattle.buslog.specs.Promises.{cursor_as, end_number};
+ghost use Rattle.canlog.specs.Kept.{Ends, ReadsOn, More};
 
 mod complaint;
 mod space;
 
-use buslog::reading::{Cursor, Step, number, read_log, refused_line};
+use buslog::reading::{Cursor, Halt, Step, read_log, refused_line};
 use std::fs::File;
 use text::raw::lay_words;
 use text::window::slide;
 
-// The number of a reading that ends because the output is full. It is emptied, and reading goes on.
-const NO_ROOM: u32 = 11;
-
-// Writes events as a file has them; false where it cannot.
-fn print_events(rt: HostRuntime, events: &[u32], raw: &mut [u8]) -> bool
-    requires { 4 * length events.now ≤ length raw.old }
+// Whether a reading ended because the output is full. Then that is emptied, and reading goes on.
+fn is_full(end: Result<(), Halt>) -> bool
+    ensures { result ≡ eqb (end_number end) 11 }
 {
-    let n = lay_words(raw, events);
-    files::print(rt, &raw[..n])
-}
-
-// What came of a part of the log: whether every line of it was read and every event written, and the cursor behind them.
-#[derive(Clone, Copy)]
-struct Turn {
-    going: bool,
-    cursor: Cursor,
-}
-
-// The end of a part: a refusal is told.
-fn end_part(rt: HostRuntime, t: &[u32], step: Step) -> Turn
-    ensures { Ends step result }
-{
-    let end = step.end;
-    let answer = number(end);
-    let cursor = step.cursor;
-    if answer != 0 {
-        complaint::complain(rt, t, end, refused_line(step));
-    }
-    Turn {
-        going: answer == 0,
-        cursor,
-    }
-}
-
-// Reads the lines of a part from the cursor on, in as many outputs as their events ask for, and writes each. A gap of a day is 8,640,000 ticks, and a log's
-// times can be further apart than that: no output has room for what one line can give. A proved loop has to end: the turns count down from a number that
-// no log uses up.
-fn read_part(
-    rt: HostRuntime,
-    t: &[u32],
-    names: &[u8],
-    log: &[u8],
-    from: Cursor,
-    out: &mut [u32],
-    raw: &mut [u8],
-) -> Turn
-    requires { 4 * length out.old ≤ length raw.old }
-    ensures { result.going ≡ true → ReadOn t.now names.now log.now (cursor_as from) (cursor_as result.cursor) }
-{
-    let mut at = 0;
-    let mut cursor = from;
-    let mut turns = u64::MAX;
-    while turns > 0 {
-        let step = read_log(t, names, &log[at..], cursor, out);
-        let events = step.events;
-        let end = step.end;
-        if !print_events(rt, &out[..events], raw) {
-            return Turn {
-                going: false,
-                cursor,
-            };
-        }
-        if number(end) != NO_ROOM {
-            return end_part(rt, t, step);
-        }
-        at += step.bytes;
-        let behind = step.cursor;
-        cursor = behind;
-        turns -= 1;
-    }
-    Turn {
-        going: false,
-        cursor,
-    }
+    matches!(end, Err(Halt::NoRoom))
 }
 
 // How many of the window's first bytes are read next: whole lines, up to the last newline. All of them where the file has no more, and where there is no
@@ -99,144 +30,157 @@ fn whole_lines(window: &[u8], ended: bool) -> usize
     if ended {
         return window.len();
     }
-    let mut i = window.len();
-    while 0 < i {
-        if window[i - 1] == b'\n' {
-            return i;
-        }
-        i -= 1;
+    match window.iter().rposition(|b| *b == b'\n') {
+        Some(i) => i + 1,
+        None => window.len(),
     }
-    window.len()
 }
 
-// Where a log is read: so many of its bytes stand at the window's front, and `ended` says that the file has no more. `failed` is a read that failed, which
-// has been told.
-#[derive(Clone, Copy)]
+// Where a log is read: so many of its bytes stand at the window's front, and `ended` says that the file has no more.
+#[derive(Clone, Copy, Debug, PartialEq, Eq)]
 struct Place {
-    failed: bool,
     ended: bool,
     end: usize,
 }
 
-// Reads on behind the bytes from `at` up to `end`, which are not read yet and move to the front.
-fn read_more(
+// What stays as it is while a log is read: the host, the table, the list of the interfaces, and the log's file with its name.
+#[derive(Clone, Copy)]
+struct CanLog<'a> {
     rt: HostRuntime,
-    source: &File,
-    path: &[u8],
-    window: &mut [u8],
-    at: usize,
-    end: usize,
-) -> Place
-    requires { Within at end window.old }
-    ensures { More at end window.old result window.new }
-{
-    let kept = slide(window, at, end);
-    let filled = files::read_on(rt, source, path, window, kept);
-    let bytes = filled.bytes;
-    Place {
-        failed: filled.failed,
-        ended: bytes < window.len(),
-        end: bytes,
-    }
+    table: &'a [u32],
+    names: &'a [u8],
+    source: &'a File,
+    path: &'a [u8],
 }
 
-// The log from its first line on: the whole lines in the window, whose first bytes are read, then those that the file still has. The turns count down
-// here too.
-fn read_file(
-    rt: HostRuntime,
-    t: &[u32],
-    names: &[u8],
-    source: &File,
-    path: &[u8],
-    window: &mut [u8],
-    first: usize,
-    out: &mut [u32],
-    raw: &mut [u8],
-)
-    requires { (first ≤ length window.old) × (4 * length out.old ≤ length raw.old) }
-{
-    let mut cursor = Cursor {
-        lines: 0,
-        first: 0,
-        last: 0,
-        given: 0,
-    };
-    let mut end = first;
-    let mut ended = first < window.len();
-    let mut turns = u64::MAX;
-    while turns > 0 {
-        let whole = whole_lines(&window[..end], ended);
-        let turn = read_part(rt, t, names, &window[..whole], cursor, out, raw);
-        if !turn.going || ended {
-            return;
+impl CanLog<'_> {
+    // Writes events as a file has them; false where it cannot.
+    fn print_events(&self, events: &[u32], raw: &mut [u8]) -> bool
+        requires { 4 * length events.now ≤ length raw.old }
+    {
+        let n = lay_words(raw, events);
+        files::print(self.rt, &raw[..n])
+    }
+
+    // The end of a part: the cursor behind its lines, or nothing where one is refused, which is told.
+    fn end_part(&self, step: Step) -> Option<Cursor>
+        ensures { Ends step result }
+    {
+        match step.end {
+            Ok(()) => Some(step.cursor),
+            Err(halt) => {
+                complaint::complain(self.rt, self.table, halt, refused_line(step));
+                None
+            }
         }
-        let place = read_more(rt, source, path, window, whole, end);
-        if place.failed {
-            return;
+    }
+
+    // Reads the lines of a part from the cursor on, in as many outputs as their events ask for, and writes each: the cursor behind them, or nothing where
+    // a line is refused or a write fails. A gap of a day is 8,640,000 ticks, and a log's times can be further apart than that: no output has room for what
+    // one line can give. A proved loop has to end: no log uses up so many turns.
+    fn read_part(
+        &self,
+        log: &[u8],
+        from: Cursor,
+        out: &mut [u32],
+        raw: &mut [u8],
+    ) -> Option<Cursor>
+        requires { 4 * length out.old ≤ length raw.old }
+        ensures { ReadsOn self.now.table.now self.now.names.now log.now (cursor_as from) result }
+    {
+        let mut at = 0;
+        let mut cursor = from;
+        for _ in 0..u64::MAX {
+            let step = read_log(self.table, self.names, &log[at..], cursor, out);
+            if !self.print_events(&out[..step.events], raw) {
+                return None;
+            }
+            if !is_full(step.end) {
+                return self.end_part(step);
+            }
+            at += step.bytes;
+            cursor = step.cursor;
         }
-        let behind = turn.cursor;
-        cursor = behind;
-        end = place.end;
-        ended = place.ended;
-        turns -= 1;
+        None
+    }
+
+    // Reads on behind the bytes from `at` up to `end`, which are not read yet and move to the front; nothing where a read fails, which is told.
+    fn read_more(&self, window: &mut [u8], at: usize, end: usize) -> Option<Place>
+        requires { Within at end window.old }
+        ensures { More at end window.old result window.new }
+    {
+        let kept = slide(window, at, end);
+        let end = files::read_on(self.rt, self.source, self.path, window, kept)?;
+        Some(Place {
+            ended: end < window.len(),
+            end,
+        })
+    }
+
+    // Reads the log from its first line on: the whole lines in the window, whose first bytes are read, then those that the file still has. The turns are
+    // bounded here too.
+    fn read_file(&self, window: &mut [u8], first: usize, out: &mut [u32], raw: &mut [u8])
+        requires { (first ≤ length window.old) × (4 * length out.old ≤ length raw.old) }
+    {
+        let mut cursor = Cursor {
+            lines: 0,
+            first: 0,
+            last: 0,
+            given: 0,
+        };
+        let mut place = Place {
+            ended: first < window.len(),
+            end: first,
+        };
+        for _ in 0..u64::MAX {
+            let whole = whole_lines(&window[..place.end], place.ended);
+            let Some(behind) = self.read_part(&window[..whole], cursor, out, raw) else {
+                return;
+            };
+            if place.ended {
+                return;
+            }
+            let Some(next) = self.read_more(window, whole, place.end) else {
+                return;
+            };
+            cursor = behind;
+            place = next;
+        }
     }
 }
 
 // The log is opened and its first bytes read before anything is judged.
 fn log(rt: HostRuntime, t: &[u32], names: &[u8], path: &mut [u8]) {
+    let usage = b"canlog TABLE INTERFACES LOG";
     let mut window = files::space::block_bytes();
-    let file = files::open(
-        rt,
-        3,
-        b"LOG",
-        b"canlog TABLE INTERFACES LOG",
-        path,
-        &mut window,
-    );
-    let named = file.named;
-    let n = file.bytes;
-    let Some(source) = file.source else {
+    let Some(file) = files::open(rt, 3, b"LOG", usage, path, &mut window) else {
         return;
+    };
+    let canlog = CanLog {
+        rt,
+        table: t,
+        names,
+        source: &file.source,
+        path: &path[..file.named],
     };
     let mut out = space::event_words();
     let mut raw = files::space::lines();
-    read_file(
-        rt,
-        t,
-        names,
-        &source,
-        &path[..named],
-        &mut window,
-        n,
-        &mut out,
-        &mut raw,
-    );
+    canlog.read_file(&mut window, file.bytes, &mut out, &mut raw);
 }
 
 // So is the list of the interfaces. Eight names have 128 bytes at most, so a list that is longer than its window is wrong, whatever stands behind it.
 fn interfaces(rt: HostRuntime, t: &[u32], path: &mut [u8]) {
+    let usage = b"canlog TABLE INTERFACES LOG";
     let mut list = files::space::path_bytes();
-    let file = files::open(
-        rt,
-        2,
-        b"INTERFACES",
-        b"canlog TABLE INTERFACES LOG",
-        path,
-        &mut list,
-    );
-    let n = file.bytes;
-    if file.source.is_none() {
-        return;
+    if let Some(file) = files::open(rt, 2, b"INTERFACES", usage, path, &mut list) {
+        log(rt, t, &list[..file.bytes], path);
     }
-    log(rt, t, &list[..n], path);
 }
 
 fn main(rt: HostRuntime) {
     let mut path = files::space::path_bytes();
     let mut words = files::space::table_words();
-    let table = files::read_table(rt, b"canlog TABLE INTERFACES LOG", &mut path, &mut words);
-    let count = table.words;
-    if table.read {
-        interfaces(rt, &words[..count], &mut path);
+    if let Some(n) = files::read_table(rt, b"canlog TABLE INTERFACES LOG", &mut path, &mut words) {
+        interfaces(rt, &words[..n], &mut path);
     }
 }

@@ -14,9 +14,7 @@ fn print_verdict(rt: HostRuntime, t: &[u32]) {
 fn main(rt: HostRuntime) {
     let mut path = files::space::path_bytes();
     let mut words = files::space::table_words();
-    let table = files::read_table(rt, b"check TABLE", &mut path, &mut words);
-    let count = table.words;
-    if table.read {
-        print_verdict(rt, &words[..count]);
+    if let Some(n) = files::read_table(rt, b"check TABLE", &mut path, &mut words) {
+        print_verdict(rt, &words[..n]);
     }
 }

@@ -18,21 +18,18 @@ fn refuse(rt: HostRuntime, reason: u32) {
 fn print_listing(rt: HostRuntime, t: &[u32]) {
     let mut out = space::listing_bytes();
     let listed = writing::list(t, &mut out);
-    let n = writing::bytes(listed);
-    let answer = writing::number(listed);
-    if answer != 0 {
-        refuse(rt, answer);
-        return;
+    match listed {
+        Ok(n) => {
+            files::print(rt, &out[..n]);
+        }
+        Err(_) => refuse(rt, writing::number(listed)),
     }
-    files::print(rt, &out[..n]);
 }
 
 fn main(rt: HostRuntime) {
     let mut path = files::space::path_bytes();
     let mut words = files::space::table_words();
-    let table = files::read_table(rt, b"list TABLE", &mut path, &mut words);
-    let count = table.words;
-    if table.read {
-        print_listing(rt, &words[..count]);
+    if let Some(n) = files::read_table(rt, b"list TABLE", &mut path, &mut words) {
+        print_listing(rt, &words[..n]);
     }
 }

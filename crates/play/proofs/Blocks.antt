@@ -1,19 +1,17 @@
 -- Blocks one after the other, each from the state that the one before left. Assumes nothing.
-use Rattle.std.proofs.Common.{◌≡◌, ℕ, ◌+◌, ◌*◌, ◌≤◌, Bool, true, false, eqb, List, [], ◌++◌, length, take, drop, sym, refl, ◌∙◌, subst, append-nil, arith, take_all, eqb-true}
+use Rattle.std.proofs.Common.{◌≡◌, ℕ, ◌+◌, ◌≤◌, Bool, true, false, List, [], ◌++◌, length, take, drop, sym, refl, ◌∙◌, subst, append-nil, arith, Result, Ok, Err, take_all}
 use lib.Seq.{take-append_seam}
-use Rattle.rulebook.specs.Reasons.{bound}
 use Rattle.rulebook.specs.Step.{refused_state}
 use Rattle.laws.proofs.Steps.{fresh-fits}
 use Rattle.states.specs.Made.{Makes}
 use Rattle.text.specs.Words.{words_of, Front}
 use Rattle.text.proofs.Words.{counted}
-use Rattle.session.specs.declared.Opening.{Opening}
-use Rattle.session.specs.Promises.{Opens}
-use Rattle.session.proofs.Whole.{opened, opened-state, opened-trace, made-fresh}
+use Rattle.session.proofs.Whole.{made-fresh}
 use Rattle.laws.proofs.Play.{stands}
 use Rattle.day.specs.Printed.{in64}
 use Rattle.day.proofs.Playing.{whole-leaves}
-use Rattle.play.specs.Kept.{Loaded, Lent, Ready, Told, TookBlock, Ran}
+use Rattle.play.specs.declared.Count.{Count}
+use Rattle.play.specs.Kept.{Loaded, Lent, Ready, Told, TookBlock, Played, Ran}
 use Rattle.play.specs.Kept as kept
 use Rattle.play.proofs.Parts.{told-on, told_none, room-again}
 
@@ -30,13 +28,13 @@ pub took-read : {t s ws before after : List ℕ} {count : ℕ} {going : Bool} {n
 took-read {t} {s} {going = going} {n} {v} {k} {s'} front room took =
     subst (λ (es : List ℕ). TookBlock t s es going n v k s') (all_read front room) took
 
+pub played-read : (t s : List ℕ) {ws before after : List ℕ} {count : ℕ} (r : Result Count Count) (s' : List ℕ) → Front ws before count after
+    → length ws ≤ length before → Played t s (take count after) r s' → Played t s ws r s'
+played-read t s (Ok c) s' front room took = took-read front room took
+played-read t s (Err c) s' front room took = took-read front room took
+
 pub few_words : (n : ℕ) (block : List ℕ) → Loaded n block → length (words_of (take n block)) ≤ 16384
 few_words n block loaded = omega (arith, counted (take n block), loaded.bytes.0, loaded.bytes.1, loaded.size)
-
--- a block that was written is whole whatever comes of the next one
-pub still : {t s es : List ℕ} {n v k : ℕ} {s' : List ℕ} {written : Bool} (going : Bool) → written ≡ true → TookBlock t s es written n v k s'
-    → TookBlock t s es going n v k s'
-still going ok took = record { all = λ _. took.all ok; some = took.some; within = took.within }
 
 -- nothing is refused where the number is 0
 pub told-done : {t s es : List ℕ} {n v k : ℕ} {s' : List ℕ} → k ≡ 0 → Told t s es n v k s' → Told t s es n v 0 s'
@@ -58,35 +56,24 @@ pub ran_on : {t s s₁ es fs : List ℕ} {over : Bool} {a u n v k : ℕ} {s' : L
 ran_on {fs = fs} told (kept.past later next) = kept.past (fs ++ later) (told-on told next)
 ran_on {fs = fs} told (kept.stopped some) = kept.past (take some.count fs) (told-on told some.told)
 
--- one that takes no further block is over only where the one at hand has no bytes
-pub ran-none : (t s block : List ℕ) (n : ℕ) → refused_state t s ≡ 0 → Ran t s (words_of (take n block)) (eqb n 0) 0 0 0 s
+-- one whose block at hand has no bytes is over, and one that takes no further block is not
+pub ran-over : {n : ℕ} (t s block : List ℕ) → refused_state t s ≡ 0 → n ≡ 0 → Ran t s (words_of (take n block)) true 0 0 0 s
 unfolding words_of
-ran-none t s block n z = by (eqb n 0) refl
-  where
-    by : (b : Bool) → eqb n 0 ≡ b → Ran t s (words_of (take n block)) b 0 0 0 s
-    by true h = rw (eqb-true n 0 h) (kept.past [] (told_none t s z))
-    by false h = kept.stopped (record { count = 0; told = told_none t s z })
+ran-over t s block z none = rw none (kept.past [] (told_none t s z))
+
+pub ran-left : (n : ℕ) (t s block : List ℕ) → refused_state t s ≡ 0 → Ran t s (words_of (take n block)) false 0 0 0 s
+ran-left n t s block z = kept.stopped (record { count = 0; told = told_none t s z })
 
 -- visits that are told are told again as they are
 pub ran-told : {t s es : List ℕ} {over : Bool} {n v k : ℕ} {s' : List ℕ} → Ran t s es over n v k s' → in64 v ≡ v
 ran-told (kept.past later told) = twice _ _ told.visits
 ran-told (kept.stopped some) = twice _ _ some.told.visits
 
-pub ran-from : {t s s₁ es : List ℕ} {over : Bool} {n v k : ℕ} {s' : List ℕ} → s₁ ≡ s → Ran t s₁ es over n v k s' → Ran t s es over n v k s'
-ran-from {t} {es = es} {over} {n} {v} {k} {s'} is r = subst (λ (u : List ℕ). Ran t u es over n v k s') is r
-
 -- What a play leaves is ready for the next.
 pub ready-after : {t s trace out es : List ℕ} {n v k : ℕ} {s₁ trace₁ out₁ : List ℕ} → Ready t s trace out → Told t s es n v k s₁
     → length trace₁ ≡ length trace → length out₁ ≡ length out → Ready t s₁ trace₁ out₁
 ready-after {t} {s} {es = es} ready told long wide =
     record { stands = rw told.state (whole-leaves t s es ready.stands); room = room-again ready.room long wide }
-
--- as many words as an opening asks for, and room for the lines of its trace
-pub opens-lent : {t s trace out : List ℕ} {o : Opening} → Opens t o → o.reason ≡ 0 → length s ≡ o.state → o.trace ≤ length trace
-    → 15 * o.trace ≤ length out → Lent t s trace out
-opens-lent {t} {o = o} opens none long words lines =
-    let b : o.trace ≡ bound t = opened-trace opens none in
-    record { table = opened opens none; state = long ∙ opened-state opens none; room = record { words = omega arith; lines = omega arith } }
 
 -- the state that `make_fresh` makes in them
 pub fresh-ready : {t s₀ s trace out : List ℕ} {k : ℕ} → Lent t s₀ trace out → Makes t s₀ k s → Ready t s trace out

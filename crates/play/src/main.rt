@@ -2,269 +2,239 @@
 // `day`.
 #![tactic(auto)]
 
-ghost use Rattle.std.specs.Prelude.{◌≤◌, length, take};
+ghost use Rattle.std.specs.Prelude.{◌≡◌, ◌+◌, ◌<◌, ◌^◌, ◌≤◌, length, take};
 ghost use Rattle.rulebook.specs.State.{fresh};
 ghost use Rattle.text.specs.Words.{words_of};
-ghost use Rattle.files.specs.Counts.{IsPrefixLen};
-ghost use Rattle.play.specs.Kept.{Loaded, Ready, Lent, TookBlock, Ran};
+ghost use Rattle.day.specs.Printed.{in64};
+ghost use Rattle.play.specs.Kept.{Loaded, Ready, Lent, Played, Goes, Ended};
 
 mod space;
 
-use files::{print, read_block};
-use std::fs::File;
+use files::{Source, print};
 use text::input::read_words;
 
-// The number of a part that ends because its trace is full. The next part starts with an empty one.
+// The number of a part that ends because its trace is full. The next part starts with an empty one. A part tells it as a number, the one that
+// is printed where a play ends, and so it is no variant here.
 const TRACE_FULL: u32 = 3;
 
-// How many of a block's events were taken, their visits in 64 bits, and the number that ended its play, 0 behind its last event. After a
-// failed write all speak of the events taken so far.
-#[derive(Clone, Copy)]
-struct Block {
-    written: bool,
-    taken: usize,
+// More blocks than a play uses up, and few enough for the sum of their events.
+const BLOCKS: u64 = 562949953421312;
+
+// How many events were taken, their visits in 64 bits, and the number that ended the play, 0 behind its last event.
+#[derive(Clone, Copy, Debug, PartialEq, Eq)]
+struct Count {
+    taken: u64,
     visits: u64,
     number: u32,
 }
 
-// Plays events in as many parts as the trace asks for and prints each part's lines.
-fn play_events(
-    rt: HostRuntime,
-    t: &[u32],
-    s: &mut [u32],
-    trace: &mut [u32],
-    es: &[u32],
-    out: &mut [u8],
-) -> Block
-    requires { Ready t.now s.old trace.old out.old }
-    ensures { TookBlock t.now s.old es.now result.written result.taken result.visits result.number s.new }
+// The count of a play that goes on behind another.
+fn counted(before: Count, next: Count) -> Count
+    requires { before.taken + next.taken < 2 ^ 64 }
+    ensures taken { result.taken ≡ before.taken + next.taken }
+    ensures visits { result.visits ≡ in64 (before.visits + next.visits) }
+    ensures number { result.number ≡ next.number }
 {
-    let mut taken = 0;
-    let mut visits: u64 = 0;
-    loop {
-        let part = day::play_part(t, s, trace, &es[taken..], out);
-        let bytes = part.bytes;
-        let number = part.number;
-        taken += part.taken;
-        visits = std::num::wrapping_add_u64(visits, part.visits);
-        if !print(rt, &out[..bytes]) {
-            return Block {
-                written: false,
-                taken,
-                visits,
-                number: 0,
-            };
-        }
-        if number != TRACE_FULL {
-            return Block {
-                written: true,
-                taken,
-                visits,
-                number,
-            };
-        }
+    Count {
+        taken: before.taken + next.taken,
+        visits: before.visits.wrapping_add(next.visits),
+        number: next.number,
     }
 }
 
-// Plays the words of a block.
-fn play_block(
-    rt: HostRuntime,
-    t: &[u32],
-    s: &mut [u32],
-    trace: &mut [u32],
-    block: &[u8],
-    out: &mut [u8],
-) -> Block
-    requires { Ready t.now s.old trace.old out.old × (length block.now ≤ 65536) }
-    ensures { TookBlock t.now s.old (words_of block.now)
-        result.written result.taken result.visits result.number s.new }
-{
-    let mut words = space::event_words();
-    let count = read_words(block, &mut words);
-    play_events(rt, t, s, trace, &words[..count], out)
-}
-
-// What came of a block, as `Block` says it, `going` if no write and no read failed; and the bytes that the next block has, 0 to end.
-#[derive(Clone, Copy)]
+// A block that was played, and how many bytes the next one has, 0 to end.
+#[derive(Clone, Copy, Debug, PartialEq, Eq)]
 struct Turn {
-    going: bool,
-    taken: usize,
-    visits: u64,
-    number: u32,
+    count: Count,
     bytes: usize,
 }
 
-// Plays the n bytes of a block and reads the next one, unless this one ended the play.
-fn next_block(
-    rt: HostRuntime,
-    t: &[u32],
-    s: &mut [u32],
-    trace: &mut [u32],
-    source: &File,
-    path: &[u8],
-    block: &mut [u8],
-    n: usize,
-    out: &mut [u8],
-) -> Turn
-    requires { Loaded n block.old × Ready t.now s.old trace.old out.old }
-    ensures prefix_len { IsPrefixLen result.bytes block.new }
-    ensures took_block { TookBlock t.now s.old (words_of (take n block.old))
-        result.going result.taken result.visits result.number s.new }
-{
-    let played = play_block(rt, t, s, trace, &block[..n], out);
-    let taken = played.taken;
-    let visits = played.visits;
-    let number = played.number;
-    if !played.written || number != 0 {
-        return Turn {
-            going: played.written,
-            taken,
-            visits,
-            number,
-            bytes: 0,
-        };
-    }
-    let filled = read_block(rt, source, path, block);
-    let bytes = filled.bytes;
-    Turn {
-        going: !filled.failed,
-        taken,
-        visits,
-        number,
-        bytes,
-    }
-}
-
-// The whole play: whether it came to its end, and then how many events were taken, their visits in 64 bits, and the number that ended it.
+// What stays as it is during a play: the host, the table, and the file of the events.
 #[derive(Clone, Copy)]
-struct Day {
-    whole: bool,
-    taken: u64,
-    visits: u64,
-    number: u32,
+struct Play<'a> {
+    rt: HostRuntime,
+    table: &'a [u32],
+    events: Source<'a>,
 }
 
-// Plays the first block and then those that the file still has, until an event is refused. A proved loop has to end, and nothing says
-// that a file does: the turns count down from a number that no play uses up, and that is small enough for the sum of the events.
-fn play_file(
-    rt: HostRuntime,
-    t: &[u32],
-    s: &mut [u32],
-    trace: &mut [u32],
-    source: &File,
-    path: &[u8],
-    block: &mut [u8],
-    first: usize,
-    out: &mut [u8],
-) -> Day
-    requires { Loaded first block.old × Ready t.now s.old trace.old out.old }
-    ensures { Ran t.now s.old (words_of (take first block.old))
-        result.whole result.taken result.visits result.number s.new }
-{
-    let mut n = first;
-    let mut taken: u64 = 0;
-    let mut visits: u64 = 0;
-    let mut turns: u64 = 562949953421312;
-    while turns > 0 && n > 0 {
-        let turn = next_block(rt, t, s, trace, source, path, block, n, out);
-        let number = turn.number;
-        taken += turn.taken as u64;
-        visits = std::num::wrapping_add_u64(visits, turn.visits);
-        if !turn.going || number != 0 {
-            return Day {
-                whole: turn.going,
-                taken,
+impl Play<'_> {
+    // Plays events in as many parts as the trace asks for and prints each part's lines. Where a write fails, the error has the count of the events
+    // taken so far.
+    fn play_events(
+        &self,
+        s: &mut [u32],
+        trace: &mut [u32],
+        es: &[u32],
+        out: &mut [u8],
+    ) -> Result<Count, Count>
+        requires { Ready self.now.table.now s.old trace.old out.old }
+        ensures { Played self.now.table.now s.old es.now result s.new }
+    {
+        let mut taken = 0;
+        let mut visits: u64 = 0;
+        loop {
+            let part = day::play_part(self.table, s, trace, &es[taken..], out);
+            taken += part.taken;
+            visits = visits.wrapping_add(part.visits);
+            let count = Count {
+                taken: taken as u64,
                 visits,
-                number,
+                number: part.number,
             };
+            if !print(self.rt, &out[..part.bytes]) {
+                return Err(Count { number: 0, ..count });
+            }
+            if part.number != TRACE_FULL {
+                return Ok(count);
+            }
         }
-        n = turn.bytes;
-        turns -= 1;
     }
-    Day {
-        whole: n == 0,
-        taken,
-        visits,
-        number: 0,
-    }
-}
 
-// Makes the fresh state in the lent words and plays from it.
-fn play_fresh(
-    rt: HostRuntime,
-    t: &[u32],
-    s: &mut [u32],
-    trace: &mut [u32],
-    source: &File,
-    path: &[u8],
-    block: &mut [u8],
-    first: usize,
-    out: &mut [u8],
-) -> Day
-    requires { Loaded first block.old × Lent t.now s.old trace.old out.old }
-    ensures { Ran t.now (fresh t.now) (words_of (take first block.old))
-        result.whole result.taken result.visits result.number s.new }
-{
-    manager::make_fresh(t, s);
-    play_file(rt, t, s, trace, source, path, block, first, out)
-}
-
-// The lines that close a play: the state, then how many events were taken, their visits and the number.
-fn print_end(
-    rt: HostRuntime,
-    t: &[u32],
-    s: &[u32],
-    taken: u64,
-    visits: u64,
-    number: u32,
-    out: &mut [u8],
-) {
-    let state = day::lay_state(t, s, out);
-    if !print(rt, &out[..state]) {
-        return;
+    // Plays the words of a block.
+    fn play_block(
+        &self,
+        s: &mut [u32],
+        trace: &mut [u32],
+        block: &[u8],
+        out: &mut [u8],
+    ) -> Result<Count, Count>
+        requires { Ready self.now.table.now s.old trace.old out.old × (length block.now ≤ 65536) }
+        ensures { Played self.now.table.now s.old (words_of block.now) result s.new }
+    {
+        let mut words = space::event_words();
+        let count = read_words(block, &mut words);
+        self.play_events(s, trace, &words[..count], out)
     }
-    let end = day::lay_end(out, taken, visits, number);
-    print(rt, &out[..end]);
+
+    // Plays the n bytes of a block and reads the next one, unless this one ended the play. Where a write or a read fails, the error has the count
+    // of the events taken.
+    fn next_block(
+        &self,
+        s: &mut [u32],
+        trace: &mut [u32],
+        block: &mut [u8],
+        n: usize,
+        out: &mut [u8],
+    ) -> Result<Turn, Count>
+        requires { Loaded n block.old × Ready self.now.table.now s.old trace.old out.old }
+        ensures { Goes self.now.table.now s.old (words_of (take n block.old)) result s.new block.new }
+    {
+        let count = self.play_block(s, trace, &block[..n], out)?;
+        if count.number != 0 {
+            return Ok(Turn { count, bytes: 0 });
+        }
+        match self.events.read_block(self.rt, block) {
+            Some(bytes) => Ok(Turn { count, bytes }),
+            None => Err(count),
+        }
+    }
+
+    // Plays the first block and then those that the file still has, until an event is refused: the whole play's count, or in the error that of a
+    // play that was stopped before its end. A proved loop has to end, and nothing says that a file does.
+    fn play_file(
+        &self,
+        s: &mut [u32],
+        trace: &mut [u32],
+        block: &mut [u8],
+        first: usize,
+        out: &mut [u8],
+    ) -> Result<Count, Count>
+        requires { Loaded first block.old × Ready self.now.table.now s.old trace.old out.old }
+        ensures { Ended self.now.table.now s.old (words_of (take first block.old)) result s.new }
+    {
+        let mut n = first;
+        let mut day = Count {
+            taken: 0,
+            visits: 0,
+            number: 0,
+        };
+        for _ in 0..BLOCKS {
+            if n == 0 {
+                return Ok(day);
+            }
+            match self.next_block(s, trace, block, n, out) {
+                Ok(turn) => {
+                    day = counted(day, turn.count);
+                    n = turn.bytes;
+                }
+                Err(count) => return Err(counted(day, count)),
+            }
+            if day.number != 0 {
+                return Ok(day);
+            }
+        }
+        if n == 0 { Ok(day) } else { Err(day) }
+    }
+
+    // Makes the fresh state in the lent words and plays from it.
+    fn play_fresh(
+        &self,
+        s: &mut [u32],
+        trace: &mut [u32],
+        block: &mut [u8],
+        first: usize,
+        out: &mut [u8],
+    ) -> Result<Count, Count>
+        requires { Loaded first block.old × Lent self.now.table.now s.old trace.old out.old }
+        ensures { Ended self.now.table.now (fresh self.now.table.now) (words_of (take first block.old)) result s.new }
+    {
+        let _ = manager::make_fresh(self.table, s);
+        self.play_file(s, trace, block, first, out)
+    }
+
+    // The lines that close a play: the state, then the count.
+    fn print_end(&self, s: &[u32], day: Count, out: &mut [u8]) {
+        let state = day::lay_state(self.table, s, out);
+        if !print(self.rt, &out[..state]) {
+            return;
+        }
+        let end = day::lay_end(out, day.taken, day.visits, day.number);
+        print(self.rt, &out[..end]);
+    }
 }
 
 // The day with a table: its reason, or its play from the fresh state.
-fn play(rt: HostRuntime, t: &[u32], source: &File, path: &[u8], block: &mut [u8], n: usize)
+fn open_play(rt: HostRuntime, t: &[u32], events: Source<'_>, block: &mut [u8], n: usize)
     requires { Loaded n block.old }
 {
-    let opening = session::open(t);
-    if opening.reason != 0 {
-        files::print_reason(rt, opening.reason, opening.place);
-        return;
-    }
-    let words = opening.state;
+    let opening = match session::open(t) {
+        Ok(opening) => opening,
+        Err(refused) => {
+            files::print_reason(rt, refused.reason, refused.place);
+            return;
+        }
+    };
+    let play = Play {
+        rt,
+        table: t,
+        events,
+    };
     let mut states = files::space::state_words();
     let mut trace = space::trace_words();
     let mut out = files::space::lines();
-    let s: &mut [u32] = &mut states[..words];
-    let day = play_fresh(rt, t, s, &mut trace, source, path, block, n, &mut out);
-    if day.whole {
-        print_end(rt, t, s, day.taken, day.visits, day.number, &mut out);
+    let s = &mut states[..opening.state];
+    if let Ok(day) = play.play_fresh(s, &mut trace, block, n, &mut out) {
+        play.print_end(s, day, &mut out);
     }
 }
 
 // The events file is opened and its first block read before anything is printed.
 fn events(rt: HostRuntime, t: &[u32], path: &mut [u8]) {
     let mut block = files::space::block_bytes();
-    let file = files::open(rt, 2, b"EVENTS", b"play TABLE EVENTS", path, &mut block);
-    let named = file.named;
-    let n = file.bytes;
-    let Some(source) = file.source else {
+    let Some(file) = files::open(rt, 2, b"EVENTS", b"play TABLE EVENTS", path, &mut block) else {
         return;
     };
-    play(rt, t, &source, &path[..named], &mut block, n);
+    let events = Source {
+        file: &file.source,
+        name: &path[..file.named],
+    };
+    open_play(rt, t, events, &mut block, file.bytes);
 }
 
 fn main(rt: HostRuntime) {
     let mut path = files::space::path_bytes();
     let mut words = files::space::table_words();
-    let table = files::read_table(rt, b"play TABLE EVENTS", &mut path, &mut words);
-    let count = table.words;
-    if table.read {
-        events(rt, &words[..count], &mut path);
+    if let Some(n) = files::read_table(rt, b"play TABLE EVENTS", &mut path, &mut words) {
+        events(rt, &words[..n], &mut path);
     }
 }

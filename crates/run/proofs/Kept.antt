@@ -1,32 +1,16 @@
 -- Blocks one after the other, each from the state that the one before left. Assumes nothing.
 use Prim.Native.Nat.{ℕ}
-use mathlib.Core.Path.{◌≡◌, refl, sym, subst, ap, ◌∙◌}
+use mathlib.Core.Path.{◌≡◌, refl, sym, ap, ◌∙◌}
 use mathlib.Core.Bool.{Bool, true, false}
 use mathlib.Core.List.{List, [], ◌++◌}
-use native.Mathlib.Omega.{arith}
-use lib.ListN.{length, take}
+use lib.ListN.{take}
 use lib.Dec.{eqb}
 use borrow.Author.Tests.{eqb-true}
 use Rattle.text.specs.Words.{words_of}
-use Rattle.session.specs.declared.Opening.{Opening}
 use Rattle.session.specs.Printed.{state_after}
-use Rattle.session.specs.Promises.{Opens}
 use Rattle.session.proofs.Along.{state-append}
-use Rattle.session.proofs.Whole.{opened, opened-state, opened-trace}
-use Rattle.run.specs.Kept.{Lent, Ran}
+use Rattle.run.specs.Kept.{Ran}
 use Rattle.run.specs.Kept as kept
-
--- as many words as an opening asks for
-pub opens-lent : {t s trace : List ℕ} {o : Opening} → Opens t o → o.reason ≡ 0 → length s ≡ o.state → length trace ≡ o.trace → Lent t s trace
-opens-lent opens none long room =
-    record {
-      table = opened opens none;
-      state = long ∙ opened-state opens none;
-      room = let b = opened-trace opens none in omega arith;
-    }
-
-pub ran-from : {t s s₁ es : List ℕ} {whole : Bool} {s' : List ℕ} → s₁ ≡ s → Ran t s₁ es whole s' → Ran t s es whole s'
-ran-from {t} {es = es} {whole} {s'} is r = subst (λ (v : List ℕ). Ran t v es whole s') is r
 
 -- a run that goes on behind a whole block
 pub ran_on : {t s s₁ es fs : List ℕ} {whole : Bool} {s' : List ℕ} → s₁ ≡ state_after t s es → Ran t s₁ fs whole s' → Ran t s es whole s'
@@ -44,3 +28,8 @@ ran-none t s block n = by (eqb n 0) refl
     by : (b : Bool) → eqb n 0 ≡ b → Ran t s (words_of (take n block)) b s
     by true h = rw (eqb-true n 0 h) (kept.past [] refl)
     by false h = kept.stopped (record { count = 0; state = refl })
+
+-- one whose block at hand has none is past the file's end
+pub ran_end : {n : ℕ} (t s block : List ℕ) → n ≡ 0 → Ran t s (words_of (take n block)) true s
+unfolding state_after words_of
+ran_end t s block none = rw none (kept.past [] refl)

@@ -1,8 +1,9 @@
 -- The state on its way from block to block: which events led to it, and from which state on.
-use Rattle.std.specs.Prelude.{ℕ, ◌≤◌, ◌≡◌, Bool, true, false, List, ◌++◌, length, take}
+use Rattle.std.specs.Prelude.{ℕ, ◌≤◌, ◌≡◌, Bool, true, false, Option, Some, None, List, ◌++◌, length, take}
 use Rattle.rulebook.specs.Reasons.{accepted, bound}
 use Rattle.rulebook.specs.State.{state_length}
 use Rattle.session.specs.Printed.{state_after}
+use Rattle.files.specs.Counts.{IsPrefixLen}
 
 -- a table that stands, and words lent for its state and its trace
 pub record Lent (t s trace : List ℕ) : Type 0 where
@@ -19,6 +20,12 @@ pub record TookSome (t s es s' : List ℕ) : Type 0 where
 pub record TookBlock (t s es : List ℕ) (written : Bool) (s' : List ℕ) : Type 0 where
   pub all : written ≡ true → s' ≡ state_after t s es
   pub some : TookSome t s es s'
+
+-- Whether the next block was read behind one with the events es: then all of them were taken, and its bytes stand in the block; else its lines could
+-- not be written.
+abbrev pub Goes : List ℕ → List ℕ → List ℕ → Option ℕ → List ℕ → List ℕ → Type 0
+Goes t s es (Some n) s' block' = TookBlock t s es true s' × IsPrefixLen n block'
+Goes t s es None s' block' = TookBlock t s es false s'
 
 -- A run whose first block has the events es; `whole` says that no block was left before its end. What a file's later blocks hold no
 -- contract says, so their events are some list.

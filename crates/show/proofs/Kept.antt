@@ -1,23 +1,21 @@
 -- Events one after the other and blocks one after the other, each from the state that the one before left. Assumes nothing.
-use Rattle.std.proofs.Common.{◌≡◌, ℕ, ◌+◌, ◌<◌, ◌≤◌, Bool, true, false, eqb, List, [], ◌∷◌, ◌++◌, length, get_or, take, drop, sym, refl, ap, ◌∙◌, subst, append_assoc, append-nil, add-one, arith, take-append-drop, length-take-le, take-suc, eqb-true}
+use Rattle.std.proofs.Common.{◌≡◌, ℕ, ◌+◌, ◌<◌, ◌≤◌, Bool, true, false, eqb, Result, Ok, Err, List, [], ◌∷◌, ◌++◌, length, get_or, take, drop, sym, refl, ap, ◌∙◌, subst, append_assoc, append-nil, add-one, arith, take-append-drop, length-take-le, take-suc, eqb-true}
 use lib.Seq.{take-append_seam}
+use Rattle.rulebook.specs.State.{fresh}
 use Rattle.rulebook.specs.Step.{refused_state}
-use Rattle.words.specs.declared.sections.Layout.{Layout}
 use Rattle.text.specs.Words.{words_of}
 use Rattle.session.specs.Printed.{taken, state_after}
 use Rattle.session.specs.Promises.{Ready, traced_by}
 use Rattle.states.specs.Made.{Makes}
-use Rattle.words.specs.Sections.{Laid}
-use Rattle.session.specs.declared.Opening.{Opening}
-use Rattle.session.specs.Promises.{Opens}
-use Rattle.session.proofs.Whole.{opened, opened-state, opened-trace, made-fresh, fresh-ready}
+use Rattle.session.proofs.Whole.{made-fresh, fresh-ready}
 use Rattle.panel.specs.Printed.{operator}
+use Rattle.events.specs.Answers.{Tells}
 use Rattle.session.proofs.Steps.{traced-long, next-ready, words-few}
 use Rattle.session.proofs.Along.{state-append, state-last}
 use Rattle.show.specs.declared.Seen.{Seen}
 use Rattle.show.specs.Printed.{newest}
 use Rattle.show.specs.Promises.{Took, most_panel, Shown, Watched}
-use Rattle.show.specs.Kept.{Lent, Last, Going, TookOne, Leaves, TookSome, TookBlock, Ran}
+use Rattle.show.specs.Kept.{Lent, Last, Going, TookOne, Leaves, TookSome, TookBlock, Ran, Ended, EndedFresh}
 use Rattle.show.specs.Kept as kept
 
 -- what is ready is refused by neither table nor state
@@ -25,8 +23,13 @@ pub ready-stands : (t s trace : List ℕ) → Ready t s trace → refused_state 
 unfolding refused_state
 ready-stands t s trace r = rw (r.table, r.state)
 
+-- what is told of an event taken
+pub reports-took : (t s : List ℕ) {trace : List ℕ} (e : ℕ) {k n v m : ℕ} {s' trace' : List ℕ} → Tells (taken t s e) trace k n v s' trace' → m ≡ n
+    → Took t e s trace m s' trace'
+reports-took t s e told is = record { count = is ∙ told.count; state = told.state; words = told.words }
+
 -- one event taken where all is in order
-module _ {o : ℕ} {t : List ℕ} {h : Layout} {e : ℕ} {s trace : List ℕ} {seen : Seen} {found out : List ℕ} (g : Going o t h s trace seen found out) {n : ℕ}
+module _ {o : ℕ} {t : List ℕ} {e : ℕ} {s trace : List ℕ} {seen : Seen} {found out : List ℕ} (g : Going o t s trace seen found out) {n : ℕ}
     {s' trace' : List ℕ} (k : Took t e s trace n s' trace') where
   pub took-long : length trace' ≡ length trace
   took-long = rw k.words (traced-long t s trace e g.ready)
@@ -54,7 +57,7 @@ module _ {o : ℕ} {t : List ℕ} {h : Layout} {e : ℕ} {s trace : List ℕ} {s
       }
 
   pub took_one : (events : ℕ) {m : ℕ} {found' out' : List ℕ} → m ≤ length found' → length found' ≡ length found → length out' ≡ length out
-      → TookOne o t h e s trace (record { events = events; count = n; kept = m }) s' trace' found' out'
+      → TookOne o t e s trace (record { events = events; count = n; kept = m }) s' trace' found' out'
   took_one events inside long long₂ =
       let few = g.few in
       let same = took-long in
@@ -65,7 +68,6 @@ module _ {o : ℕ} {t : List ℕ} {h : Layout} {e : ℕ} {s trace : List ℕ} {s
         words = rw (k.count, k.words) (take-append_seam (taken t s e).words _);
         going = record {
           operator = g.operator;
-          laid = g.laid;
           ready = took-ready;
           few = omega arith;
           words = took-inside;
@@ -109,11 +111,6 @@ leaves-on {t} {s} {ws} {xs} l {ys} r =
 pub took-first : {t s : List ℕ} (es : List ℕ) (n : ℕ) {s' : List ℕ} → s' ≡ state_after t s (take n es) → TookSome t s es s'
 took-first es n is = record { events = take n es; rest = drop n es; first = take-append-drop n es; state = is }
 
--- a block that was written is whole whatever comes of the next one
-pub still : {o : ℕ} {t : List ℕ} {h : Layout} {s ws es : List ℕ} {written : Bool} {s' trace' : List ℕ} {seen : Seen} {found' out' : List ℕ} (going : Bool)
-    → written ≡ true → TookBlock o t h s ws es written s' trace' seen found' out' → TookBlock o t h s ws es going s' trace' seen found' out'
-still going ok took = record { all = λ _. took.all ok; some = took.some; next = took.next }
-
 -- a run that goes on behind a whole block
 pub ran_on : {t s ws es s₁ trace₁ : List ℕ} {n : ℕ} → Leaves t s ws es s₁ trace₁ n → {fs : List ℕ} {whole : Bool} {s' trace' : List ℕ} {m : ℕ}
     → Ran t s₁ (take n trace₁) fs whole s' trace' m
@@ -128,19 +125,20 @@ ran_on {t} {s} {ws} {es} first {fs} (kept.stopped later some) =
       state = some.state ∙ ap (λ (v : List ℕ). state_after t v some.events) first.state ∙ sym (state-append t s es some.events);
     }
 
--- one that takes no further block is whole only where the one at hand has no bytes
-pub ran-none : (t s trace block : List ℕ) (n m : ℕ) → Ran t s (take m trace) (words_of (take n block)) (eqb n 0) s trace m
-unfolding words_of state_after
-ran-none t s trace block n m = by (eqb n 0) refl
-  where
-    by : (b : Bool) → eqb n 0 ≡ b → Ran t s (take m trace) (words_of (take n block)) b s trace m
-    by true h = rw (eqb-true n 0 h) (kept.past [] (leaves_none t s (take m trace) trace m refl))
-    by false h = kept.stopped [] record { events = []; rest = words_of (take n block) ++ []; first = refl; state = refl }
+-- one whose block at hand has no bytes is whole, and one that takes no further block is not
+pub ran-over : {n : ℕ} (t s trace block : List ℕ) (m : ℕ) → n ≡ 0 → Ran t s (take m trace) (words_of (take n block)) true s trace m
+unfolding words_of
+ran-over t s trace block m none = rw none (kept.past [] (leaves_none t s (take m trace) trace m refl))
+
+pub ran-left : (n : ℕ) (t s trace block : List ℕ) (m : ℕ) → Ran t s (take m trace) (words_of (take n block)) false s trace m
+unfolding state_after
+ran-left n t s trace block m =
+    kept.stopped [] record { events = []; rest = words_of (take n block) ++ []; first = refl; state = refl }
 
 -- one event more of a block
 pub block-next : {t s₀ ws : List ℕ} (es : List ℕ) (i : ℕ) {s trace : List ℕ} {n : ℕ} → Leaves t s₀ ws (take i es) s trace n → i < length es
-    → {e : ℕ} → e ≡ get_or es i 0 → {o : ℕ} {h : Layout} {seen : Seen} {s' trace' found' out' : List ℕ}
-    → TookOne o t h e s trace seen s' trace' found' out'
+    → {e : ℕ} → e ≡ get_or es i 0 → {o : ℕ} {seen : Seen} {s' trace' found' out' : List ℕ}
+    → TookOne o t e s trace seen s' trace' found' out'
     → Leaves t s₀ ws (take (i + 1) es) s' trace' seen.count
 block-next {t} {s₀} {ws} es i {s} {trace} {n} l inside {e} is {seen = seen} {s'} {trace'} took =
     let more : take (i + 1) es ≡ take i es ++ e ∷ [] = rw (is, add-one, take-suc es i 0 inside) in
@@ -162,14 +160,13 @@ fresh-shown {t = t} {trace = trace} l {s = s} made ws none =
       room = l.bytes;
     }
 
-pub fresh-going : {o : ℕ} {t : List ℕ} {h : Layout} {s₀ trace found out : List ℕ} → Lent o t s₀ trace found out → {k : ℕ} {s : List ℕ} → Makes t s₀ k s
-    → Laid t h → {kept : ℕ} {found' : List ℕ} → kept ≤ length found' → length found' ≡ length found
-    → Going o t h s trace (record { events = 0; count = 0; kept = kept }) found' out
-fresh-going l made laid inside long =
+pub fresh-going : {o : ℕ} {t : List ℕ} {s₀ trace found out : List ℕ} → Lent o t s₀ trace found out → {k : ℕ} {s : List ℕ} → Makes t s₀ k s
+    → {kept : ℕ} {found' : List ℕ} → kept ≤ length found' → length found' ≡ length found
+    → Going o t s trace (record { events = 0; count = 0; kept = kept }) found' out
+fresh-going l made inside long =
     let room = l.bytes in
     record {
       operator = l.operator;
-      laid = laid;
       ready = fresh-ready l.table (made-fresh l.table l.state made) l.room;
       few = l.few;
       words = omega arith;
@@ -178,11 +175,8 @@ fresh-going l made laid inside long =
       line = l.line;
     }
 
-pub ran-from : {t s s₁ ws es : List ℕ} {whole : Bool} {s' trace' : List ℕ} {n : ℕ} → s₁ ≡ s → Ran t s₁ ws es whole s' trace' n → Ran t s ws es whole s' trace' n
-ran-from {t} {ws = ws} {es} {whole} {s'} {trace'} {n} is r = subst (λ (v : List ℕ). Ran t v ws es whole s' trace' n) is r
-
 -- the end: the panel behind the last event can be laid
-pub going-last : {o : ℕ} {t : List ℕ} {h : Layout} {s trace : List ℕ} {seen : Seen} {found out : List ℕ} → Going o t h s trace seen found out
+pub going-last : {o : ℕ} {t : List ℕ} {s trace : List ℕ} {seen : Seen} {found out : List ℕ} → Going o t s trace seen found out
     → Last o t s trace seen.count out
 going-last {t = t} {s = s} {trace} {seen} g =
     let few = g.few in
@@ -197,18 +191,8 @@ going-last {t = t} {s = s} {trace} {seen} g =
       };
     }
 
--- as many words as an opening asks for
-pub opens-lent : {o : ℕ} {t s trace found out : List ℕ} {opening : Opening} → Opens t opening → opening.reason ≡ 0 → length s ≡ opening.state
-    → length trace ≡ opening.trace → operator o ≡ true → most_panel ≤ length found → most_panel ≤ length out
-    → Lent o t s trace found out
-opens-lent opens none long room is bytes line =
-    let few = opens.small_trace in
-    record {
-      operator = is;
-      table = opened opens none;
-      state = long ∙ opened-state opens none;
-      room = let b = opened-trace opens none in omega arith;
-      few = omega arith;
-      bytes = bytes;
-      line = line;
-    }
+-- a run from the fresh state
+pub ended-fresh : (o : ℕ) (t s es : List ℕ) (r : Result Seen Seen) (s' trace' found' out' : List ℕ) → s ≡ fresh t
+    → Ended o t s [] es r s' trace' found' out' → EndedFresh o t es r s' trace' out'
+ended-fresh o t s es (Ok seen) s' trace' found' out' is e = record { last = going-last e.going; ran = rw is at e.ran }
+ended-fresh o t s es (Err seen) s' trace' found' out' is e = record { last = going-last e.going; ran = rw is at e.ran }

@@ -1,40 +1,18 @@
-// An event taken, and the panel that it leaves laid behind its number, where a line of it has changed.
+// An event's number and the panel that it leaves, laid where a line of the panel has changed.
 ghost use Rattle.std.specs.Prelude.{◌≡◌, ◌≤◌, length};
 ghost use Rattle.rulebook.specs.Marked.{same as same_bytes};
 ghost use Rattle.text.specs.Puts.{PutAt};
-ghost use Rattle.words.specs.Sections.{Laid as LaidOut};
 ghost use Rattle.panel.specs.Printed.{panel};
-ghost use Rattle.session.specs.Promises.{Ready};
 ghost use Rattle.show.specs.Printed.{event_line};
-ghost use Rattle.show.specs.Promises.{Took, most_panel, Shown, Watched, LaysChange};
+ghost use Rattle.show.specs.Promises.{most_panel, Shown, Watched, LaysChange};
 
 use text::output::{put_decimal, put_label};
-use words::sections::Layout;
-
-// Takes one event, all calls good, and returns how many trace words it wrote.
-pub fn take_one(t: &[u32], h: Layout, e: u32, s: &mut [u32], trace: &mut [u32]) -> usize
-    requires { LaidOut t.now h × Ready t.now s.old trace.old }
-    ensures { Took t.now e s.old trace.old result s.new trace.new }
-{
-    let answer = events::handle(t, h, e, s, trace, &t[t.len()..]);
-    events::count(answer)
-}
 
 // Whether two runs of bytes are the same.
 fn same(a: &[u8], b: &[u8]) -> bool
     ensures { result ≡ same_bytes a.now b.now }
 {
-    if a.len() != b.len() {
-        return false;
-    }
-    let mut i = 0;
-    while i < a.len() {
-        if a[i] != b[i] {
-            return false;
-        }
-        i += 1;
-    }
-    true
+    a == b
 }
 
 // Lays an event's number at the front.
@@ -55,8 +33,8 @@ pub fn lay_left(o: u32, t: &[u32], s: &[u32], ws: &[u32], out: &mut [u8]) -> usi
     panel::bytes(shown)
 }
 
-// Whether a line has changed, and how many bytes the panel now has.
-#[derive(Clone, Copy)]
+// Whether a line has changed, and how many bytes the panel now has. They are the panel's either way, as `LaysChange` says, and so no Option.
+#[derive(Clone, Copy, Debug, PartialEq, Eq)]
 pub struct Changed {
     pub changed: bool,
     pub kept: usize,

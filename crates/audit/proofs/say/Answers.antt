@@ -1,8 +1,0 @@
--- `audit::say` is safe: a number is laid inside its room. Assumes nothing.
-use Rattle.std.proofs.Common.{sym, arith, length-take-le, rules}
-use Rattle.audit.proofs.say.Goals as goal
-
-pub slice_bounds-out-end : goal.slice_bounds-out-end
-slice_bounds-out-end c =
-    let put = c.put_decimal-bytes in
-    omega (arith, put.ensures.within (omega arith), put.auto.out)
