@@ -1,9 +1,8 @@
 -- A log read in one output after the other, and a window read on. Assumes nothing.
-use Prim.Native.Nat.{ℕ, ◌-◌}
+use Prim.Native.Nat.{ℕ}
 use mathlib.Core.Path.{◌≡◌, sym, ap, ◌∙◌}
 use mathlib.Core.Bool.{Bool}
 use mathlib.Core.List.{List}
-use native.Mathlib.Omega.{arith}
 use lib.ListN.{length, take, drop}
 use lib.Seq.{take-take}
 use Rattle.std.specs.Prelude.{Option, Some, None}
@@ -12,7 +11,7 @@ use Rattle.buslog.specs.declared.reading.Cursor.{Cursor}
 use Rattle.buslog.specs.declared.reading.Step.{Step}
 use Rattle.buslog.specs.Promises.{ReadsLogIn, cursor_as, end_number}
 use Rattle.files.specs.Holds.{Fills}
-use Rattle.text.specs.Window.{ahead, Slid}
+use Rattle.text.specs.Window.{Slid}
 use Rattle.canlog.specs.Kept.{Ends, ReadOn, ReadsOn, ReadBehind}
 use Rattle.canlog.specs.Kept as kept
 

@@ -18,7 +18,12 @@ fn tell_table(rt: HostRuntime, t: &[u32]) {
     let Err(refused) = session::open(t) else {
         return;
     };
-    say(rt, b" the table has reason ", u64::from(refused.reason), b' ');
+    say(
+        rt,
+        b" the table has reason ",
+        u64::from(refused.reason),
+        b' ',
+    );
     say(rt, b"at word ", u64::from(refused.place), b'\n');
 }
 

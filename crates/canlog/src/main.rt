@@ -11,7 +11,7 @@ mod complaint;
 mod space;
 
 use buslog::reading::{Cursor, Halt, Step, read_log, refused_line};
-use std::fs::File;
+use files::Source;
 use text::raw::lay_words;
 use text::window::slide;
 
@@ -43,14 +43,13 @@ struct Place {
     end: usize,
 }
 
-// What stays as it is while a log is read: the host, the table, the list of the interfaces, and the log's file with its name.
+// What stays as it is while a log is read: the host, the table, the list of the interfaces, and the log's file.
 #[derive(Clone, Copy)]
 struct CanLog<'a> {
     rt: HostRuntime,
     table: &'a [u32],
     names: &'a [u8],
-    source: &'a File,
-    path: &'a [u8],
+    log: Source<'a>,
 }
 
 impl CanLog<'_> {
@@ -78,13 +77,7 @@ impl CanLog<'_> {
     // Reads the lines of a part from the cursor on, in as many outputs as their events ask for, and writes each: the cursor behind them, or nothing where
     // a line is refused or a write fails. A gap of a day is 8,640,000 ticks, and a log's times can be further apart than that: no output has room for what
     // one line can give. A proved loop has to end: no log uses up so many turns.
-    fn read_part(
-        &self,
-        log: &[u8],
-        from: Cursor,
-        out: &mut [u32],
-        raw: &mut [u8],
-    ) -> Option<Cursor>
+    fn read_part(&self, log: &[u8], from: Cursor, out: &mut [u32], raw: &mut [u8]) -> Option<Cursor>
         requires { 4 * length out.old ≤ length raw.old }
         ensures { ReadsOn self.now.table.now self.now.names.now log.now (cursor_as from) result }
     {
@@ -110,7 +103,7 @@ impl CanLog<'_> {
         ensures { More at end window.old result window.new }
     {
         let kept = slide(window, at, end);
-        let end = files::read_on(self.rt, self.source, self.path, window, kept)?;
+        let end = self.log.read_on(self.rt, window, kept)?;
         Some(Place {
             ended: end < window.len(),
             end,
@@ -149,6 +142,28 @@ impl CanLog<'_> {
     }
 }
 
+// Reads a log whose first bytes stand in the window.
+fn read_log_from(
+    rt: HostRuntime,
+    t: &[u32],
+    names: &[u8],
+    log: Source<'_>,
+    window: &mut [u8],
+    first: usize,
+)
+    requires { first ≤ length window.old }
+{
+    let canlog = CanLog {
+        rt,
+        table: t,
+        names,
+        log,
+    };
+    let mut out = space::event_words();
+    let mut raw = files::space::lines();
+    canlog.read_file(window, first, &mut out, &mut raw);
+}
+
 // The log is opened and its first bytes read before anything is judged.
 fn log(rt: HostRuntime, t: &[u32], names: &[u8], path: &mut [u8]) {
     let usage = b"canlog TABLE INTERFACES LOG";
@@ -156,16 +171,11 @@ fn log(rt: HostRuntime, t: &[u32], names: &[u8], path: &mut [u8]) {
     let Some(file) = files::open(rt, 3, b"LOG", usage, path, &mut window) else {
         return;
     };
-    let canlog = CanLog {
-        rt,
-        table: t,
-        names,
-        source: &file.source,
-        path: &path[..file.named],
+    let log = Source {
+        file: &file.source,
+        name: &path[..file.named],
     };
-    let mut out = space::event_words();
-    let mut raw = files::space::lines();
-    canlog.read_file(&mut window, file.bytes, &mut out, &mut raw);
+    read_log_from(rt, t, names, log, &mut window, file.bytes);
 }
 
 // So is the list of the interfaces. Eight names have 128 bytes at most, so a list that is longer than its window is wrong, whatever stands behind it.

@@ -1,20 +1,19 @@
 -- Events one after the other and blocks one after the other, each from the state that the one before left. Assumes nothing.
-use Rattle.std.proofs.Common.{◌≡◌, ℕ, ◌+◌, ◌<◌, ◌≤◌, Bool, true, false, eqb, Result, Ok, Err, List, [], ◌∷◌, ◌++◌, length, get_or, take, drop, sym, refl, ap, ◌∙◌, subst, append_assoc, append-nil, add-one, arith, take-append-drop, length-take-le, take-suc, eqb-true}
+use Rattle.std.proofs.Common.{◌≡◌, ℕ, ◌+◌, ◌<◌, ◌≤◌, Bool, true, false, Result, Ok, Err, List, [], ◌∷◌, ◌++◌, length, get_or, take, drop, sym, refl, ap, ◌∙◌, append_assoc, append-nil, add-one, arith, take-append-drop, length-take-le, take-suc}
 use lib.Seq.{take-append_seam}
 use Rattle.rulebook.specs.State.{fresh}
 use Rattle.rulebook.specs.Step.{refused_state}
 use Rattle.text.specs.Words.{words_of}
 use Rattle.session.specs.Printed.{taken, state_after}
-use Rattle.session.specs.Promises.{Ready, traced_by}
+use Rattle.session.specs.Promises.{Ready}
 use Rattle.states.specs.Made.{Makes}
 use Rattle.session.proofs.Whole.{made-fresh, fresh-ready}
-use Rattle.panel.specs.Printed.{operator}
 use Rattle.events.specs.Answers.{Tells}
 use Rattle.session.proofs.Steps.{traced-long, next-ready, words-few}
 use Rattle.session.proofs.Along.{state-append, state-last}
 use Rattle.show.specs.declared.Seen.{Seen}
 use Rattle.show.specs.Printed.{newest}
-use Rattle.show.specs.Promises.{Took, most_panel, Shown, Watched}
+use Rattle.show.specs.Promises.{Took, Shown, Watched}
 use Rattle.show.specs.Kept.{Lent, Last, Going, TookOne, Leaves, TookSome, TookBlock, Ran, Ended, EndedFresh}
 use Rattle.show.specs.Kept as kept
 

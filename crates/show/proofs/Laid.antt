@@ -1,5 +1,5 @@
 -- What is laid: an event's number, a panel, and a change. Assumes nothing.
-use Rattle.std.proofs.Common.{◌≡◌, ℕ, ◌+◌, ◌*◌, ◌%◌, ◌^◌, ◌<◌, ◌≤◌, Bool, true, false, List, [], ◌∷◌, ◌++◌, length, take, sym, refl, ap, ◌∙◌, mod-eq_of_lt, zero-add, arith, length-append, length-take-le}
+use Rattle.std.proofs.Common.{◌≡◌, ℕ, ◌%◌, ◌^◌, ◌<◌, ◌≤◌, true, false, List, [], ◌∷◌, ◌++◌, length, take, sym, ap, ◌∙◌, mod-eq_of_lt, zero-add, arith, length-append, length-take-le}
 use Rattle.rulebook.specs.Marked.{same}
 use Rattle.laws.proofs.Facts.{facts}
 use Rattle.laws.proofs.Play.{stood-table}

@@ -1,5 +1,5 @@
 -- Bytes that are the same: what a comparison of slices tests, and what it says. Assumes nothing.
-use Rattle.std.proofs.Common.{◌≡◌, ℕ, Bool, true, false, ◌&&◌, eqb, List, [], ◌∷◌, refl, ap, eqb-true}
+use Rattle.std.proofs.Common.{◌≡◌, ℕ, Bool, true, ◌&&◌, eqb, List, [], ◌∷◌, refl, ap, eqb-true}
 use lib.Pointwise.{pointwise}
 use mathlib.Core.Bool.{false≢true}
 use Rattle.rulebook.specs.Marked.{same}

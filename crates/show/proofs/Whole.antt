@@ -1,5 +1,5 @@
 -- What the program prints: call after call it is the definition's. Assumes nothing.
-use Rattle.std.proofs.Common.{◌≡◌, ℕ, Bool, true, false, cond, not, ◌&&◌, List, [], ◌∷◌, ◌++◌, take, sym, refl, ap, ◌∙◌}
+use Rattle.std.proofs.Common.{◌≡◌, ℕ, Bool, true, false, cond, not, List, [], ◌++◌, take, refl}
 use lib.Seq.{take-append_seam}
 use Rattle.rulebook.specs.Marked.{same}
 use Rattle.rulebook.specs.Reasons.{accepted}

@@ -1,5 +1,5 @@
 -- The state and the newest step's words on their way from block to block: which events led to them, and from which on.
-use Rattle.std.specs.Prelude.{◌≡◌, ℕ, ◌+◌, ◌≤◌, Bool, true, false, Result, Ok, Err, List, [], ◌++◌, length, take}
+use Rattle.std.specs.Prelude.{◌≡◌, ℕ, ◌≤◌, Bool, true, false, Result, Ok, Err, List, [], ◌++◌, length, take}
 use Rattle.rulebook.specs.Reasons.{accepted, bound}
 use Rattle.rulebook.specs.State.{state_length, fresh}
 use Rattle.session.specs.Printed.{taken, state_after}

@@ -14,9 +14,8 @@ mod follow;
 mod space;
 
 use files::faults::say_bytes;
-use files::{print, read_block};
+use files::{Source, print};
 use follow::{Changed, lay_change, lay_left, lay_number};
-use std::fs::File;
 use text::input::{read_word, word_count};
 use words::table::Table;
 
@@ -48,16 +47,15 @@ fn print_change(rt: HostRuntime, number: u64, changed: Changed, out: &[u8]) -> b
     print(rt, &line[..n]) && print(rt, &out[..changed.kept])
 }
 
-// What stays as it is while events are taken: the host, the operator, whether each event is followed, the table, and the events file with its
-// name.
+// What stays as it is while events are taken: the host, the operator, whether each event is followed, the table, and the file of the
+// events.
 #[derive(Drop)]
 struct Watch<'a> {
     rt: HostRuntime,
     operator: u32,
     following: bool,
     table: Table<'a>,
-    source: &'a File,
-    path: &'a [u8],
+    events: Source<'a>,
 }
 
 impl Watch<'_> {
@@ -133,7 +131,7 @@ impl Watch<'_> {
             result s.new trace.new block.new found.new out.new }
     {
         let seen = self.watch_block(s, trace, &block[..n], from, found, out)?;
-        match read_block(self.rt, self.source, self.path, block) {
+        match self.events.read_block(self.rt, block) {
             Some(bytes) => Ok(Turn { seen, bytes }),
             None => Err(seen),
         }
@@ -275,7 +273,7 @@ fn read_operator(rt: HostRuntime) -> Option<(u32, bool)>
 }
 
 // The panel with a table that is not refused, or what refuses it. The operator's number is judged before the table.
-fn watch_table(rt: HostRuntime, t: &[u32], source: &File, path: &[u8], block: &mut [u8], n: usize)
+fn watch_table(rt: HostRuntime, t: &[u32], events: Source<'_>, block: &mut [u8], n: usize)
     requires { IsPrefixLen n block.old }
 {
     let Some((operator, following)) = read_operator(rt) else {
@@ -293,8 +291,7 @@ fn watch_table(rt: HostRuntime, t: &[u32], source: &File, path: &[u8], block: &m
         operator,
         following,
         table: Table::accepted(t),
-        source,
-        path,
+        events,
     };
     let mut states = files::space::state_words();
     let mut traces = space::trace_words();
@@ -310,7 +307,11 @@ fn events(rt: HostRuntime, t: &[u32], path: &mut [u8]) {
     let usage = b"panel OPERATOR TABLE EVENTS";
     let mut block = files::space::block_bytes();
     if let Some(file) = files::open(rt, 2, b"EVENTS", usage, path, &mut block) {
-        watch_table(rt, t, &file.source, &path[..file.named], &mut block, file.bytes);
+        let events = Source {
+            file: &file.source,
+            name: &path[..file.named],
+        };
+        watch_table(rt, t, events, &mut block, file.bytes);
     }
 }
 

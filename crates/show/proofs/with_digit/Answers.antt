@@ -1,5 +1,5 @@
 -- `show::with_digit` meets its contract, test by test. Assumes nothing.
-use Rattle.std.proofs.Common.{◌≡◌, ◌≤◌, ◌+◌, ◌<◌, ℕ, arith, le-ltb, lt-ltb, le-leb}
+use Rattle.std.proofs.Common.{◌≡◌, ◌≤◌, ◌<◌, ℕ, arith, le-ltb, lt-ltb, le-leb}
 use mathlib.Core.Logic.{◌⊎◌, inl, inr}
 use borrow.Author.Tests.{lt-leb}
 use Rattle.show.specs.Printed.{with_digit}

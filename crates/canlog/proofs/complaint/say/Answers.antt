@@ -1,8 +1,5 @@
 -- `complaint::say` is safe: a number is laid inside its room. Assumes nothing.
-use mathlib.Core.Path.{sym}
 use native.Mathlib.Omega.{arith}
-use lib.Seq.{length-take-le}
-use borrow.Author.Rules.{rules}
 use Rattle.canlog.proofs.complaint.say.Goals as goal
 
 pub slice_bounds-out-end : goal.slice_bounds-out-end

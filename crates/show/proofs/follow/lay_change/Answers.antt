@@ -1,5 +1,5 @@
 -- `show::follow::lay_change` meets its contract: no line has changed, or the panel left takes the place of the one found. Assumes nothing.
-use Rattle.std.proofs.Common.{◌≤◌, length, sym, ◌∙◌, arith, length-take-le, rules}
+use Rattle.std.proofs.Common.{◌≤◌, length, sym, ◌∙◌, arith, length-take-le}
 use Rattle.show.proofs.Laid.{no_change, a-change}
 use Rattle.show.proofs.follow.lay_change.Goals as goal
 

@@ -1,5 +1,5 @@
 -- `show::follow::lay_left` meets its contract: everything stands, and no panel is longer than the most. Assumes nothing.
-use Rattle.std.proofs.Common.{arith, rules}
+use Rattle.std.proofs.Common.{arith}
 use Rattle.panel.proofs.Answers.{laid-panel}
 use Rattle.show.proofs.Laid.{panel-few}
 use Rattle.show.proofs.follow.lay_left.Goals as goal
