@@ -14,9 +14,8 @@ mod space;
 
 use complaint::{complain, refuse_table, tell_found, tell_not_found};
 use files::faults::say_bytes;
-use files::{print, read_block};
+use files::{Source, print};
 use recording::{Found, read_recording};
-use std::fs::File;
 use text::input::{read_word, word_count};
 use text::window::slide;
 use words::table::Table;
@@ -100,21 +99,14 @@ fn mark(rt: HostRuntime, parted: u64) {
     }
 }
 
-// A file, and its name, which is told where a read of it fails.
-#[derive(Clone, Copy)]
-struct Named<'a> {
-    source: &'a File,
-    path: &'a [u8],
-}
-
 // What stays as it is during a holding: the host, the table, whether all events are held, and the files of the events and of the log.
 #[derive(Drop)]
 struct Audit<'a> {
     rt: HostRuntime,
     table: Table<'a>,
     all: bool,
-    events: Named<'a>,
-    log: Named<'a>,
+    events: Source<'a>,
+    log: Source<'a>,
 }
 
 impl Audit<'_> {
@@ -127,7 +119,7 @@ impl Audit<'_> {
             return Some(place);
         }
         let kept = slide(window, place.at, place.end);
-        let end = files::read_on(self.rt, self.log.source, self.log.path, window, kept)?;
+        let end = self.log.read_on(self.rt, window, kept)?;
         Some(Place {
             ended: end < window.len(),
             at: 0,
@@ -310,7 +302,7 @@ impl Audit<'_> {
         ensures { Goes self.now.table.words s.new trace.new block.new window.new result }
     {
         let day = self.hold_block(s, trace, &block[..n], first, window)?;
-        match read_block(self.rt, self.events.source, self.events.path, block) {
+        match self.events.read_block(self.rt, block) {
             Some(bytes) => Ok(Turn { day, bytes }),
             None => Err(Stopped { parted: day.parted }),
         }
@@ -407,10 +399,10 @@ fn goes_on(rt: HostRuntime) -> bool {
 fn hold_table(
     rt: HostRuntime,
     t: &[u32],
-    events: Named<'_>,
+    events: Source<'_>,
     block: &mut [u8],
     bytes: usize,
-    log: Named<'_>,
+    log: Source<'_>,
     window: &mut [u8],
     end: usize,
 )
@@ -438,7 +430,7 @@ fn hold_table(
 }
 
 // The log is opened and its first bytes read before anything is printed.
-fn log(rt: HostRuntime, t: &[u32], events: Named<'_>, block: &mut [u8], bytes: usize)
+fn log(rt: HostRuntime, t: &[u32], events: Source<'_>, block: &mut [u8], bytes: usize)
     requires { IsPrefixLen bytes block.old }
 {
     let usage = b"hold TABLE EVENTS LOG";
@@ -447,9 +439,9 @@ fn log(rt: HostRuntime, t: &[u32], events: Named<'_>, block: &mut [u8], bytes: u
     let Some(file) = files::open(rt, 3, b"LOG", usage, &mut path, &mut window) else {
         return;
     };
-    let log = Named {
-        source: &file.source,
-        path: &path[..file.named],
+    let log = Source {
+        file: &file.source,
+        name: &path[..file.named],
     };
     hold_table(rt, t, events, block, bytes, log, &mut window, file.bytes);
 }
@@ -461,9 +453,9 @@ fn events(rt: HostRuntime, t: &[u32], path: &mut [u8]) {
     let Some(file) = files::open(rt, 2, b"EVENTS", usage, path, &mut block) else {
         return;
     };
-    let events = Named {
-        source: &file.source,
-        path: &path[..file.named],
+    let events = Source {
+        file: &file.source,
+        name: &path[..file.named],
     };
     log(rt, t, events, &mut block, file.bytes);
 }
