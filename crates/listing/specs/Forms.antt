@@ -1,5 +1,5 @@
 -- The rulebook's number of a form.
-use Rattle.std.specs.Prelude.{ℕ}
+use Rattle.std.specs.Prelude.{ℕ, ◌+◌}
 use Rattle.listing.specs.declared.forms.Form.{Form}
 use Rattle.listing.specs.declared.forms.Form.TheVariants as form
 
@@ -17,3 +17,4 @@ form_number form.Rule = 9
 form_number form.List = 10
 form_number form.FirstItem = 11
 form_number form.SecondItem = 12
+form_number (form.Beyond k) = 13 + k

@@ -26,6 +26,32 @@ pub enum Form {
     List,
     FirstItem,
     SecondItem,
+    // A number behind theirs, by how far it is: a form without a name and without fields.
+    Beyond(usize),
+}
+
+// The rulebook's forms are numbers, and any number may be asked for.
+impl From<usize> for Form {
+    ghost from_gives = { λ number f. form_number f ≡ number };
+
+    fn from(number: usize) -> Form {
+        match number {
+            0 => Form::FirstHeader,
+            1 => Form::SecondHeader,
+            2 => Form::ThirdHeader,
+            3 => Form::Port,
+            4 => Form::Network,
+            5 => Form::Waits,
+            6 => Form::Source,
+            7 => Form::Condition,
+            8 => Form::Operator,
+            9 => Form::Rule,
+            10 => Form::List,
+            11 => Form::FirstItem,
+            12 => Form::SecondItem,
+            _ => Form::Beyond(number - 13),
+        }
+    }
 }
 
 // A section's name by a form, with the space behind it.
@@ -42,6 +68,7 @@ pub fn name(f: Form) -> &'static [u8]
         Form::Rule => b"rule ",
         Form::List => b"list ",
         Form::FirstItem | Form::SecondItem => b"item ",
+        Form::Beyond(_) => b"",
     }
 }
 
@@ -64,18 +91,7 @@ pub fn sizes(f: Form) -> &'static [u32]
         Form::List => &[16, 2, 256, 2048, 256],
         Form::FirstItem => &[16, 4096, 65536],
         Form::SecondItem => &[16, 2, 2048, 65536],
-    }
-}
-
-// The form of a header's line, counted from 0.
-pub fn of_header(i: usize) -> Form
-    requires { i < 3 }
-    ensures { form_number result ≡ i }
-{
-    match i {
-        0 => Form::FirstHeader,
-        1 => Form::SecondHeader,
-        _ => Form::ThirdHeader,
+        Form::Beyond(_) => &[],
     }
 }
 
@@ -86,7 +102,7 @@ fn place_form(t: &Table, i: usize, part: Part) -> Form
     ensures { form_number result ≡ place_form t.now.words i (part_of part) }
 {
     match part {
-        Part::Header => of_header(i),
+        Part::Header => Form::from(i),
         Part::Port(_) => Form::Port,
         Part::Network(_) => Form::Network,
         Part::Waits(_) => Form::Waits,

@@ -5,7 +5,7 @@ ghost use Rattle.listing.specs.Forms.{form_number};
 ghost use Rattle.listing.specs.Inside.{ReadsDigit, Spelling, ReadsNumber, ReadsFields, ReadsLine, KindAt, least, Opens, Opened, Scans, Told};
 ghost use Rattle.listing.specs.Promises.{read_number, words_of, line_in, ReadsWords, Reads};
 
-use crate::forms::{Form, ending, form_at, name, of_header, of_kind, sizes};
+use crate::forms::{Form, ending, form_at, name, of_kind, sizes};
 use tables::sound_header;
 use text::input::byte;
 use words::table::Table;
@@ -99,7 +99,7 @@ fn read_header(text: &[u8], header: &mut [u32]) -> Result<usize, usize>
 {
     let mut at = 0;
     for i in 0..3 {
-        let (w, next) = read_line(text, at, of_header(i)).ok_or(i + 1)?;
+        let (w, next) = read_line(text, at, Form::from(i)).ok_or(i + 1)?;
         header[i] = w;
         if !sound_header(header) {
             return Err(i + 1);

@@ -145,7 +145,7 @@ fn read_header(text: &[u8]) -> [u32; 3]
     let mut header = [0; 3];
     let mut at = 0;
     for i in 0..3 {
-        let Some((w, next)) = read_line(text, at, forms::of_header(i)) else {
+        let Some((w, next)) = read_line(text, at, Form::from(i)) else {
             return header;
         };
         header[i] = w;
@@ -158,7 +158,7 @@ fn read_header(text: &[u8]) -> [u32; 3]
 fn form_at_line(text: &[u8], line: usize) -> Option<Form> {
     let i = line.saturating_sub(1);
     if i < 3 {
-        return Some(forms::of_header(i));
+        return Some(Form::from(i));
     }
     let header = read_header(text);
     let table = Table::read(&header);

@@ -13,14 +13,14 @@ returns-in_err-w c =
     let p = err_from_is_err_and c.from_residual.result c.from_residual.ensures.1 in
     let told = c.in_err-w.ensures in
     rw (p.1, p.2, missing _ _ _ told.ok_part told.value)
-    (misspelt _ _ _ _ c.loop-i.invariant c.loop-i-test.true (misspelt-as c.args.text.now c.loop-i.at _ c.of_header.ensures c.read_line.ensures told.ok_part))
+    (misspelt _ _ _ _ c.loop-i.invariant c.loop-i-test.true (misspelt-as c.args.text.now c.loop-i.at _ c.from.ensures c.read_line.ensures told.ok_part))
 
 pub returns-then-not-sound_header : goal.returns-then-not-sound_header
 returns-then-not-sound_header c =
-    unsound _ _ _ _ c.loop-i.invariant c.loop-i-test.true _ _ (line_as c.args.text.now c.loop-i.at _ c.of_header.ensures c.read_line.ensures c.in_ok-w.ensures.ok_part)
+    unsound _ _ _ _ c.loop-i.invariant c.loop-i-test.true _ _ (line_as c.args.text.now c.loop-i.at _ c.from.ensures c.read_line.ensures c.in_ok-w.ensures.ok_part)
     (sym c.sound_header.ensures ∙ c.if-not-sound_header.true)
 
 pub loop-i-preserved : goal.loop-i-preserved
 loop-i-preserved c =
-    step _ _ _ _ c.loop-i.invariant c.loop-i-test.true _ _ (line_as c.args.text.now c.loop-i.at _ c.of_header.ensures c.read_line.ensures c.in_ok-w.ensures.ok_part)
+    step _ _ _ _ c.loop-i.invariant c.loop-i-test.true _ _ (line_as c.args.text.now c.loop-i.at _ c.from.ensures c.read_line.ensures c.in_ok-w.ensures.ok_part)
     (sym c.sound_header.ensures ∙ c.if-not-sound_header.false)
