@@ -1,5 +1,5 @@
 -- One event taken, held against the supplier's recording and told: what is in order behind it, and from which state it goes on. Assumes nothing.
-use Rattle.std.proofs.Common.{◌≡◌, ℕ, ◌+◌, ◌≤◌, Bool, true, false, cond, not, ◌&&◌, eqb, leb, List, length, take, sym, refl, ap, ◌∙◌, arith, length-take-le, eqb-true, leb-true}
+use Rattle.std.proofs.Common.{◌≡◌, ℕ, ◌≤◌, Bool, true, false, cond, not, ◌&&◌, eqb, leb, List, length, take, sym, refl, ap, ◌∙◌, arith, length-take-le, eqb-true, leb-true}
 use lib.Seq.{take-append_seam}
 use borrow.Author.Tests.{eqb-false}
 use Rattle.rulebook.specs.State.{fits}

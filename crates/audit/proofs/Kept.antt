@@ -1,5 +1,5 @@
 -- What is in order at the beginning. Assumes nothing.
-use Rattle.std.proofs.Common.{◌≡◌, ℕ, ◌≤◌, List, length, ◌∙◌, arith}
+use Rattle.std.proofs.Common.{◌≡◌, ℕ, List, length, arith}
 use Rattle.states.specs.Made.{Makes}
 use Rattle.session.proofs.Whole.{made-fresh, fresh-ready}
 use Rattle.audit.specs.Kept.{Lent, Going}

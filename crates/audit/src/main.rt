@@ -207,7 +207,12 @@ impl Audit<'_> {
         ensures going { Going self.now.table.words s.new trace.new }
         ensures place { IfOk result (λ d. (d.place.at ≤ length log.now) × (d.place.end ≡ day.place.end)) }
     {
-        let Day { events, parted, line, place } = day;
+        let Day {
+            events,
+            parted,
+            line,
+            place,
+        } = day;
         let read = match read_recording(log, place.at, words) {
             Ok(read) => read,
             Err(why) => {

@@ -1,5 +1,5 @@
 -- `audit::complaint::say` is safe: a number is laid inside its room. Assumes nothing.
-use Rattle.std.proofs.Common.{sym, arith, length-take-le, rules}
+use Rattle.std.proofs.Common.{arith}
 use Rattle.audit.proofs.complaint.say.Goals as goal
 
 pub slice_bounds-out-end : goal.slice_bounds-out-end
