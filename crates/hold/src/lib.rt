@@ -7,7 +7,6 @@ ghost use Rattle.std.specs.Prelude.{◌≡◌, ◌≤◌, length, take, drop};
 ghost use Rattle.rulebook.specs.Hold.{parting as parting_of, beside};
 ghost use Rattle.hold.specs.Promises.{number_of, given_by, TellsVerdict, TellsStates, Holds, HandsBack};
 
-
 // What is said of a supplier's recording: a refused event has our answer's number, the others the number of a word.
 #[derive(Clone, Copy, Debug, PartialEq, Eq)]
 pub enum Verdict {
