@@ -4,7 +4,7 @@ use Rattle.show.specs.declared.follow.Changed.{Changed}
 use Rattle.show.specs.Printed.{event_line}
 use Rattle.show.specs.Promises.{Took, LaysChange}
 
--- `take_one`, then `lay_change`, and where a line has changed the event's number and the panel printed; from event i on, which finds a state
+-- `session::take`, then `lay_change`, and where a line has changed the event's number and the panel printed; from event i on, which finds a state
 -- and a panel. The trace and the room may be others at each call.
 pub data Follows (o : ℕ) (t : List ℕ) : ℕ → List ℕ → List ℕ → List ℕ → List ℕ → Type 0 where
   ended : {i : ℕ} {s found : List ℕ} → Follows o t i s found [] []

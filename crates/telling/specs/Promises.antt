@@ -10,7 +10,7 @@ use Rattle.telling.specs.declared.Judgement.TheVariants.{AnswersPart, Words}
 use Rattle.telling.specs.declared.Judged.{Judged}
 use Rattle.telling.specs.Told.{answers_part, held_event, event_line, verdict_line, ours, supplier, side, told_lines}
 
--- `take_one` of table t, event e, state s and the lent trace: the answer k, the count n, state and trace afterwards
+-- `session::take` of table t, event e, state s and the lent trace: the answer k, the count n, state and trace afterwards
 pub record Took (t : List ℕ) (e : ℕ) (s trace : List ℕ) (k n : ℕ) (s' trace' : List ℕ) : Type 0 where
   pub answer : k ≡ (taken t s e).answer
   pub count : n ≡ length (taken t s e).words
