@@ -72,6 +72,7 @@ impl Play<'_> {
     {
         let mut taken = 0;
         let mut visits: u64 = 0;
+        // no `for`: each part says how many events it took
         loop {
             let part = day::play_part(self.table, s, trace, &es[taken..], out);
             taken += part.taken;

@@ -30,6 +30,7 @@ impl Run<'_> {
     {
         let total = word_count(block);
         let mut from = 0;
+        // no `for`: each call says how many events it took
         while from < total {
             let taken = session::take_events(self.table, s, trace, block, from, out);
             if !print(self.rt, &out[..taken.bytes]) {

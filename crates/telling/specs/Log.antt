@@ -54,8 +54,8 @@ pub record OwnLog (i : ℕ) (t s es : List ℕ) : Type 0 where
   pub accepted : (all : Bool) → log_lines all i t s es (own_log t s es) ≡ []
   pub alone : (all : Bool) (xs : List Recorded) → length xs ≡ length es → log_lines all i t s es xs ≡ [] → xs ≡ own_log t s es
 
--- Calls of `session::take`, `tell` and, where it goes on behind a difference, `adopt`, each state passed on; what `tell` laid is printed, and the line where the
--- supplier's state does not fit. The trace and the room may be others at each call.
+-- Calls of `session::take`, `tell` and, where it goes on behind a difference, `adopt`, each state passed on; what `tell` laid is printed, and
+-- the line where the supplier's state does not fit. The trace and the room may be others at each call.
 pub data Holding (t : List ℕ) : Bool → ℕ → List ℕ → List ℕ → List Recorded → List ℕ → Type 0 where
   ended : {all : Bool} {i : ℕ} {s : List ℕ} {xs : List Recorded} → Holding t all i s [] xs []
   missing : {all : Bool} {i e : ℕ} {s es : List ℕ} → Holding t all i s (e ∷ es) [] []

@@ -49,6 +49,7 @@ impl Timing<'_> {
         let total = word_count(block);
         let mut so_far = most;
         let mut from = 0;
+        // no `for`: each call says how many events it took
         while from < total {
             let taken = visits::take_events(self.table, s, trace, block, from, so_far, out);
             so_far = taken.most;
