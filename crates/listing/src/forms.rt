@@ -54,22 +54,27 @@ impl From<usize> for Form {
     }
 }
 
+// The sections' names, each with the space behind it. They are one constant so that a copy of a name is a copy of what cannot change, and the
+// archive needs no `memmove` for it.
+const NAMES: &[u8] = b"header port network source expression rule list item ";
+
 // A section's name by a form, with the space behind it.
 #[tactic(auto, unfolding(rulebook::specs::Listing::form, rulebook::specs::Listing::forms))]
 pub fn name(f: Form) -> &'static [u8]
     ensures { (result.now ≡ (form (form_number f)).name) × (length result.now ≤ 11) }
 {
-    match f {
-        Form::FirstHeader | Form::SecondHeader | Form::ThirdHeader => b"header ",
-        Form::Port => b"port ",
-        Form::Network | Form::Waits => b"network ",
-        Form::Source => b"source ",
-        Form::Condition | Form::Operator => b"expression ",
-        Form::Rule => b"rule ",
-        Form::List => b"list ",
-        Form::FirstItem | Form::SecondItem => b"item ",
-        Form::Beyond(_) => b"",
-    }
+    let (from, to) = match f {
+        Form::FirstHeader | Form::SecondHeader | Form::ThirdHeader => (0, 7),
+        Form::Port => (7, 12),
+        Form::Network | Form::Waits => (12, 20),
+        Form::Source => (20, 27),
+        Form::Condition | Form::Operator => (27, 38),
+        Form::Rule => (38, 43),
+        Form::List => (43, 48),
+        Form::FirstItem | Form::SecondItem => (48, 53),
+        Form::Beyond(_) => (53, 53),
+    };
+    &NAMES[from..to]
 }
 
 // How many values each field has, in the order of the fields.
