@@ -27,6 +27,9 @@ use Rattle.arbitration.specs.Picking.{better, Best}
 here-or-before : (k n : ℕ) → k < n + 1 → (k ≡ n) ⊎ (k < n)
 here-or-before k n h = split (eqb k n) (λ e. inl (eqb-true k n e)) (λ e. inr (let z : (k ≡ n → ⊥) = eqb-false k n e in omega arith))
 
+pub best_none : (t flags : List ℕ) (l : ℕ) → lists t ≤ l → Best t flags 0 l
+best_none t flags l h = record { up = λ b. absurd (omega arith); below = λ b. absurd (omega arith); first = λ k b u. absurd (omega arith) }
+
 module _ (t flags : List ℕ) (n l : ℕ) (b : Best t flags n l) (inside : n < lists t) where
   -- n is no better: its flag is down, or l stands before it
   stays : (flagged flags n ≡ true → (l < lists t) × Before t l n) → Best t flags (n + 1) l

@@ -128,9 +128,12 @@ fn store(t: &Table, results: &[u32], s: &mut [u32])
 fn better(t: &Table, flags: &[u32], k: u32, best: u32) -> u32
     ensures { result ≡ better_of t.now.words flags.now k best }
 {
-    let up = flag(flags, k);
+    // most lists are passed over here, before a word of either is read
+    if !flag(flags, k) {
+        return best;
+    }
     let takes = (t.lists() <= best) | (t.list(best).priority < t.list(k).priority);
-    if up & takes { k } else { best }
+    if takes { k } else { best }
 }
 
 // The list that runs before all others whose flags are up.
@@ -171,7 +174,7 @@ fn run_chosen(
         let free = &mut trace[written.count..];
         let unread = &outcomes[written.read..];
         let more = lists::run_list(t, l, 7, s, free, unread);
-        written = written.plus(more);
+        written = written.plus(more.read_behind(written.read));
     }
     written
 }

@@ -7,13 +7,12 @@ ghost use Rattle.rulebook.specs.Events.{request as request_of, tick as tick_of, 
 ghost use Rattle.rulebook.specs.Step.{heeded, handle as handle_of};
 ghost use Rattle.lists.specs.Runs.{Ran};
 ghost use Rattle.arbitration.specs.Asked.{MayArbitrate, MayArbitratePort};
-ghost use Rattle.events.specs.Answers.{refusal_of, unadmitted, refusal_number, number_of, count_of, visits_of, Reports};
+ghost use Rattle.events.specs.Answers.{refusal_of, refusal_number, number_of, count_of, visits_of, Reports};
 
 use arbitration::{arbitrate_marked, arbitrate_one};
 use lists::Written;
 use refusals::event::Event;
 use refusals::{Unheeded, check_event};
-use states::NotAdmitted;
 use things::ports::request_port;
 use things::{change, tick_things};
 use words::numbers::{EVENT_MODE, EVENT_REQUEST, EVENT_TICK};
@@ -95,17 +94,6 @@ impl From<Unheeded> for Refusal {
             Unheeded::BadOutcome => Refusal::BadOutcome,
             Unheeded::NoSuchThing => Refusal::NoSuchThing,
             Unheeded::NotItsOwner => Refusal::NotItsOwner,
-        }
-    }
-}
-
-impl From<NotAdmitted> for Refusal {
-    ghost from_gives = { λ why refusal. refusal ≡ unadmitted why };
-
-    fn from(why: NotAdmitted) -> Refusal {
-        match why {
-            NotAdmitted::BadTable => Refusal::BadTable,
-            NotAdmitted::UnfitState => Refusal::UnfitState,
         }
     }
 }

@@ -125,7 +125,7 @@ pub fn bytes(listed: Result<usize, NotListed>) -> usize
 pub fn list(words: &[u32], out: &mut [u8]) -> Result<usize, NotListed>
     ensures { Lists words.now out.old result out.new }
 {
-    let t = tables::check_shape(words)?;
+    let t = tables::shaped(words)?;
     let Some(_) = listing_room(&t, out.len()) else {
         return Err(NotListed::NoRoom);
     };

@@ -11,7 +11,7 @@ use borrow.Rule.Slice.PartMut.{mid_of, put_mid}
 use Rattle.rulebook.specs.Lists.{Run, start}
 use Rattle.laws.proofs.Frame.{Framed, afresh, framed-words}
 use Rattle.lists.specs.declared.Written.{Written}
-use Rattle.lists.specs.Runs.{Safe, Ran, Addable, nothing, plus}
+use Rattle.lists.specs.Runs.{Safe, Ran, Addable, nothing, plus, read_behind}
 
 -- the outcomes behind the first n, as the code lends them
 abbrev pub unread : List ℕ → ℕ → List ℕ
@@ -19,6 +19,10 @@ unread os n = mid_of n (length os - n) os
 
 pub unread-is : (os : List ℕ) (n : ℕ) → unread os n ≡ drop n os
 unread-is os n = take_all (length os - n) (drop n os) (let e : length (drop n os) ≡ length os - n = length-drop n os in omega arith)
+
+-- a run of the outcomes behind those that w has read, after what w has written
+abbrev pub joined : Written → Written → Written
+joined w v = plus w (read_behind w.read v)
 
 -- the run so far, which has written w: the state s, as its words the first ones of the trace T, the outcomes behind those read, and the visits
 abbrev pub sofar : List ℕ → List ℕ → List ℕ → Written → Run
@@ -83,16 +87,20 @@ along-end os whole rest before s T w h a =
       visits = refl;
     })
 
--- what was written in two parts is counted in 64 bits, for the trace is, so what was read, for the outcomes are, and its visits in 32, for those of the whole run are
+-- what was written in two parts is counted in 64 bits, for the trace is, and its visits in 32, for those of the whole run are
 pub along-addable : (os : List ℕ) (whole : Run) (rest : Run → Run) → Framed rest → (before s T : List ℕ) (a b : Written)
-    → Along os whole rest before s T (plus a b) → Safe whole before → length before < 18446744073709551616 → length os < 18446744073709551616
-    → Addable a b
-along-addable os whole rest framed before s T a b x safe h g =
+    → Along os whole rest before s T (joined a b) → Safe whole before → length before < 18446744073709551616
+    → Addable a (read_behind a.read b)
+along-addable os whole rest framed before s T a b x safe h =
     record {
       count = omega (arith, x.inside, x.long);
-      read = omega (arith, x.read);
-      visits = (let f = begin-few whole rest framed (sofar os s T (plus a b)) x.run before safe in omega arith);
+      visits = (let f = begin-few whole rest framed (sofar os s T (joined a b)) x.run before safe in omega arith);
     }
+
+-- what was read in two parts is counted in 64 bits, for the outcomes are
+pub along-readable : (os : List ℕ) (whole : Run) (rest : Run → Run) (before s T : List ℕ) (a b : Written)
+    → Along os whole rest before s T (joined a b) → length os < 18446744073709551616 → a.read + b.read < 18446744073709551616
+along-readable os whole rest before s T a b x g = omega (arith, x.read)
 
 -- a first part has run on the whole trace
 pub along-ran : (os : List ℕ) (whole : Run) (rest : Run → Run) → Framed rest → (x : Run) → whole ≡ rest x → (before s T : List ℕ) (w : Written)
@@ -184,7 +192,7 @@ module _ (os : List ℕ) (whole : Run) (f rest : Run → Run) (ff : Framed f) (f
         let j = m in
         omega arith
 
-    pub next : Along os whole rest before s' (put_mid at (length T - at) T part') (plus w v)
+    pub next : Along os whole rest before s' (put_mid at (length T - at) T part') (joined w v)
     next =
         let room = next-room in
         let j = m in

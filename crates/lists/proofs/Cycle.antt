@@ -19,8 +19,8 @@ use Rattle.laws.proofs.Tests.{split}
 use Rattle.laws.proofs.Cases.{rule-unready, rule-ready, choice-none, choice-some}
 use Rattle.laws.proofs.Frame.{Framed, afresh, framed-words, framed-none, choice-framed, item-framed, list-framed}
 use Rattle.lists.specs.declared.Written.{Written}
-use Rattle.lists.specs.Runs.{Safe, Ran, Addable, Stops, one_word, plus}
-use Rattle.lists.proofs.Along.{unread, unread-is, sofar, Along, begin-safe, along-as, along-end, along-ran, along-addable, next-safe, next}
+use Rattle.lists.specs.Runs.{Safe, Ran, Addable, Stops, one_word, plus, read_behind}
+use Rattle.lists.proofs.Along.{unread, unread-is, joined, sofar, Along, begin-safe, along-as, along-end, along-ran, along-addable, along-readable, next-safe, next}
 use Rattle.lists.proofs.Items.{items_from, one-ran, list-runs, items-framed}
 
 -- a run that is said in another way
@@ -44,14 +44,30 @@ module _ (os : List ℕ) (whole : Run) (f : Run → Run) (framed : Framed f) (be
   last-safe = next-safe os whole f (λ x. x) framed framed-none before s T w a safe
 
   module _ (s' part : List ℕ) (v : Written) (r : Ran (drop w.read os) (f (start (drop w.read os) s)) s' (behind w T) part v) where
-    pub last-along : Along os whole (λ x. x) before s' (anew w T part) (plus w v)
+    pub last-along : Along os whole (λ x. x) before s' (anew w T part) (joined w v)
     last-along = next os whole f (λ x. x) framed framed-none before s T w a safe s' part v r
 
-    pub last-ran : Ran os whole s' before (anew w T part) (plus w v)
-    last-ran = along-end os whole (λ x. x) before s' _ (plus w v) (λ x. refl) last-along
+    pub last-ran : Ran os whole s' before (anew w T part) (joined w v)
+    last-ran = along-end os whole (λ x. x) before s' _ (joined w v) (λ x. refl) last-along
 
-    pub last-addable : length before < 18446744073709551616 → length os < 18446744073709551616 → Addable w v
-    last-addable h g = along-addable os whole (λ x. x) framed-none before s' (anew w T part) w v last-along safe h g
+    -- behind one that has read nothing
+    pub last-ran-first : w.read ≡ 0 → Ran os whole s' before (anew w T part) (plus w v)
+    last-ran-first none =
+        let r = last-ran in
+        let same : w.read + v.read ≡ v.read = omega (arith, none) in
+        record {
+          state = r.state;
+          words = r.words;
+          count = r.count;
+          outcomes = ap (λ (n : ℕ). drop n os) (sym same) ∙ r.outcomes;
+          inside = omega (arith, r.inside, same);
+          visits = r.visits;
+        }
+
+    pub last-addable : length before < 18446744073709551616 → Addable w v
+    last-addable h =
+        let both = along-addable os whole (λ x. x) framed-none before s' (anew w T part) w v last-along safe h in
+        record { count = both.count; visits = both.visits }
 
 -- A run that has written w into the trace T lent to it, which is T' by then, and goes on in a loop that knows T' alone. What the loop has
 -- run of T' is run of T.
@@ -137,18 +153,23 @@ module _ (t os : List ℕ) (d o i end : ℕ) (whole : Run) (before s T : List �
       decides : stops t i here ≡ b
       decides = st here (sym (unread-is os w.read))
 
-      pub item-last : b ≡ true → Along os whole (λ x. x) before s' (anew w T part) (plus w v)
+      pub item-last : b ≡ true → Along os whole (λ x. x) before s' (anew w T part) (joined w v)
       item-last e = last-along os whole item item-frame before s T w (items-last inside (decides ∙ e)) safe s' part v left
 
-      pub item-next : b ≡ false → Along os whole (items_from t d o (i + 1) end) before s' (anew w T part) (plus w v)
+      pub item-next : b ≡ false → Along os whole (items_from t d o (i + 1) end) before s' (anew w T part) (joined w v)
       item-next e =
           next os whole item (items_from t d o (i + 1) end) item-frame (items-framed t d o (i + 1) end) before s T w (items-turn inside (decides ∙ e))
           safe s' part v left
 
-      pub item-addable : length before < 18446744073709551616 → length os < 18446744073709551616 → Addable w v
-      item-addable h g =
-          split b (λ e. along-addable os whole (λ x. x) framed-none before s' (anew w T part) w v (item-last e) safe h g)
-          (λ e. along-addable os whole (items_from t d o (i + 1) end) (items-framed t d o (i + 1) end) before s' (anew w T part) w v (item-next e) safe h g)
+      pub item-addable : length before < 18446744073709551616 → Addable w (read_behind w.read v)
+      item-addable h =
+          split b (λ e. along-addable os whole (λ x. x) framed-none before s' (anew w T part) w v (item-last e) safe h)
+          (λ e. along-addable os whole (items_from t d o (i + 1) end) (items-framed t d o (i + 1) end) before s' (anew w T part) w v (item-next e) safe h)
+
+      pub item-readable : length os < 18446744073709551616 → w.read + v.read < 18446744073709551616
+      item-readable g =
+          split b (λ e. along-readable os whole (λ x. x) before s' (anew w T part) w v (item-last e) g)
+          (λ e. along-readable os whole (items_from t d o (i + 1) end) before s' (anew w T part) w v (item-next e) g)
 
 -- a rule item
 module _ (t os : List ℕ) (d o r : ℕ) (s T : List ℕ) (safe : Safe (run_rule (run_list d t) t o r (start os s)) T) where

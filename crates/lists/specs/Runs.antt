@@ -29,12 +29,15 @@ abbrev pub one_word : ℕ → ℕ → Written
 one_word read visits = record { count = 1; read = read; visits = visits }
 
 abbrev pub plus : Written → Written → Written
-plus a b = record { count = a.count + b.count; read = a.read + b.read; visits = a.visits + b.visits }
+plus a b = record { count = a.count + b.count; read = b.read; visits = a.visits + b.visits }
+
+-- what a run has read of the outcomes behind so many, counted with those
+abbrev pub read_behind : ℕ → Written → Written
+read_behind before w = record { count = w.count; read = before + w.read; visits = w.visits }
 
 -- asked before they are added: the sums are numbers of 64 and of 32 bits
 pub record Addable (a b : Written) : Type 0 where
   pub count : a.count + b.count < 18446744073709551616
-  pub read : a.read + b.read < 18446744073709551616
   pub visits : a.visits + b.visits < 4294967296
 
 -- What an item does with the outcomes that are left: so many are read after one of this kind, and whether it stops its list.

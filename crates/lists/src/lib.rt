@@ -1,11 +1,11 @@
 // Lists: what each item does, the trace words, and a list run with the lists and rules that it names.
 #![tactic(auto)]
 
-ghost use Rattle.std.specs.Prelude.{◌≡◌, true, []};
+ghost use Rattle.std.specs.Prelude.{◌≡◌, ◌+◌, ◌<◌, ◌^◌, true, []};
 ghost use Rattle.rulebook.specs.Lists.{start, trace_word, effect as effect_of, network_in, asking, set_network, choice_in, act as act_of, judge as judge_of};
 ghost use Rattle.rulebook.specs.Lists.{run_list, run_item, run_rule};
 ghost use Rattle.rulebook.specs.Reasons.{rule_nests, item_nests, list_within};
-ghost use Rattle.lists.specs.Runs.{Safe, Ran, Addable, Stops, ReadOn, nothing as nothing_written, one_word, plus as plus_of};
+ghost use Rattle.lists.specs.Runs.{Safe, Ran, Addable, Stops, ReadOn, nothing as nothing_written, one_word, plus as plus_of, read_behind as read_behind_of};
 
 use evaluation;
 use words::numbers::{
@@ -46,14 +46,26 @@ impl Written {
         }
     }
 
+    // Both, one after the other: what is read is counted by the later one, from where the first one began.
     pub fn plus(self, more: Written) -> Written
         requires { Addable self more }
         ensures { result ≡ plus_of self more }
     {
         Written {
             count: self.count + more.count,
-            read: self.read + more.read,
+            read: more.read,
             visits: self.visits + more.visits,
+        }
+    }
+
+    // The same with what is read counted from so many outcome words before those that it was lent.
+    pub fn read_behind(self, before: usize) -> Written
+        requires { before + self.read < 2 ^ 64 }
+        ensures { result ≡ read_behind_of before self }
+    {
+        Written {
+            read: before + self.read,
+            ..self
         }
     }
 }
@@ -177,7 +189,7 @@ pub fn run_list(
         let unread = &outcomes[written.read..];
         let last = stops(t, i, unread);
         let more = run_item(t, list.owner, i, below, s, free, unread);
-        written = written.plus(more);
+        written = written.plus(more.read_behind(written.read));
         if last {
             return written;
         }

@@ -10,11 +10,18 @@ use Rattle.laws.proofs.Fit.{fits-length}
 use Rattle.laws.proofs.Facts.{facts}
 use Rattle.laws.proofs.Steps.{small-answer, step-cases, happen-paid, step_fits, refusal-changes-nothing}
 use Rattle.laws.proofs.Play.{stood-table, stood-state, play-stands, play-unadmitted, onto-none, onto-onto}
-use Rattle.events.specs.declared.Refusal.{Refusal}
-use Rattle.events.specs.declared.Refusal.TheVariants.{BadTable, UnfitState, ShortTrace, Malformed, NoSuchThing, NotItsOwner, BadOutcome}
+use Rattle.events.specs.declared.Report.{Report}
+use Rattle.manager.specs.declared.End.{End}
+use Rattle.manager.specs.declared.End.TheVariants.{BadTable, UnfitState, TraceFull, Malformed, NoSuchThing, NotItsOwner}
 use Rattle.events.specs.Answers.{Answered, number_of, count_of, visits_of, Reports}
 use Rattle.manager.specs.Answers.{end_number}
 use Rattle.manager.specs.Promises.{PlaysIn}
+use Rattle.manager.proofs.Steps.{refuses}
+
+-- an answer that is not done is not 0
+pub not_done : (r : Answered) → ((report : Report) → r ≡ Ok report → ⊥) → number_of r ≡ 0 → ⊥
+not_done (Ok report) f z = f report refl
+not_done (Err why) f z = refuses why z
 
 -- the words behind the last event are none
 pub none-behind : (es : List ℕ) → mid_of (length es) (length es - length es) es ≡ []
@@ -226,24 +233,22 @@ one-play t s trace es k k' n n' m m' v v' a a' w w' x y = (
 )
 
 -- an end has its number alone
-answering : ℕ → Result (Unit {0}) Refusal
+answering : ℕ → Result (Unit {0}) End
 answering k =
     cond (eqb k 0) (Ok tt)
     (cond (eqb k 1) (Err BadTable)
     (cond (eqb k 2) (Err UnfitState)
-    (cond (eqb k 3) (Err ShortTrace)
-    (cond (eqb k 4) (Err Malformed) (cond (eqb k 5) (Err NoSuchThing) (cond (eqb k 6) (Err NotItsOwner) (Err BadOutcome)))))))
+    (cond (eqb k 3) (Err TraceFull) (cond (eqb k 4) (Err Malformed) (cond (eqb k 5) (Err NoSuchThing) (Err NotItsOwner))))))
 
-back : (r : Result (Unit {0}) Refusal) → answering (end_number r) ≡ r
+back : (r : Result (Unit {0}) End) → answering (end_number r) ≡ r
 unfolding answering
 back (Ok u) = refl
 back (Err BadTable) = refl
 back (Err UnfitState) = refl
-back (Err ShortTrace) = refl
+back (Err TraceFull) = refl
 back (Err Malformed) = refl
 back (Err NoSuchThing) = refl
 back (Err NotItsOwner) = refl
-back (Err BadOutcome) = refl
 
-pub one_end : (a b : Result (Unit {0}) Refusal) → end_number a ≡ end_number b → a ≡ b
+pub one_end : (a b : Result (Unit {0}) End) → end_number a ≡ end_number b → a ≡ b
 one_end a b h = sym (back a) ∙ ap answering h ∙ back b

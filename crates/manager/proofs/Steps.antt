@@ -11,10 +11,7 @@ use Rattle.lists.specs.Runs.{Safe}
 use Rattle.arbitration.specs.Asked.{Bounded}
 use Rattle.events.specs.declared.Refusal.{Refusal}
 use Rattle.events.specs.declared.Refusal.TheVariants as refusals
-use Rattle.events.specs.Answers.{Answered, unadmitted, refusal_number, number_of, count_of, visits_of, Reports}
-use Rattle.states.specs.declared.NotAdmitted.{NotAdmitted}
-use Rattle.states.specs.declared.NotAdmitted.TheVariants.{BadTable, UnfitState}
-use Rattle.states.specs.Admission.{Admits, number_of as admission_number}
+use Rattle.events.specs.Answers.{Answered, refusal_number, number_of, count_of, visits_of, Reports}
 use Rattle.manager.specs.Promises.{Admitted}
 
 -- table or state does not stand
@@ -32,18 +29,6 @@ refuses refusals.Malformed z = omega arith
 refuses refusals.NoSuchThing z = omega arith
 refuses refusals.NotItsOwner z = omega arith
 refuses refusals.BadOutcome z = omega arith
-
--- what a refused admission tells
-module _ {t s : List ℕ} (why : NotAdmitted) (told : Admits t s (Err why)) where
-  pub unadmitted-number : number_of (Err (unadmitted why)) ≡ refused_state t s
-  unadmitted-number = same why ∙ told.number
-    where
-      same : (e : NotAdmitted) → number_of (Err (unadmitted e)) ≡ admission_number (Err e)
-      same BadTable = refl
-      same UnfitState = refl
-
-  pub unadmitted-refused : refused_state t s ≡ 0 → ⊥
-  unadmitted-refused z = refuses (unadmitted why) (unadmitted-number ∙ z)
 
 -- what the run needs: its words fit the trace, and its visits are few
 pub safe : (t s trace os : List ℕ) (e : ℕ) → accepted t ≡ true → bound t ≤ length trace → Safe (happen t e os s) trace

@@ -1,16 +1,19 @@
 // The public entries. Each takes anything and checks for itself.
 #![tactic(auto)]
 
-ghost use Rattle.std.specs.Prelude.{◌≡◌};
+ghost use Rattle.std.specs.Prelude.{◌≡◌, ◌≢◌, Err};
+ghost use Rattle.states.specs.Admission.{number_of as admission_number};
+ghost use Rattle.events.specs.Answers.{refusal_number, number_of, count_of, visits_of};
 ghost use Rattle.manager.specs.Answers.{end_number};
 ghost use Rattle.manager.specs.Promises.{ChecksTable, CountsWords, MakesFresh, ChecksState, Admitted, TakesEvent, Plays};
 
-use events::{Answer, Refusal, refusal_number};
+use events::{Answer, Report};
 use states::{NotMade, admit};
 use tables::Fault;
 use words::table::Table;
 
 // For callers that know of this crate alone.
+pub use events::Refusal;
 pub use states::NotAdmitted;
 
 // Checks a table: accepted, with B, or the first reason that holds and its place.
@@ -42,6 +45,20 @@ pub fn check_state(t: &[u32], s: &[u32]) -> Result<(), NotAdmitted>
     Ok(())
 }
 
+// The answer where table or state does not stand.
+fn not_admitted(admission: Result<u32, NotAdmitted>) -> Answer
+    ensures { (number_of result ≡ admission_number admission) × (count_of result ≡ 0) × (visits_of result ≡ 0) }
+{
+    match admission {
+        Ok(_) => Ok(Report {
+            count: 0,
+            visits: 0,
+        }),
+        Err(NotAdmitted::BadTable) => Err(Refusal::BadTable),
+        Err(NotAdmitted::UnfitState) => Err(Refusal::UnfitState),
+    }
+}
+
 // One event behind the check of table and state, which gave B.
 fn take_next(
     t: &Table,
@@ -65,29 +82,75 @@ fn take_next(
 pub fn take_event(t: &[u32], s: &mut [u32], trace: &mut [u32], outcomes: &[u32], e: u32) -> Answer
     ensures { TakesEvent t.now s.old trace.old outcomes.now e result s.new trace.new }
 {
-    let b = admit(t, s)?;
+    let admission = admit(t, s);
+    let Ok(b) = admission else {
+        return not_admitted(admission);
+    };
     let table = Table::accepted(t);
     take_next(&table, b, e, s, trace, outcomes)
 }
 
+// Which answer stood before the next event of a play. A trace that is full is answer 3's; a play lends no outcomes, so answer 8 does not come.
+#[derive(Clone, Copy, Debug, PartialEq, Eq)]
+pub enum End {
+    BadTable,
+    UnfitState,
+    TraceFull,
+    Malformed,
+    NoSuchThing,
+    NotItsOwner,
+}
+
 // How many events were taken, how many trace words they wrote, how many expression words they visited, and what ended the play: all its
-// events are taken, or the next is refused. A trace that is full is refusal 3's. The visits are the lowest 64 bits of their sum, which is
-// the sum itself in any play of up to 33 million million events.
+// events are taken, or which answer stood before the next. The visits are the lowest 64 bits of their sum, which is the sum itself in any
+// play of up to 33 million million events.
 #[derive(Clone, Copy, Debug, PartialEq, Eq)]
 pub struct Played {
     pub taken: usize,
     pub count: usize,
     pub visits: u64,
-    pub end: Result<(), Refusal>,
+    pub end: Result<(), End>,
 }
 
 // An end's number.
-pub fn end_number(end: Result<(), Refusal>) -> u32
+pub fn end_number(end: Result<(), End>) -> u32
     ensures { result ≡ end_number end }
 {
     match end {
         Ok(()) => 0,
-        Err(refusal) => refusal_number(refusal),
+        Err(End::BadTable) => 1,
+        Err(End::UnfitState) => 2,
+        Err(End::TraceFull) => 3,
+        Err(End::Malformed) => 4,
+        Err(End::NoSuchThing) => 5,
+        Err(End::NotItsOwner) => 6,
+    }
+}
+
+// The end that a single call's refusal makes.
+fn end_by(refusal: Refusal) -> End
+    requires { refusal_number refusal ≢ 8 }
+    ensures { end_number (Err result) ≡ refusal_number refusal }
+{
+    match refusal {
+        Refusal::BadTable => End::BadTable,
+        Refusal::UnfitState => End::UnfitState,
+        Refusal::ShortTrace => End::TraceFull,
+        Refusal::Malformed => End::Malformed,
+        Refusal::NoSuchThing => End::NoSuchThing,
+        Refusal::NotItsOwner => End::NotItsOwner,
+        Refusal::BadOutcome => End::BadTable,
+    }
+}
+
+// The end that a single call's answer makes.
+fn end_of(answer: Answer) -> Result<(), End>
+    requires { number_of answer ≢ 8 }
+    ensures { end_number result ≡ number_of answer }
+{
+    match answer {
+        Ok(_) => Ok(()),
+        Err(refusal) => Err(end_by(refusal)),
     }
 }
 
@@ -99,20 +162,17 @@ fn play_on(t: &Table, b: u32, s: &mut [u32], trace: &mut [u32], es: &[u32]) -> P
     let mut count = 0;
     let mut visits = 0u64;
     for (taken, e) in es.iter().enumerate() {
-        match take_next(t, b, *e, s, &mut trace[count..], &[]) {
-            Ok(report) => {
-                count += report.count;
-                visits = visits.wrapping_add(u64::from(report.visits));
-            }
-            Err(refusal) => {
-                return Played {
-                    taken,
-                    count,
-                    visits,
-                    end: Err(refusal),
-                };
-            }
-        }
+        let answer = take_next(t, b, *e, s, &mut trace[count..], &[]);
+        let Ok(report) = answer else {
+            return Played {
+                taken,
+                count,
+                visits,
+                end: end_of(answer),
+            };
+        };
+        count += report.count;
+        visits = visits.wrapping_add(u64::from(report.visits));
     }
     Played {
         taken: es.len(),
@@ -127,16 +187,15 @@ fn play_on(t: &Table, b: u32, s: &mut [u32], trace: &mut [u32], es: &[u32]) -> P
 pub fn play(t: &[u32], s: &mut [u32], trace: &mut [u32], es: &[u32]) -> Played
     ensures { Plays t.now s.old trace.old es.now result s.new trace.new }
 {
-    match admit(t, s) {
-        Ok(b) => {
-            let table = Table::accepted(t);
-            play_on(&table, b, s, trace, es)
-        }
-        Err(why) => Played {
+    let admission = admit(t, s);
+    let Ok(b) = admission else {
+        return Played {
             taken: 0,
             count: 0,
             visits: 0,
-            end: Err(Refusal::from(why)),
-        },
-    }
+            end: end_of(not_admitted(admission)),
+        };
+    };
+    let table = Table::accepted(t);
+    play_on(&table, b, s, trace, es)
 }

@@ -17,7 +17,11 @@ pub struct Event {
     ghost index_read: { index ≡ event_index word },
     ghost value_read: { value ≡ event_value word },
     ghost zero_read: { zero ≡ event_zero word },
+    ghost kind_small: { kind < 16 },
+    ghost owner_small: { owner < 16 },
     ghost index_small: { index < 256 },
+    ghost value_small: { value < 256 },
+    ghost zero_small: { zero < 256 },
 }
 
 impl From<u32> for Event {

@@ -116,17 +116,17 @@ pub enum Unheeded {
 pub fn check_event(t: &Table, outcomes: &[u32], e: Event) -> Result<(), Unheeded>
     ensures { result ≡ event_checked t.now.words outcomes.now e.word }
 {
-    if !well_formed(e) {
+    let true = well_formed(e) else {
         return Err(Unheeded::Malformed);
-    }
-    if !outcomes_known(outcomes) {
+    };
+    let true = outcomes_known(outcomes) else {
         return Err(Unheeded::BadOutcome);
-    }
-    if !known(t, e) {
+    };
+    let true = known(t, e) else {
         return Err(Unheeded::NoSuchThing);
-    }
-    if !sent_by_owner(t, e) {
+    };
+    let true = sent_by_owner(t, e) else {
         return Err(Unheeded::NotItsOwner);
-    }
+    };
     Ok(())
 }

@@ -2,7 +2,8 @@
 use Rattle.std.specs.Prelude.{ℕ, ◌≡◌, cond, List, Result, Ok, Err}
 use Rattle.rulebook.specs.Reasons.{check, accepted, bound as bound_of}
 use Rattle.rulebook.specs.Listing.{shape_reason}
-use Rattle.words.specs.Sections.{Read}
+use Rattle.words.specs.declared.sections.Layout.{Layout}
+use Rattle.words.specs.Sections.{Laid, Read}
 use Rattle.tables.specs.declared.Misshapen.{Misshapen}
 use Rattle.tables.specs.declared.Misshapen.TheVariants as shape
 use Rattle.tables.specs.declared.Fault.{Fault}
@@ -37,22 +38,37 @@ Says x reason place bound = (reason ≡ x.reason) × (place ≡ x.place) × (bou
 unfoldable pub promised : List ℕ → Finding
 promised t = record { reason = (check t).reason; place = (check t).place; bound = cond (accepted t) (bound_of t) 0 }
 
--- reasons 1 to 4: the number of the one that holds, and the table where none does
+-- reasons 1 to 4: the number of the one that holds; and where none does, the table, or the layout of its header
+
+abbrev pub misshapen_number : Misshapen → ℕ
+misshapen_number shape.TooShort = 1
+misshapen_number shape.WrongEdition = 2
+misshapen_number shape.WrongCounts = 3
+misshapen_number shape.WrongLength = 4
 
 abbrev pub shape_number : Result Read Misshapen → ℕ
 shape_number (Ok x) = 0
-shape_number (Err shape.TooShort) = 1
-shape_number (Err shape.WrongEdition) = 2
-shape_number (Err shape.WrongCounts) = 3
-shape_number (Err shape.WrongLength) = 4
+shape_number (Err e) = misshapen_number e
 
 abbrev pub IsTableOf : List ℕ → Result Read Misshapen → Type 0
 IsTableOf t (Ok x) = x.words ≡ t
 IsTableOf t (Err e) = Unit
 
-pub record Shapes (t : List ℕ) (r : Result Read Misshapen) : Type 0 where
+pub record ShapesTable (t : List ℕ) (r : Result Read Misshapen) : Type 0 where
   pub reason : shape_number r ≡ shape_reason t
   pub table : IsTableOf t r
+
+abbrev pub IsLayoutOf : List ℕ → Result Layout Misshapen → Type 0
+IsLayoutOf t (Ok h) = Laid t h
+IsLayoutOf t (Err e) = Unit
+
+abbrev pub layout_number : Result Layout Misshapen → ℕ
+layout_number (Ok h) = 0
+layout_number (Err e) = misshapen_number e
+
+pub record Shapes (t : List ℕ) (r : Result Layout Misshapen) : Type 0 where
+  pub reason : layout_number r ≡ shape_reason t
+  pub layout : IsLayoutOf t r
 
 -- the same reason among all ten
 abbrev pub fault_of : Misshapen → Fault

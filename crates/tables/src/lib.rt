@@ -4,7 +4,7 @@
 ghost use Rattle.std.specs.Prelude.{◌≡◌, ◌&&◌, Err};
 ghost use Rattle.rulebook.specs.Reasons.{known_edition, counts_inside};
 ghost use Rattle.rulebook.specs.Listing.{shape_reason};
-ghost use Rattle.tables.specs.Finding.{finding, refused, promised, Says, fault_of, Shapes};
+ghost use Rattle.tables.specs.Finding.{finding, refused, promised, Says, fault_of, ShapesTable, Shapes};
 
 use cost::bound;
 use fields::first_misfit;
@@ -12,6 +12,7 @@ use names::first_misnamed;
 use nesting::{find_depths, first_deep};
 use owners::first_clash;
 use reach::first_unreached;
+use words::sections::{Layout, read_layout};
 use words::table::Table;
 
 // The ten reasons in their order, 10 before 9, with the place where there is one.
@@ -129,8 +130,8 @@ pub fn sound_header(t: &[u32]) -> bool
 }
 
 // The table, where none of reasons 1 to 4 holds.
-pub fn check_shape<'a>(t: &'a [u32]) -> Result<Table<'a>, Misshapen>
-    ensures { Shapes t.now result }
+pub fn shaped<'a>(t: &'a [u32]) -> Result<Table<'a>, Misshapen>
+    ensures { ShapesTable t.now result }
 {
     if t.len() < 3 {
         return Err(Misshapen::TooShort);
@@ -146,6 +147,14 @@ pub fn check_shape<'a>(t: &'a [u32]) -> Result<Table<'a>, Misshapen>
         return Err(Misshapen::WrongLength);
     }
     Ok(table)
+}
+
+// The header's layout, where none of reasons 1 to 4 holds: a value of its own, which keeps hold of no word.
+pub fn check_shape(t: &[u32]) -> Result<Layout, Misshapen>
+    ensures { Shapes t.now result }
+{
+    shaped(t)?;
+    Ok(read_layout(t))
 }
 
 // B, or the first of reasons 5 to 10, where none of 1 to 4 holds.
@@ -187,6 +196,6 @@ fn check_words(t: &Table) -> Result<u32, Fault>
 pub fn check(t: &[u32]) -> Result<u32, Fault>
     ensures { finding result ≡ promised t.now }
 {
-    let table = check_shape(t)?;
+    let table = shaped(t)?;
     check_words(&table)
 }

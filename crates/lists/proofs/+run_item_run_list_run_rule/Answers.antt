@@ -5,8 +5,8 @@ use Rattle.rulebook.specs.Table.{first_item, item_count}
 use Rattle.laws.proofs.Frame.{list-framed}
 use Rattle.lists.proofs.Along.{along-end}
 use Rattle.lists.proofs.Items.{runs-list, runs-rule, runs-act, list-fits, rule_fits, choice-fits, level-left, item-fits}
-use Rattle.lists.proofs.Cycle.{safe-as, ran-as, last-safe, last-ran, last-addable, list-begun}
-use Rattle.lists.proofs.Cycle.{items-end, item-safe, item-last, item-next, item-addable}
+use Rattle.lists.proofs.Cycle.{safe-as, ran-as, last-safe, last-ran-first, last-addable, list-begun}
+use Rattle.lists.proofs.Cycle.{items-end, item-safe, item-last, item-next, item-addable, item-readable}
 use Rattle.lists.proofs.Cycle.{rule-undefined, judge-safe, rule-done, rule-begun}
 use Rattle.lists.proofs.+run_item_run_list_run_rule.Goals as goal
 
@@ -66,12 +66,20 @@ run_list-run_item-more-requires t c =
       ),
     )
 
+pub run_list-read_behind-requires : goal.run_list-read_behind-requires
+run_list-read_behind-requires t c =
+    let begun = list-begun _ c.args.outcomes.now _ _ _ _ _ _ _ c.requires.l_value c.list-list.ensures c.trace_word.ensures c.put.ensures
+    c.requires.safe in
+    item-readable _ _ _ _ _ _ _ _ _ _ _ c.loop-i.invariant c.loop-i-test.true begun.safe _ c.stops-last.ensures _ _ _ c.run_item-more.ensures
+    (omega arith)
+
 pub run_list-plus-written-requires : goal.run_list-plus-written-requires
 run_list-plus-written-requires t c =
     let begun = list-begun _ c.args.outcomes.now _ _ _ _ _ _ _ c.requires.l_value c.list-list.ensures c.trace_word.ensures c.put.ensures
     c.requires.safe in
-    item-addable _ _ _ _ _ _ _ _ _ _ _ c.loop-i.invariant c.loop-i-test.true begun.safe _ c.stops-last.ensures _ _ _ c.run_item-more.ensures
-    (omega (arith, c.put.auto.ws)) (omega arith)
+    rw c.read_behind.ensures
+    (item-addable _ _ _ _ _ _ _ _ _ _ _ c.loop-i.invariant c.loop-i-test.true begun.safe _ c.stops-last.ensures _ _ _ c.run_item-more.ensures
+    (omega (arith, c.put.auto.ws)))
 
 pub run_list-returns-then-last : goal.run_list-returns-then-last
 run_list-returns-then-last t c =
@@ -79,13 +87,13 @@ run_list-returns-then-last t c =
     c.requires.safe in
     let stopped = item-last _ _ _ _ _ _ _ _ _ _ _ c.loop-i.invariant c.loop-i-test.true begun.safe _ c.stops-last.ensures _ _ _ c.run_item-more.ensures
     c.if-last.true in
-    begun.lent _ _ _ (rw c.plus-written.ensures (along-end _ _ _ _ _ _ _ (λ x. refl) stopped))
+    begun.lent _ _ _ (rw (c.plus-written.ensures, c.read_behind.ensures) (along-end _ _ _ _ _ _ _ (λ x. refl) stopped))
 
 pub run_list-loop-i-preserved : goal.run_list-loop-i-preserved
 run_list-loop-i-preserved t c =
     let begun = list-begun _ c.args.outcomes.now _ _ _ _ _ _ _ c.requires.l_value c.list-list.ensures c.trace_word.ensures c.put.ensures
     c.requires.safe in
-    rw c.plus-written.ensures
+    rw (c.plus-written.ensures, c.read_behind.ensures)
     (item-next _ _ _ _ _ _ _ _ _ _ _ c.loop-i.invariant c.loop-i-test.true begun.safe _ c.stops-last.ensures _ _ _ c.run_item-more.ensures
     c.if-last.false)
 
@@ -135,11 +143,11 @@ run_rule-plus-requires t c =
     let begun = rule-begun _ c.args.outcomes.now _ _ _ _ _ c.requires.safe (sym c.unready.ensures ∙ c.if-unready.false) _ _
     c.judge-judged.ensures.list_value _ _ c.judge-judged.ensures.ran c.if-judged-eq-NO_LIST.false in
     rw c.one_word-first.ensures
-    (last-addable _ _ _ (list-framed _ _ _) _ _ _ _ begun c.requires.safe _ _ _ c.run_list-more.ensures (omega arith) (omega arith))
+    (last-addable _ _ _ (list-framed _ _ _) _ _ _ _ begun c.requires.safe _ _ _ c.run_list-more.ensures (omega arith))
 
 pub run_rule-returns : goal.run_rule-returns
 run_rule-returns t c =
     let begun = rule-begun _ c.args.outcomes.now _ _ _ _ _ c.requires.safe (sym c.unready.ensures ∙ c.if-unready.false) _ _
     c.judge-judged.ensures.list_value _ _ c.judge-judged.ensures.ran c.if-judged-eq-NO_LIST.false in
     rw (c.plus.ensures, c.one_word-first.ensures)
-    (last-ran _ _ _ (list-framed _ _ _) _ _ _ _ begun c.requires.safe _ _ _ c.run_list-more.ensures)
+    (last-ran-first _ _ _ (list-framed _ _ _) _ _ _ _ begun c.requires.safe _ _ _ c.run_list-more.ensures refl)

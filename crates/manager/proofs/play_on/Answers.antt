@@ -1,16 +1,23 @@
 -- `manager::play_on` meets its promise. Assumes nothing.
-use Rattle.std.proofs.Common.{◌≡◌, length, refl, arith, Ok, Err}
-use Rattle.manager.proofs.Playing.{along-end, along-ends, along-next}
-use Rattle.manager.proofs.Steps.{refuses}
+use Rattle.std.proofs.Common.{◌≡◌, length, refl, ap, arith}
+use Rattle.events.specs.Answers.{number_of, count_of, visits_of}
+use Rattle.manager.proofs.Playing.{along-end, along-ends, along-next, not_eight, not_done}
 use Rattle.manager.proofs.play_on.Goals as goal
 
-pub returns-in-Err : goal.returns-in-Err
-returns-in-Err c =
-    along-ends c.loop-taken.invariant _ c.loop-taken-test.true refl _ _ (Err c.in-Err.refusal) _ refl c.in-Err.ensures (refuses c.in-Err.refusal)
+pub end_of-requires : goal.end_of-requires
+end_of-requires c = not_eight c.loop-taken.invariant _ c.loop-taken-test.true refl _ _ c.take_next-answer.result _ refl c.take_next-answer.ensures
+
+pub returns-in_default : goal.returns-in_default
+returns-in_default c =
+    rw c.end_of.ensures
+    (along-ends c.loop-taken.invariant _ c.loop-taken-test.true refl _ _ c.take_next-answer.result _ refl c.take_next-answer.ensures
+    (not_done c.take_next-answer.result c.in_default.not-Ok))
 
 pub loop-taken-preserved : goal.loop-taken-preserved
 loop-taken-preserved c =
-    along-next c.loop-taken.invariant _ c.loop-taken-test.true refl _ _ (Ok c.in-Ok.report) _ refl c.in-Ok.ensures _ _ refl refl refl _
+    let done = c.in-Ok.is in
+    along-next c.loop-taken.invariant _ c.loop-taken-test.true refl _ _ c.take_next-answer.result _ refl c.take_next-answer.ensures _ _ (ap number_of done)
+    (ap count_of done) (ap visits_of done) _
     (let same : c.from-visits.result ≡ c.in-Ok.report.visits = omega arith in rw same)
 
 pub returns : goal.returns

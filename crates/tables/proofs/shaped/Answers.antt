@@ -1,9 +1,9 @@
--- `tables::check_shape` meets its promise: the first of the four rules that is broken, or the table. Assumes nothing.
+-- `tables::shaped` meets its promise: the first of the four rules that is broken, or the table. Assumes nothing.
 use mathlib.Core.Path.{sym, ◌∙◌}
 use borrow.Author.Tests.{le-leb, lt-leb, eq-eqb, ne_eqb}
 use Rattle.rulebook.specs.Reasons.{has_header, exact_length}
 use Rattle.tables.proofs.Shapes.{short, unknown, outside, inexact, reason-none, reason-first}
-use Rattle.tables.proofs.check_shape.Goals as goal
+use Rattle.tables.proofs.shaped.Goals as goal
 
 pub returns-then-t-lt3 : goal.returns-then-t-lt3
 unfolding has_header
