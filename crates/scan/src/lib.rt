@@ -16,10 +16,12 @@ pub fn first_broken<F: Fn(Part) -> bool>(t: &Table, keeps: F) -> usize
     ensures { (rule : List ℕ → RulebookPart → Bool) → Judges (F.post keeps) rule t.now.words → result ≡ lowest rule t.now.words }
 {
     let end = t.length();
-    for i in 0..end {
-        if !keeps(t.part(i)) {
-            return i;
+    'scan: {
+        for i in 0..end {
+            if !keeps(t.part(i)) {
+                break 'scan i;
+            }
         }
+        end
     }
-    end
 }

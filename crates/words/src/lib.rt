@@ -2,8 +2,8 @@
 #![tactic(auto)]
 
 ghost use Rattle.std.specs.Prelude.{◌≡◌, ◌+◌, ◌^◌, ◌<◌, ◌≤◌, set};
-ghost use Rattle.rulebook.specs.Words.{field, word as word_of};
-ghost use Rattle.words.specs.Field.{Field};
+ghost use Rattle.rulebook.specs.Words.{digit, field, word as word_of};
+ghost use Rattle.words.specs.Field.{Field, Sized};
 ghost use Rattle.words.specs.Flags.{flagged};
 
 pub mod expressions;
@@ -12,6 +12,14 @@ pub mod parts;
 pub mod sections;
 pub mod state;
 pub mod table;
+
+// `digit` of the rulebook, by any unit and size: how many whole units w has, beyond whole multiples of `size` of them.
+pub fn field(w: u32, unit: u32, size: u32) -> u32
+    requires { Sized unit size }
+    ensures { Field (digit unit size w) size result }
+{
+    w / unit % size
+}
 
 // The field of a word that START bits stand before, WIDTH bits wide.
 pub fn bits<const START: u32, const WIDTH: u32>(w: u32) -> u32
