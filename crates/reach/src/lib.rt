@@ -110,10 +110,12 @@ pub fn first_unreached(t: &Table, depths: &[u32]) -> usize
     let mut flags = [0u32; 256];
     raise_starts(t, &mut flags);
     raise_levels(t, depths, &mut flags);
-    for l in 0..t.lists() {
-        if !flag(&flags, l) {
-            return t.list_place(l);
+    'scan: {
+        for l in 0..t.lists() {
+            if !flag(&flags, l) {
+                break 'scan t.list_place(l);
+            }
         }
+        t.length()
     }
-    t.length()
 }

@@ -21,5 +21,5 @@ returns-then-not-flag c =
     rw c.list_place.ensures
     (sym (c.loop-l.invariant ∙ list-breaks _ _ c.requires _ c.raise_levels.ensures _ there (sym c.flag.ensures ∙ c.if-not-flag.true)))
 
-pub returns : goal.returns
-returns c = rw c.length.ensures (sym (c.loop-l.invariant ∙ lists-end _ _ c.requires _ (omega arith)))
+pub returns-after-loop-l : goal.returns-after-loop-l
+returns-after-loop-l c = rw c.length.ensures (sym (c.loop-l.invariant ∙ lists-end _ _ c.requires _ (omega arith)))
