@@ -10,7 +10,6 @@ use Rattle.laws.proofs.Play.{stood-state}
 use Rattle.session.specs.Printed.{taken}
 use Rattle.session.specs.Promises.{Ready}
 use Rattle.session.proofs.Steps.{next-long, traced-long, next-ready, words-few}
-use Rattle.events.specs.Answers as answers
 use Rattle.telling.specs.Told.{held_event, event_line, told_lines}
 use Rattle.telling.specs.Promises.{Took, result, Room, Tells}
 use Rattle.audit.specs.declared.Told.{Told}
@@ -60,12 +59,6 @@ module _ (n e : ℕ) (r : Result) (said : ℕ) (ws : List ℕ) where
 held_same : (r : Result) (said : ℕ) (ws : List ℕ) → held_event (result r.answer r.words r.state) said ws ≡ held_event r said ws
 unfolding held_event
 held_same r said ws = refl
-
--- what is told of our step
-pub reports-took : (t s : List ℕ) {trace : List ℕ} (e : ℕ) {k n v a m : ℕ} {s' trace' : List ℕ} → answers.Tells (taken t s e) trace k n v s' trace' → a ≡ k
-    → m ≡ n → Took t e s trace a m s' trace'
-reports-took t s e told number count =
-    record { answer = number ∙ told.answer; count = count ∙ told.count; state = told.state; words = told.words }
 
 -- Behind our step.
 module _ {t s trace : List ℕ} (g : Going t s trace) {e k m : ℕ} {s₁ trace₁ : List ℕ} (took : Took t e s trace k m s₁ trace₁)

@@ -145,6 +145,6 @@ pub fn part<'a>(held: Held, trace: &'a [u32], theirs: &'a [u32]) -> &'a [u32]
         Verdict::TracesPart(k) => tail(theirs, k),
         Verdict::TheirsStops(k) => tail(front(trace, held.count), k),
         Verdict::OursStops(k) => tail(theirs, k),
-        Verdict::AsOrdered | Verdict::Refused(_) | Verdict::StatesPart(_) => &[],
+        Verdict::AsOrdered | Verdict::Refused(_) | Verdict::StatesPart(_) => front(theirs, 0),
     }
 }

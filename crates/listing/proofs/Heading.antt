@@ -13,7 +13,7 @@ use Rattle.rulebook.specs.Words.{word}
 use Rattle.rulebook.specs.Table.{table_length}
 use Rattle.rulebook.specs.Listing.{by_kind}
 use Rattle.listing.specs.Lines.{line, first_lines, BeginsAs, BadLine}
-use Rattle.listing.specs.Inside.{least, HasLine}
+use Rattle.listing.specs.Inside.{least, HasLine, Opened}
 use Rattle.listing.proofs.Headers.{sound, inside_at, sound-of, of-sound, least-inside, least-words}
 use Rattle.listing.proofs.Places.{header-form, lines-agree}
 use Rattle.listing.proofs.Decoding.{one_line}
@@ -100,3 +100,8 @@ module _ (text header : List ℕ) (at i : ℕ) (h : Heading text header at i) (t
 
     pub unsound : sound longer ≡ false → BadLine text (i + 1)
     unsound fails = bad (λ t b. clash (sound-of longer (each t b)) fails)
+
+-- all three are read
+pub opened : (text header : List ℕ) (at i : ℕ) → Heading text header at i → i ≡ 3 → Opened text header at
+opened text header at i h e =
+    record { long = h.long; words = h.words; sound = h.so; same = rw e at h.same; inside = h.inside }

@@ -2,7 +2,6 @@
 use Rattle.std.specs.Prelude.{ℕ, ◌+◌, ◌-◌, ◌^◌, ◌≤◌, ◌<◌, ◌≡◌, true, cond, ◌&&◌, List, [], ◌∷◌, ◌++◌, map, length, take, drop, get_or}
 use Rattle.std.specs.Prelude.{Option, Some, None, Result, Ok, Err}
 use Rattle.rulebook.specs.Words.{word, between}
-use Rattle.rulebook.specs.Table.{Part, in_header}
 use Rattle.rulebook.specs.Reasons.{known_edition, counts_inside}
 use Rattle.rulebook.specs.Listing.{fields_of, by_kind, as_condition}
 use Rattle.text.specs.Lines.{decimal}
@@ -16,10 +15,6 @@ power width = 2 ^ width
 -- how many values fields of these widths have
 unfoldable pub sizes_of : List ℕ → List ℕ
 sizes_of widths = map power widths
-
--- a place of the header's part is that of one of its three words
-abbrev pub OnHeader : ℕ → Part → Type 0
-OnHeader i part = part ≡ in_header → i < 3
 
 -- Writing: what lines leave of a room, or that they do not fit.
 abbrev pub Leaves : List ℕ → ℕ → Option ℕ → Type 0

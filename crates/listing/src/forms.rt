@@ -4,7 +4,7 @@ ghost use Rattle.rulebook.specs.Listing.{form, kind_form, form_at, place_form};
 ghost use Rattle.rulebook.specs.Table.{table_length};
 ghost use Rattle.words.specs.Parts.{part_of};
 ghost use Rattle.listing.specs.Forms.{form_number};
-ghost use Rattle.listing.specs.Inside.{sizes_of, OnHeader};
+ghost use Rattle.listing.specs.Inside.{sizes_of};
 
 use words::expressions::is_operator;
 use words::parts::Part;
@@ -103,7 +103,6 @@ pub fn sizes(f: Form) -> &'static [u32]
 // The form at a place, by its part. The edition is asked for here and nowhere else.
 #[tactic(auto, unfolding(rulebook::specs::Listing::place_form))]
 fn place_form(t: &Table, i: usize, part: Part) -> Form
-    requires { OnHeader i (part_of part) }
     ensures { form_number result ≡ place_form t.now.words i (part_of part) }
 {
     match part {

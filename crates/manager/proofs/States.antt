@@ -34,3 +34,8 @@ one_number (Err UnfitState) (Err UnfitState) e = refl
 -- two answers that the promise allows are equal
 pub one_answer : (t s : List ℕ) (a b : Result (Unit {0}) NotAdmitted) → state_number a ≡ refused_state t s → state_number b ≡ refused_state t s → a ≡ b
 one_answer t s a b x y = one_number a b (x ∙ sym y)
+
+-- a refusal is not answer 0
+pub unfit-number : (e : NotAdmitted) → state_number (Err e) ≡ 0 → ⊥
+unfit-number BadTable z = omega arith
+unfit-number UnfitState z = omega arith

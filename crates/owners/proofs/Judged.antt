@@ -5,15 +5,20 @@ use mathlib.Core.Bool.{Bool, true, false, ◌&&◌, ◌||◌, not, and-true, or-
 use mathlib.Core.List.{List}
 use lib.Dec.{eqb, leb}
 use borrow.Author.Tests.{ne_eqb}
-use Rattle.rulebook.specs.Words.{implies, between}
-use Rattle.rulebook.specs.Table.{port_owner, network_owner, rule_owner, list_owner}
-use Rattle.rulebook.specs.Reasons.{item_owned}
+use Rattle.rulebook.specs.Words.{field, implies, between}
+use Rattle.rulebook.specs.Table.{port_word, port_owner, network_owner, rule_owner, list_owner, stranger}
+use Rattle.rulebook.specs.Reasons.{strangers_port, item_owned}
 use Rattle.words.specs.declared.sections.Port.{Port}
 use Rattle.words.specs.declared.sections.Network.{Network}
 use Rattle.words.specs.declared.sections.Rule.{Rule}
 use Rattle.words.specs.declared.sections.List.{List as ListRead}
 use Rattle.words.specs.declared.sections.Item.{Item}
 use Rattle.words.specs.Sections.{PortAt, NetworkAt, RuleAt, ListAt, ItemAt}
+
+-- The test of a port whose word is w and whose owner is x.
+pub strange : (t : List ℕ) (o p w x : ℕ) → w ≡ port_word t p → x ≡ field 4 4 w → (not (eqb x o) && not (eqb x 0)) ≡ strangers_port t o p
+unfolding strangers_port stranger
+strange t o p w x hw hx = rw (hx, hw)
 
 -- An item of kind k, where what it may name has owner o or not.
 

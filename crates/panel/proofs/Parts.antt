@@ -6,12 +6,23 @@ use mathlib.Core.List.{List, [], ◌∷◌, ◌++◌}
 use native.Mathlib.Omega.{arith}
 use lib.ListN.{length, length-append}
 use lib.Dec.{eqb}
+use borrow.Author.Tests.{ne_eqb}
 use Rattle.text.specs.Lines.{decimal, places}
 use Rattle.text.proofs.Digits.{length_digits, length-hex}
 use Rattle.text.proofs.Decimal.{decimal-within}
 use Rattle.panel.specs.declared.Counts.{Counts}
 use Rattle.panel.specs.Printed.{the_ports, the_networks, the_sources, by_part, count, label, numeral, line, line_at, lines, owner, shown_word}
 use Rattle.panel.specs.Inside.{Counted}
+
+-- behind the tests for the other three comes the trace
+pub by-trace : {A : Type 0} (part : ℕ) (a b c d : A) → (part ≡ 0 → ⊥) → (part ≡ 1 → ⊥) → (part ≡ 2 → ⊥) → by_part part a b c d ≡ d
+unfolding by_part
+by-trace part a b c d p n s = rw (ne_eqb part 0 p, ne_eqb part 1 n, ne_eqb part 2 s)
+
+-- `trace `
+pub trace-name : (part i : ℕ) → (part ≡ 0 → ⊥) → (part ≡ 1 → ⊥) → (part ≡ 2 → ⊥) → label part ++ numeral part i ≡ 116 ∷ 114 ∷ 97 ∷ 99 ∷ 101 ∷ 32 ∷ []
+unfolding label numeral
+trace-name part i p n s = rw (by-trace part _ _ _ _ p n s, by-trace part _ _ _ _ p n s)
 
 -- a thing's number is small
 module _ (t ws : List ℕ) (c : Counts) (counted : Counted t c) (i : ℕ) where

@@ -288,10 +288,12 @@ fn is_operator(o: u32) -> bool
 fn check_fit(t: &[u32], s: &[u32]) -> Result<(), NotShown>
     ensures { Fitting t.now s.now result }
 {
-    match manager::check_state(t, s) {
-        Ok(()) => Ok(()),
-        Err(NotAdmitted::BadTable) => Err(NotShown::BadTable),
-        Err(NotAdmitted::UnfitState) => Err(NotShown::UnfitState),
+    let Err(why) = manager::check_state(t, s) else {
+        return Ok(());
+    };
+    match why {
+        NotAdmitted::BadTable => Err(NotShown::BadTable),
+        NotAdmitted::UnfitState => Err(NotShown::UnfitState),
     }
 }
 

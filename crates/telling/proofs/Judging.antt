@@ -1,11 +1,13 @@
 -- What is judged of an event, and the supplier's state taken over. Assumes nothing.
-use Prim.Native.Nat.{ℕ, ◌-◌, ◌≤◌, min}
-use mathlib.Core.Path.{◌≡◌, refl, ◌∙◌}
-use mathlib.Core.List.{List, ◌++◌}
+use Prim.Native.Nat.{ℕ, ◌-◌, ◌<◌, ◌≤◌, min}
+use mathlib.Core.Path.{◌≡◌, refl, sym, ◌∙◌}
+use mathlib.Core.Bool.{true, false}
+use mathlib.Core.List.{List, ◌++◌, append-nil}
 use native.Mathlib.Omega.{arith}
-use lib.ListN.{length, take, drop, length-drop}
+use lib.ListN.{length, take, drop, length-drop, drop_of_length-le}
 use lib.Seq.{take_all}
-use borrow.Author.Tests.{eq-eqb, ne_eqb}
+use borrow.Author.Tests.{eq-eqb, ne_eqb, le-leb, lt-leb}
+use Rattle.rulebook.specs.Step.{refused_state}
 use Rattle.rulebook.specs.Hold.{beside}
 use Rattle.hold.specs.declared.Verdict.{Verdict}
 use Rattle.hold.specs.declared.Verdict.TheVariants.{AsOrdered, Refused, TracesPart, TheirsStops, OursStops, StatesPart}
@@ -14,7 +16,7 @@ use Rattle.telling.specs.declared.Judgement.TheVariants.{AnswersPart, Words}
 use Rattle.hold.proofs.Verdicts.{front-least, tail-least}
 use Rattle.text.specs.Lines.{decimal_line}
 use Rattle.telling.specs.Told.{held_event, states_label, verdict_label, verdict_line, labelled, side}
-use Rattle.telling.specs.Promises.{Judges}
+use Rattle.telling.specs.Promises.{Judges, Adopts}
 
 -- what stands behind the first n
 pub all-behind : (n : ℕ) (l : List ℕ) → take (length l - n) (drop n l) ≡ drop n l
@@ -72,3 +74,22 @@ words-side label (TracesPart k) answer ws = refl
 words-side label (TheirsStops k) answer ws = refl
 words-side label (OursStops k) answer ws = refl
 words-side label (StatesPart k) answer ws = refl
+
+-- the supplier's state, where it fits
+
+module _ (t s ws : List ℕ) where
+  pub too_short : length ws < length s → Adopts t s ws false s
+  too_short h = record { fits = rw (lt-leb (length s) (length ws) h); state = refl }
+
+  module _ (h : length s ≤ length ws) {k : ℕ} (is : k ≡ refused_state t (take (length s) ws)) where
+    pub not-fitting : (k ≡ 0 → ⊥) → Adopts t s ws false s
+    not-fitting n =
+        record { fits = rw (le-leb (length s) (length ws) h, ne_eqb (refused_state t (take (length s) ws)) 0 (λ z. n (is ∙ z))); state = refl }
+
+    pub adopted : {s' : List ℕ} {i : ℕ} → k ≡ 0 → length s ≤ i → i ≤ length s → s' ≡ take i ws ++ drop i s → Adopts t s ws true s'
+    adopted {s'} {i} z past in-side e =
+        let all : i ≡ length s = omega arith in
+        record {
+          fits = rw (le-leb (length s) (length ws) h, eq-eqb (refused_state t (take (length s) ws)) 0 (sym is ∙ z));
+          state = e ∙ rw (all, drop_of_length-le s {i = length s} (omega arith)) (append-nil (take (length s) ws));
+        }

@@ -13,12 +13,19 @@ use Rattle.rulebook.specs.Hold.{as_ordered}
 use Rattle.laws.proofs.Tests.{split}
 use Rattle.text.specs.Puts.{PutAt}
 use Rattle.text.proofs.Lay.{front-laid}
+use Rattle.events.specs.Answers as answers
 use Rattle.session.specs.Printed.{taken}
 use Rattle.telling.specs.Told.{held_event, sides, told_lines}
 use Rattle.telling.specs.Promises.{Took, result, Tells}
 use Rattle.telling.specs.Log.{Recorded, as_ours, onward, onward_line, log_lines, own_log, OwnLog}
 use Rattle.telling.specs.Log.{Holding, ended, missing, same, stopped, parted}
 use Rattle.telling.proofs.Exactly.{nothing-told, yes-ours}
+
+-- what `session::take` tells of our step
+pub reports-took : (t s : List ℕ) {trace : List ℕ} (e : ℕ) {k n v a m : ℕ} {s' trace' : List ℕ} → answers.Tells (taken t s e) trace k n v s' trace' → a ≡ k
+    → m ≡ n → Took t e s trace a m s' trace'
+reports-took t s e told number count =
+    record { answer = number ∙ told.answer; count = count ∙ told.count; state = told.state; words = told.words }
 
 -- of two lists that are nothing together each is nothing
 

@@ -9,7 +9,7 @@ use Rattle.std.proofs.Common.{refl, ◌⊎◌, inl, inr}
 use Rattle.std.proofs.lemmas.List.{take_min, drop_all}
 use Rattle.std.proofs.lemmas.Slice.{between_is}
 use Rattle.std.specs.List.{slice_range}
-use lib.Seq.{take-suc, length-take-le}
+use lib.Seq.{get_or-take, get_or-drop, take-suc, length-take-le}
 use Rattle.text.specs.Lines.{hex_line, hex_lines}
 use Rattle.text.specs.Puts.{lay, Put, run}
 use Rattle.text.proofs.Digits.{length-hex, length-hexes}
@@ -18,6 +18,9 @@ use Rattle.text.proofs.Puts.{laid}
 
 pub length_run : (ws : List ℕ) (from to : ℕ) → length (run ws from to) ≡ min to (length ws) - from
 length_run ws from to = simp (length-drop, length-take)
+
+pub run_at : (ws : List ℕ) (from to i : ℕ) → from + i < to → get_or (run ws from to) i 0 ≡ get_or ws (from + i) 0
+run_at ws from to i h = rw (get_or-drop, get_or-take)
 
 -- the run read as a range that ends within the words, and where there is no such range
 pub run-range : (ws : List ℕ) (from to end : ℕ) {part : List ℕ} → end ≡ min to (length ws) → part ≡ slice_range ws from end → part ≡ run ws from to

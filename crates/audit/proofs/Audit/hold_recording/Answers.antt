@@ -1,6 +1,7 @@
 -- `audit::Audit::hold_recording` meets its contract: what is told of our step is followed. Assumes nothing.
 use Rattle.std.proofs.Common.{arith, length-take-le}
-use Rattle.audit.proofs.Held.{reports-took, held-going, held_one}
+use Rattle.telling.proofs.Log.{reports-took}
+use Rattle.audit.proofs.Held.{held-going, held_one}
 use Rattle.audit.proofs.Audit.hold_recording.Goals as goal
 
 pub returns : goal.returns

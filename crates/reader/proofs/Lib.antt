@@ -1,0 +1,2 @@
+-- Laws of what is read.
+pub mod Words
