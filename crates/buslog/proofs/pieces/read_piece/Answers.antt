@@ -10,4 +10,5 @@ returns-then-may_have-byte c =
 
 pub returns-else-may_have-byte : goal.returns-else-may_have-byte
 returns-else-may_have-byte c =
-    no-piece (piece_of c.args.p) _ _ _ c.bytes_end-end.ensures.0 _ _ _ c.may_have.ensures c.byte.ensures c.ending.ensures c.if-may_have-byte.false
+    let ends = c.bytes_end-end.ensures in
+    no-piece (piece_of c.args.p) _ _ _ ends.0 _ _ _ c.may_have.ensures c.byte.ensures c.ending.ensures c.if-may_have-byte.false ends.1
