@@ -119,7 +119,9 @@ impl Audit<'_> {
             return Some(place);
         }
         let kept = slide(window, place.at, place.end);
-        let end = self.log.read_on(self.rt, window, kept)?;
+        let Ok(end) = self.log.read_on(self.rt, window, kept) else {
+            return None;
+        };
         Some(Place {
             ended: end < window.len(),
             at: 0,

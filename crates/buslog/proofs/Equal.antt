@@ -1,12 +1,18 @@
 -- The rulebook's test of two names, which is that of equality. Assumes nothing.
-use Prim.Native.Nat.{ℕ}
+use Prim.Native.Nat.{ℕ, ◌<◌, ◌≤◌}
 use mathlib.Core.Path.{◌≡◌, refl, sym}
 use mathlib.Core.Bool.{true, false}
 use mathlib.Core.List.{List}
+use native.Mathlib.Omega.{arith}
+use borrow.Author.Tests.{ltb-false, ltb-true}
 use Rattle.std.proofs.lemmas.Slice.Eq.{compares_Decides}
 use Rattle.std.specs.Bool.{Decides}
 use Rattle.laws.proofs.Tests.{split}
+use lib.Dec.{ltb}
 use Rattle.rulebook.specs.BusLog.{same}
+
+pub beneath : (i n : ℕ) → i ≤ n → (i ≡ n → ⊥) → i < n
+beneath i n h other = split (ltb i n) (λ e. ltb-true i n e) (λ e. absurd (other (omega (arith, ltb-false i n e))))
 
 same-Decides : (xs ys : List ℕ) → Decides (same xs ys) (xs ≡ ys)
 unfolding same

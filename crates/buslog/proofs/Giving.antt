@@ -1,6 +1,6 @@
 -- What a line gives, laid into an output: all of it, or the ticks that fit. Assumes nothing.
 use Prim.Native.Nat.{ℕ, zero, suc, ◌+◌, ◌-◌, ◌<◌, ◌≤◌, min}
-use mathlib.Core.Path.{◌≡◌, refl, sym, ap, ◌∙◌}
+use mathlib.Core.Path.{◌≡◌, refl, sym, ap, subst, ◌∙◌}
 use mathlib.Core.Bool.{Bool, true, false, cond}
 use mathlib.Core.List.{List, [], ◌∷◌, ◌++◌, append_assoc, append-nil}
 use native.Mathlib.Omega.{arith}
@@ -110,3 +110,8 @@ module _ (t : List ℕ) (network at : ℕ) (line : Line) (c : Cursor) (out : Lis
           long = length-set out' e w ∙ g.long;
           words = omega (arith, events);
         }
+
+-- the same of an output that is equal
+pub gives_as : (t : List ℕ) (network at : ℕ) (line : Line) (c : Cursor) (out : List ℕ) (n : ℕ) (r : Step) (o o' : List ℕ) → o' ≡ o
+    → Gives t network at line c out n r o → Gives t network at line c out n r o'
+gives_as t network at line c out n r o o' e g = subst (λ (x : List ℕ). Gives t network at line c out n r x) (sym e) g

@@ -1,6 +1,6 @@
 -- A piece at a place, and the pieces of a line one behind the other. Assumes nothing.
 use Prim.Native.Nat.{ℕ, ◌+◌, ◌-◌, ◌*◌, ◌^◌, ◌<◌, ◌≤◌, min}
-use mathlib.Core.Path.{◌≡◌, refl, sym, ap, ◌∙◌}
+use mathlib.Core.Path.{◌≡◌, refl, sym, ap, subst, ◌∙◌}
 use mathlib.Core.Bool.{Bool, true, false, ◌&&◌, and_assoc}
 use mathlib.Core.List.{List}
 use native.Mathlib.Omega.{arith}
@@ -10,6 +10,9 @@ use lib.ListN.{length, get_or, drop, get_or-eq_default}
 use lib.Seq.{drop-drop, get_or-drop}
 use lib.Dec.{eqb, ltb, leb}
 use denote.Ref.{Bor}
+use Rattle.std.specs.Prelude.{Option, Some, None, Result, Ok, Err}
+use Rattle.std.specs.Result.{result_ok}
+use Rattle.std.proofs.lemmas.Option.{same_Some, none-some}
 use Rattle.text.proofs.Digits.{below}
 use Rattle.laws.proofs.Tests.{split, clash, and_left, and_right}
 use Rattle.rulebook.specs.BusLog.{Piece, bytes_of, stands, behind, opening, seconds, micros, gap, name, identifier, pairs}
@@ -20,7 +23,7 @@ use Rattle.buslog.specs.declared.pieces.Piece as declared
 use Rattle.buslog.specs.declared.pieces.Piece.TheVariants.{Opening, Seconds, Micros, Gap, Name, Identifier, Pairs, ListedName}
 use Rattle.buslog.specs.declared.lines.Stamp.{Stamp}
 use Rattle.buslog.specs.declared.lines.Frame.{Frame}
-use Rattle.buslog.specs.Inside.{part, Finds, Fits, Numbers, stamp_stands, StampAt, frame_stands, FrameAt, Says}
+use Rattle.buslog.specs.Inside.{part, Finds, Misses, ReadsPiece, Fits, Numbers, stamp_stands, StampAt, frame_stands, FrameAt, Says}
 use Rattle.buslog.proofs.Runs.{run-front, none_left, length-part}
 
 -- what is behind one byte more, or behind the end
@@ -52,8 +55,17 @@ module _ (p : Piece) (text : List ℕ) (at end : ℕ) (ends : end ≡ at + lengt
         let place : get_or (drop at text) k 0 ≡ get_or text end 0 = get_or-drop at text k 0 ∙ rw ends in
         rw (s, y, l, q, place)
 
-    pub no-piece : sized && eqb b last ≡ false → stands p (drop at text) ≡ false
-    no-piece e = sym told ∙ e
+    pub no-piece : sized && eqb b last ≡ false → end ≤ length text → Misses p text at end
+    no-piece e within =
+        record {
+          stood = sym told ∙ e;
+          ends = ends;
+          bytes = bytes-part;
+          next = drop-next text end ∙ bytes-behind;
+          from = omega arith;
+          to = within;
+          inside = omega arith;
+        }
 
     -- no piece ends with the byte 0, which is read past the end
     pub a-piece : sized && eqb b last ≡ true → 0 < p.end → end ≤ length text → Finds p text at end
@@ -61,6 +73,7 @@ module _ (p : Piece) (text : List ℕ) (at end : ℕ) (ends : end ≡ at + lengt
         let is : b ≡ last = eqb-true b last (and_right sized (eqb b last) e) in
         record {
           stood = sym told ∙ e;
+          ends = ends;
           bytes = bytes-part;
           next = bytes-behind;
           from = omega arith;
@@ -77,6 +90,16 @@ ends-some Name = omega arith
 ends-some Identifier = omega arith
 ends-some Pairs = omega arith
 ends-some ListedName = omega arith
+
+-- what was read of a piece, where only a piece that stands is gone on from
+
+pub found : (p : Piece) (text : List ℕ) (at end : ℕ) (r : Result ℕ ℕ) → ReadsPiece p text at r → Some end ≡ result_ok r → Finds p text at end
+found p text at end (Ok e) f is = subst (λ (k : ℕ). Finds p text at k) (sym (same_Some end e is)) f
+found p text at end (Err e) f is = absurd (none-some end (sym is))
+
+pub missed : (p : Piece) (text : List ℕ) (at : ℕ) (r : Result ℕ ℕ) → ReadsPiece p text at r → None ≡ result_ok r → stands p (drop at text) ≡ false
+missed p text at (Ok e) f is = absurd (none-some e is)
+missed p text at (Err e) f is = f.stood
 
 -- a piece found at a place behind which ys stand
 pub record Over (p : Piece) (text : List ℕ) (at : ℕ) (ys : List ℕ) (end : ℕ) : Type 0 where

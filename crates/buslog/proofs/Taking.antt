@@ -14,7 +14,7 @@ use Rattle.laws.proofs.Tests.{split, clash}
 use Rattle.rulebook.specs.Table.{networks}
 use Rattle.rulebook.specs.BusLog.{Cursor, Reading, spelt, time, goes_back, network_of, number_of, fault, line_events, room, read_line}
 use Rattle.rulebook.specs.BusLog.{read_lines, unread, lines_behind, behind, Piece, bytes_of, at_pairs, pairs}
-use Rattle.rulebook.specs.BusLog.{opening, seconds, micros, gap, name, identifier, at_seconds, at_micros, at_gap, at_name, at_identifier}
+use Rattle.rulebook.specs.BusLog.{opening, seconds, micros, gap, name, identifier, at_seconds, at_micros, at_gap, at_name, at_identifier, listed_name, same}
 use Rattle.buslog.specs.declared.lines.Line.{Line}
 use Rattle.buslog.specs.declared.reading.Cursor.{Cursor as CursorRead}
 use Rattle.buslog.specs.declared.reading.Halt.{Halt}
@@ -49,6 +49,18 @@ pub same-network : (t names log line : List ℕ) (l : Line) (count r : ℕ) → 
     → r ≡ number_of l.name.now count names → r ≡ network_of t names line
 unfolding network_of
 same-network t names log line l count r says n e = e ∙ rw (says.name, n)
+
+-- a number sought among k names is k or less
+
+network-few : (called : List ℕ) (k : ℕ) (names : List ℕ) → number_of called k names ≤ k
+unfolding number_of
+network-few called zero names = omega arith
+network-few called (suc k) names =
+    let later = network-few called k (behind listed_name names) in
+    split (same called (bytes_of listed_name names)) (λ e. rw (e, number_of) (omega arith)) (λ e. rw (e, number_of) (omega arith))
+
+pub few-networks : (called : List ℕ) (k : ℕ) (names : List ℕ) (r : ℕ) → r ≡ number_of called k names → k < 256 → r < 256
+few-networks called k names r e h = omega (arith, e, network-few called k names)
 
 pub back_as : (c : Cursor) (log line : List ℕ) (l : Line) (b : Bool) → Says log line l → b ≡ goes_back c l.time → goes_back c (time line) ≡ b
 back_as c log line l b says e = sym (e ∙ rw says.time)
@@ -212,6 +224,11 @@ an-error (Err Misspelt) e z = omega arith
 an-error (Err GoesBack) e z = omega arith
 an-error (Err Unlisted) e z = omega arith
 an-error (Err NoRoom) e z = omega arith
+
+-- the same of an ending that is not `Ok`
+pub not-read : (r : Result (Unit {0}) Halt) → (r ≡ Ok tt → ⊥) → end_number r ≡ 0 → ⊥
+not-read (Ok tt) f z = f refl
+not-read (Err h) f z = an-error (Err h) refl z
 
 -- reading stands at a place of the log, n events being written, and what is to come makes the whole
 

@@ -1,6 +1,6 @@
 -- What the functions inside promise each other. A place is a number of bytes; `drop at text` is the text from it on.
 use Rattle.std.specs.Prelude.{ℕ, ◌+◌, ◌-◌, ◌*◌, ◌^◌, ◌≤◌, ◌<◌, min, ◌≡◌, Bool, true, false, cond, ◌&&◌, List, [], ◌∷◌, ◌++◌, length, take, drop, replicate, leb}
-use Rattle.std.specs.Prelude.{Option, Some, None, Result}
+use Rattle.std.specs.Prelude.{Option, Some, None, Result, Ok, Err}
 use Rattle.rulebook.specs.BusLog.{Piece, bytes_of, stands, behind, opening, seconds, micros, gap, identifier, pairs}
 use Rattle.rulebook.specs.BusLog.{at_seconds, at_micros, at_gap, at_name, lines_behind, spelt, number, number_of, time, interface}
 use Rattle.rulebook.specs.BusLog.{tells_bus_off, is_bus_off, Cursor, ticks_due, line_read, more_given, tick_word, bus_off_word, Reading}
@@ -16,18 +16,30 @@ use Rattle.buslog.specs.Promises.{cursor_as, end_number}
 abbrev pub part : List ℕ → ℕ → ℕ → List ℕ
 part text from to = take (to - from) (drop from text)
 
--- a piece that stands at a place: where its bytes end; the byte that ends it is there, and the next piece begins behind it
+-- a piece at a place: where its bytes end, whether it stands there or not, and where what is behind it begins
 
+-- one that stands: the byte that ends it is there, and the next piece begins behind that
 pub record Finds (p : Piece) (text : List ℕ) (at end : ℕ) : Type 0 where
   pub stood : stands p (drop at text) ≡ true
+  pub ends : end ≡ at + length (bytes_of p (drop at text))
   pub bytes : part text at end ≡ bytes_of p (drop at text)
   pub next : drop (end + 1) text ≡ behind p (drop at text)
   pub from : at ≤ end
   pub inside : end < length text
 
-abbrev pub ReadsPiece : Piece → List ℕ → ℕ → Option ℕ → Type 0
-ReadsPiece p text at (Some end) = Finds p text at end
-ReadsPiece p text at None = stands p (drop at text) ≡ false
+-- one that does not stand: what is behind it begins at the text's end where no byte is behind its bytes
+pub record Misses (p : Piece) (text : List ℕ) (at end : ℕ) : Type 0 where
+  pub stood : stands p (drop at text) ≡ false
+  pub ends : end ≡ at + length (bytes_of p (drop at text))
+  pub bytes : part text at end ≡ bytes_of p (drop at text)
+  pub next : drop (min (end + 1) (length text)) text ≡ behind p (drop at text)
+  pub from : at ≤ end
+  pub to : end ≤ length text
+  pub inside : min (end + 1) (length text) ≤ length text
+
+abbrev pub ReadsPiece : Piece → List ℕ → ℕ → Result ℕ ℕ → Type 0
+ReadsPiece p text at (Ok end) = Finds p text at end
+ReadsPiece p text at (Err end) = Misses p text at end
 
 -- a number that fits behind `start`: no byte is worth more than 255, so a digit of base 10 or more adds less than 29 digits of worth
 pub record Fits (digits : List ℕ) (base start : ℕ) : Type 0 where

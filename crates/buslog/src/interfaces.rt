@@ -26,7 +26,7 @@ pub fn stand(names: &[u8], k: usize) -> bool
 {
     let mut p = 0;
     for left in (0..k).rev() {
-        let Some(end) = read_piece(names, p, Piece::ListedName) else {
+        let Ok(end) = read_piece(names, p, Piece::ListedName) else {
             return false;
         };
         if number_of(&names[end + 1..], left, &names[p..end]).is_some() {

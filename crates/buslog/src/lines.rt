@@ -16,10 +16,10 @@ fn read_stamp(text: &[u8], at: usize) -> Option<Stamp>
     requires { at ≤ length text.now }
     ensures { ReadsStamp text.now at result }
 {
-    let bracket = read_piece(text, at, Piece::Opening)?;
-    let point = read_piece(text, bracket + 1, Piece::Seconds)?;
-    let closing = read_piece(text, point + 1, Piece::Micros)?;
-    let gap = read_piece(text, closing + 1, Piece::Gap)?;
+    let bracket = read_piece(text, at, Piece::Opening).ok()?;
+    let point = read_piece(text, bracket + 1, Piece::Seconds).ok()?;
+    let closing = read_piece(text, point + 1, Piece::Micros).ok()?;
+    let gap = read_piece(text, closing + 1, Piece::Gap).ok()?;
     let whole = read_number(&text[bracket + 1..point], 10, 0);
     let time = read_number(&text[point + 1..closing], 10, whole);
     Some(Stamp {
@@ -47,8 +47,8 @@ fn read_frame(text: &[u8], at: usize) -> Option<Frame>
     requires { at ≤ length text.now }
     ensures { ReadsFrame text.now at result }
 {
-    let hash = read_piece(text, at, Piece::Identifier)?;
-    let newline = read_piece(text, hash + 1, Piece::Pairs)?;
+    let hash = read_piece(text, at, Piece::Identifier).ok()?;
+    let newline = read_piece(text, hash + 1, Piece::Pairs).ok()?;
     let number = read_number(&text[at..hash], 16, 0);
     Some(Frame {
         bus_off: tells_bus_off(hash - at, number),
@@ -71,7 +71,7 @@ pub fn read_line(text: &[u8], at: usize) -> Option<Line<'_>>
     ensures { ReadsLine text.now at result }
 {
     let stamp = read_stamp(text, at)?;
-    let space = read_piece(text, stamp.next, Piece::Name)?;
+    let space = read_piece(text, stamp.next, Piece::Name).ok()?;
     let frame = read_frame(text, space + 1)?;
     Some(Line {
         time: stamp.time,

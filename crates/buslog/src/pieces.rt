@@ -81,16 +81,17 @@ pub fn bytes_end(text: &[u8], at: usize, p: Piece) -> usize
     text.len()
 }
 
-// Where the bytes of the piece end that stands at a place; the byte that ends it is there.
-pub fn read_piece(text: &[u8], at: usize, p: Piece) -> Option<usize>
+// Where the bytes of the piece end that stands at a place; the byte that ends it is there. Where the piece does not stand, the error is where its bytes
+// end.
+pub fn read_piece(text: &[u8], at: usize, p: Piece) -> Result<usize, usize>
     requires { at ≤ length text.now }
     ensures { ReadsPiece (piece_of p) text.now at result }
 {
     let end = bytes_end(text, at, p);
     if may_have(p, end - at) & (byte(text, end) == ending(p)) {
-        Some(end)
+        Ok(end)
     } else {
-        None
+        Err(end)
     }
 }
 

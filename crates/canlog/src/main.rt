@@ -103,7 +103,9 @@ impl CanLog<'_> {
         ensures { More at end window.old result window.new }
     {
         let kept = slide(window, at, end);
-        let end = self.log.read_on(self.rt, window, kept)?;
+        let Ok(end) = self.log.read_on(self.rt, window, kept) else {
+            return None;
+        };
         Some(Place {
             ended: end < window.len(),
             end,

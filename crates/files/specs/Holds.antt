@@ -1,5 +1,5 @@
 -- What an opened file has left in the bytes that were lent to open it, and what reading on leaves.
-use Rattle.std.specs.Prelude.{◌≡◌, List, ℕ, ◌≤◌, length, take, Option, Some, None}
+use Rattle.std.specs.Prelude.{◌≡◌, List, ℕ, ◌≤◌, length, take, Result, Ok, Err}
 use Rattle.files.specs.Counts.{IsPrefixLen}
 use Rattle.files.specs.declared.File.{File}
 
@@ -14,7 +14,7 @@ pub record Fills (from n : ℕ) (before after : List ℕ) : Type 0 where
   pub least : from ≤ length before → from ≤ n
   pub stay : take from after ≡ take from before
 
--- where a read failed, no count is told, and those bytes are as they were all the same
-abbrev pub FillsIf : ℕ → Option ℕ → List ℕ → List ℕ → Type 0
-FillsIf from (Some n) before after = Fills from n before after
-FillsIf from None before after = take from after ≡ take from before
+-- the same where a read failed: the count is of the bytes that the block had by then
+abbrev pub FillsIf : ℕ → Result ℕ ℕ → List ℕ → List ℕ → Type 0
+FillsIf from (Ok n) before after = Fills from n before after
+FillsIf from (Err n) before after = Fills from n before after

@@ -58,27 +58,27 @@ impl Source<'_> {
     }
 
     // Reads on behind the first `from` bytes of the block, which stay, until it is full or the file ends, so that only a file's last block can
-    // end inside a word, from a pipe too. It counts those bytes with those read. Nothing where a read fails, which is told.
-    pub fn read_on(self, rt: HostRuntime, block: &mut [u8], from: usize) -> Option<usize>
+    // end inside a word, from a pipe too. It counts those bytes with those read; where a read fails, which is told, the error has the count by then.
+    pub fn read_on(self, rt: HostRuntime, block: &mut [u8], from: usize) -> Result<usize, usize>
         ensures { FillsIf from result block.old block.new }
     {
         let mut bytes = from.min(block.len());
         // no `for`: each read says how far it came
         while bytes < block.len() {
-            let n = self.read_some(rt, block, bytes)?;
+            let n = self.read_some(rt, block, bytes).ok_or(bytes)?;
             if n == 0 {
                 break;
             }
             bytes += n;
         }
-        Some(bytes)
+        Ok(bytes)
     }
 
     // Reads the next block: no bytes at the file's end, and nothing where a read fails, which is told.
     pub fn read_block(self, rt: HostRuntime, block: &mut [u8]) -> Option<usize>
         ensures { IfSome result (λ n. IsPrefixLen n block.new) }
     {
-        self.read_on(rt, block, 0)
+        self.read_on(rt, block, 0).ok()
     }
 }
 

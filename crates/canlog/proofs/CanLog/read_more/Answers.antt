@@ -3,4 +3,4 @@ use Rattle.canlog.proofs.Reading.{more}
 use Rattle.canlog.proofs.CanLog.read_more.Goals as goal
 
 pub returns : goal.returns
-returns c = more _ c.slide-kept.ensures c.in_ok-end.ensures
+returns c = more _ c.slide-kept.ensures c.in-Ok.ensures
