@@ -71,9 +71,9 @@ fn take_next(
     requires { Admitted t.now.words s.old b }
     ensures { TakesEvent t.now.words s.old trace.old outcomes.now e result s.new trace.new }
 {
-    if trace.len() < b as usize {
+    let Some(_) = trace.len().checked_sub(b as usize) else {
         return Err(Refusal::ShortTrace);
-    }
+    };
     events::handle(t, e, s, trace, outcomes)
 }
 
