@@ -1,6 +1,6 @@
 -- The exits of one event. Assumes nothing.
 use Prim.Native.Nat.{ℕ}
-use Rattle.std.specs.Prelude.{Result, Ok}
+use Rattle.std.specs.Prelude.{Result, Ok, Err}
 use mathlib.Core.Path.{◌≡◌, refl, sym, ◌∙◌}
 use mathlib.Core.Bool.{Bool, true, false}
 use mathlib.Core.List.{List}
@@ -72,3 +72,12 @@ not_done Malformed = refl
 not_done BadOutcome = refl
 not_done NoSuchThing = refl
 not_done NotItsOwner = refl
+
+-- a check's answer that is not `Ok` refuses, and one that is does not
+
+pub not_taken : (h : Result (Unit {0}) Unheeded) → ((u : Unit {0}) → h ≡ Ok u → ⊥) → eqb (answer_of h) 0 ≡ false
+not_taken (Ok u) f = absurd (f u refl)
+not_taken (Err why) f = not_done why
+
+pub is-taken : (h : Result (Unit {0}) Unheeded) {u : Unit {0}} → h ≡ Ok u → eqb (answer_of h) 0 ≡ true
+is-taken h e = rw e

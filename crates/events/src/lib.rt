@@ -7,6 +7,7 @@ ghost use Rattle.rulebook.specs.Events.{request as request_of, tick as tick_of, 
 ghost use Rattle.rulebook.specs.Step.{heeded, handle as handle_of};
 ghost use Rattle.lists.specs.Runs.{Ran};
 ghost use Rattle.arbitration.specs.Asked.{MayArbitrate, MayArbitratePort};
+ghost use Rattle.refusals.specs.Answers.{answer_of};
 ghost use Rattle.events.specs.Answers.{refusal_of, refusal_number, number_of, count_of, visits_of, Reports};
 
 use arbitration::{arbitrate_marked, arbitrate_one};
@@ -155,6 +156,19 @@ fn heeded<'a>(t: &Table, outcomes: &'a [u32]) -> &'a [u32]
     }
 }
 
+// The answer of an event that its check refuses.
+fn refused(checked: Result<(), Unheeded>) -> Answer
+    ensures { (number_of result ≡ answer_of checked) × (count_of result ≡ 0) × (visits_of result ≡ 0) }
+{
+    match checked {
+        Ok(()) => Ok(Report {
+            count: 0,
+            visits: 0,
+        }),
+        Err(why) => Err(Refusal::from(why)),
+    }
+}
+
 // What comes after the checks of table, state and room.
 pub fn handle(t: &Table, e: u32, s: &mut [u32], trace: &mut [u32], outcomes: &[u32]) -> Answer
     requires { MayArbitrate t.now.words (happen_of t.now.words e (heeded t.now.words outcomes.now) s.old) trace.old }
@@ -162,7 +176,10 @@ pub fn handle(t: &Table, e: u32, s: &mut [u32], trace: &mut [u32], outcomes: &[u
         s.new trace.new }
 {
     let event = Event::from(e);
-    check_event(t, outcomes, event)?;
+    let checked = check_event(t, outcomes, event);
+    let Ok(()) = checked else {
+        return refused(checked);
+    };
     let written = happen(t, event, s, trace, heeded(t, outcomes));
     Ok(Report {
         count: written.count,

@@ -182,8 +182,14 @@ pub fn read(text: &[u8], words: &mut [u32]) -> Result<usize, Unread>
     ensures { Reads text.now words.old result words.new }
 {
     let mut header = [16842752, 65537, 0];
-    let from = read_header(text, &mut header).map_err(Unread::Line)?;
-    let n = scan_lines(text, from, &header).map_err(Unread::Line)?;
+    let opening = read_header(text, &mut header).map_err(Unread::Line);
+    let Ok(from) = opening else {
+        return opening;
+    };
+    let scanned = scan_lines(text, from, &header).map_err(Unread::Line);
+    let Ok(n) = scanned else {
+        return scanned;
+    };
     if words.len() < n {
         return Err(Unread::NoRoom);
     }

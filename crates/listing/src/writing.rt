@@ -121,11 +121,24 @@ pub fn bytes(listed: Result<usize, NotListed>) -> usize
     listed.unwrap_or(0)
 }
 
+// The answer on words that are no table.
+fn not_shaped(shape: Result<Table<'_>, Misshapen>) -> Result<usize, NotListed>
+    ensures { (listed_number result ≡ shape_number shape.entry) × (bytes_in result ≡ 0) }
+{
+    match shape {
+        Ok(_) => Ok(0),
+        Err(why) => Err(NotListed::from(why)),
+    }
+}
+
 // Lays a table's listing at the front of the lent bytes and answers how many they are, or refuses and changes none of them.
 pub fn list(words: &[u32], out: &mut [u8]) -> Result<usize, NotListed>
     ensures { Lists words.now out.old result out.new }
 {
-    let t = tables::shaped(words)?;
+    let shape = tables::shaped(words);
+    let Ok(t) = shape else {
+        return not_shaped(shape);
+    };
     let Some(_) = listing_room(&t, out.len()) else {
         return Err(NotListed::NoRoom);
     };

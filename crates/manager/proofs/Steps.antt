@@ -1,5 +1,5 @@
 -- The event call: its exits, and what its run needs. Assumes nothing.
-use Rattle.std.proofs.Common.{◌≡◌, ℕ, ◌<◌, ◌≤◌, true, List, length, refl, ◌∙◌, arith, le-ltb, Err}
+use Rattle.std.proofs.Common.{◌≡◌, ℕ, ◌<◌, ◌≤◌, true, List, length, refl, arith, le-ltb, Err}
 use Rattle.rulebook.specs.Reasons.{bound, accepted}
 use Rattle.rulebook.specs.Events.{happen}
 use Rattle.rulebook.specs.Step.{refused_state, first_fault, refused_event, conclude, heeded, step, handle}

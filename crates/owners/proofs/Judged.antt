@@ -1,13 +1,17 @@
 -- What the loops of rule 8 find, said of the rulebook's definitions. Assumes nothing.
-use Prim.Native.Nat.{ℕ}
+use Prim.Native.Nat.{ℕ, ◌+◌, ◌-◌, ◌<◌, ◌≤◌}
 use mathlib.Core.Path.{◌≡◌, refl, sym, ap, ◌∙◌}
 use mathlib.Core.Bool.{Bool, true, false, ◌&&◌, ◌||◌, not, and-true, or-true}
 use mathlib.Core.List.{List}
+use native.Mathlib.Omega.{arith}
 use lib.Dec.{eqb, leb}
 use borrow.Author.Tests.{ne_eqb}
-use Rattle.rulebook.specs.Words.{field, implies, between}
+use Rattle.rulebook.specs.Words.{field, implies, between, all, first}
+use Rattle.rulebook.specs.Table.{table_length, lists, items, lists_from, items_from, part}
 use Rattle.rulebook.specs.Table.{port_word, port_owner, network_owner, rule_owner, list_owner, stranger}
-use Rattle.rulebook.specs.Reasons.{strangers_port, item_owned}
+use Rattle.rulebook.specs.Reasons.{strangers_port, item_owned, owners, breaks}
+use Rattle.laws.proofs.Parts.{part-list, in-items}
+use Rattle.walks.proofs.Walks.{first-none, same_first}
 use Rattle.words.specs.declared.sections.Port.{Port}
 use Rattle.words.specs.declared.sections.Network.{Network}
 use Rattle.words.specs.declared.sections.Rule.{Rule}
@@ -71,3 +75,21 @@ module _ (t : List ℕ) (o i : ℕ) (x : Item) (read : ItemAt t i x) where
       ≡ item_owned t o i
   other-owned p n port network f g =
       sym (is-judged ∙ judged-other _ _ _ _ _ x.kind (ne_eqb x.kind 5 f) (ne_eqb x.kind 6 g) ∙ rw (port.owner.value, network.owner.value))
+
+-- A list is judged with its items.
+pub list-judged : (t : List ℕ) (l : ℕ) (x : ListRead) → ListAt t l x → l < lists t
+    → all x.first_item x.item_count (item_owned t x.owner) ≡ owners t (part t (lists_from t + l))
+unfolding owners
+list-judged t l x read b = rw (part-list t l b, read.owner.value, read.first-item.value, read.item_count.value)
+
+-- Past the lists nothing breaks rule 8.
+
+items-keep : (t : List ℕ) (k : ℕ) → items_from t ≤ k → breaks owners t k ≡ false
+unfolding breaks owners
+items-keep t k g = rw (in-items t k (omega arith))
+
+pub lists-end : (t : List ℕ) (l : ℕ) → l ≡ lists t → first (lists_from t + l) (table_length t - (lists_from t + l)) (breaks owners t) ≡ table_length t
+lists-end t l e =
+    same_first {i = lists_from t + l} {j = items_from t} {m = table_length t - (lists_from t + l)} {n = items t} (breaks owners t) (omega arith) (omega arith)
+    ∙ first-none (items_from t) (items t) (breaks owners t) (items-keep t)
+    ∙ omega arith

@@ -1,13 +1,11 @@
 // Rule 8: owners do not clash.
 #![tactic(auto, unfolding(rulebook::specs::Reasons::owners))]
 
-ghost use Rattle.std.specs.Prelude.{◌≡◌, length};
-ghost use Rattle.rulebook.specs.Table.{table_length, at_network, at_source, at_rule, at_list};
+ghost use Rattle.std.specs.Prelude.{◌≡◌, ◌<◌, length};
+ghost use Rattle.rulebook.specs.Table.{table_length, lists_from, part, at_network, at_source, at_rule};
 ghost use Rattle.rulebook.specs.Reasons.{strangers_port, item_owned, owners, lowest};
-ghost use Rattle.words.specs.Parts.{part_of};
 
 use expression::mentions_where;
-use scan::first_broken;
 use words::numbers::{
     ITEM_ASK, ITEM_CALL, ITEM_CLEAR, ITEM_LIST, ITEM_RULE, ITEM_STOP, NO_LIST, PLATFORM,
 };
@@ -74,19 +72,12 @@ fn item_owned(t: &Table, o: u32, i: u32) -> bool
         & ((o == PLATFORM) | (!(kind == ITEM_ASK) | (network_owner == o)))
 }
 
-// Whether the items of list l may all stand in it.
-fn list_owned(t: &Table, l: u32) -> bool
-    ensures { result ≡ owners t.now.words (at_list l) }
+// Whether the word at a place before the lists keeps rule 8.
+fn owned_before_lists(t: &Table, i: usize) -> bool
+    requires { i < lists_from t.now.words }
+    ensures { result ≡ owners t.now.words (part t.now.words i) }
 {
-    let owner = t.list(l).owner;
-    t.items_of(l).all(|i| item_owned(t, owner, i))
-}
-
-// Whether a word keeps rule 8. A list is judged with its items.
-fn owned(t: &Table, part: Part) -> bool
-    ensures { result ≡ owners t.now.words (part_of part) }
-{
-    match part {
+    match t.part(i) {
         Part::Header => true,
         Part::Port(_) => true,
         Part::Network(n) => network_owned(t, n),
@@ -94,15 +85,30 @@ fn owned(t: &Table, part: Part) -> bool
         Part::Source(k) => source_owned(t, k),
         Part::Expression(_) => true,
         Part::Rule(r) => rule_owned(t, r),
-        Part::List(l) => list_owned(t, l),
+        Part::List(_) => true,
         Part::Item(_) => true,
     }
 }
 
-// The place of the first word that breaks rule 8; the length where none does.
+// The place of the first word that breaks rule 8, a list's where one of its items may not stand in it; the length where none does.
 pub fn first_clash(t: &Table) -> usize
     requires { length t.now.words ≡ table_length t.now.words }
     ensures { result ≡ lowest owners t.now.words }
 {
-    first_broken(t, |part| owned(t, part))
+    'scan: {
+        for i in 0..t.list0() {
+            if !owned_before_lists(t, i) {
+                break 'scan i;
+            }
+        }
+        for l in 0..t.lists() {
+            let list = t.list(l);
+            for i in list.first_item..list.first_item + list.item_count {
+                if !item_owned(t, list.owner, i) {
+                    break 'scan t.list_place(l);
+                }
+            }
+        }
+        t.length()
+    }
 }

@@ -2,16 +2,16 @@
 -- Assumes nothing.
 use Prim.Native.Nat.{ℕ, zero, suc, ◌+◌, ◌-◌, ◌<◌, ◌≤◌}
 use mathlib.Core.Path.{◌≡◌, refl, sym, ap, ◌∙◌}
-use mathlib.Core.List.{List, [], ◌∷◌, ◌++◌}
+use mathlib.Core.List.{List, [], ◌++◌}
 use native.Mathlib.Numerals.{add-one}
 use native.Mathlib.Omega.{arith}
-use lib.ListN.{length, get_or, length-append}
+use lib.ListN.{length, length-append}
+use Rattle.std.specs.Prelude.{Option, Some, None}
 use Rattle.text.specs.Puts.{lay, PutAt}
 use Rattle.text.proofs.Lay.{lay-none, lay-more}
 use Rattle.text.proofs.Puts.{put-more, put-length}
 use Rattle.panel.specs.Printed.{count, line_at, lines, part_lines, panel, the_ports, the_networks, the_sources, the_trace}
-use Rattle.panel.specs.declared.Part.TheVariants.{Ports, Networks, Sources, Trace}
-use Rattle.panel.specs.Inside.{part_number}
+use Rattle.panel.specs.Inside.{Leaves}
 use Rattle.panel.proofs.Parts.{lines_next, lines_none}
 
 module _ (part o : ℕ) (t s ws : List ℕ) where
@@ -135,6 +135,11 @@ module _ (o : ℕ) (t s ws : List ℕ) where
     pub left-all : (left n : ℕ) → n ≡ 4 → left + length (first_parts n) ≡ room → left + length (panel o t s ws) ≡ room
     left-all left n e all = rw (← all-parts, ← e) all
 
+    -- the trace stands last
+    pub left-last : (left : ℕ) → left + length (first_parts 3) ≡ room → (r : Option ℕ) → Leaves (of the_trace) left r → Leaves (panel o t s ws) room r
+    left-last left all (Some n) h = left-all n 4 refl (left-more left 3 refl all n h)
+    left-last left all None h = no-more left 3 refl all (omega arith) h
+
   module _ (out : List ℕ) where
     pub laid-none : PutAt (first_parts 0) out 0 0 out
     unfolding first_parts
@@ -151,11 +156,3 @@ module _ (o : ℕ) (t s ws : List ℕ) where
 
     pub laid-all : (n : ℕ) → n ≡ 4 → {next : ℕ} {out' : List ℕ} → PutAt (first_parts n) out 0 next out' → PutAt (panel o t s ws) out 0 next out'
     laid-all n e all = rw (← all-parts, ← e) all
-
--- the parts stand in the order of their numbers
-pub nth-part : (n : ℕ) → n < 4 → part_number (get_or (Ports ∷ Networks ∷ Sources ∷ Trace ∷ []) n Ports) ≡ n
-nth-part zero h = refl
-nth-part (suc zero) h = refl
-nth-part (suc (suc zero)) h = refl
-nth-part (suc (suc (suc zero))) h = refl
-nth-part (suc (suc (suc (suc n)))) h = absurd (omega arith)

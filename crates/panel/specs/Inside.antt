@@ -33,6 +33,6 @@ Leaves xs room (Some left) = left + length xs ≡ room
 Leaves xs room None = room < length xs
 
 -- table and state stand, or are refused with a number other than 0
-abbrev pub Fitting : List ℕ → List ℕ → Result (Unit {0}) NotShown → Type 0
+abbrev pub Fitting : List ℕ → List ℕ → Result ℕ NotShown → Type 0
 Fitting t s (Ok _) = refused_state t s ≡ 0
 Fitting t s (Err e) = (refusal_number e ≡ refused_state t s) × (refusal_number e ≡ 0 → ⊥)

@@ -24,8 +24,6 @@ enum Part {
     Trace,
 }
 
-const PARTS: [Part; 4] = [Part::Ports, Part::Networks, Part::Sources, Part::Trace];
-
 // The word at an index; past the end it reads as 0.
 fn word(ws: &[u32], i: usize) -> u32
     ensures { result ≡ word_of ws.now i }
@@ -198,15 +196,15 @@ impl View<'_> {
         Some(left)
     }
 
-    // What the panel's lines leave of a room; none where they do not fit.
+    // What the panel's lines leave of a room; none where they do not fit. Each part is named at its call: a loop over the parts asks at each
+    // word which part it is in, and a trace may have thousands.
     fn room_left(&self, room: usize) -> Option<usize>
         ensures { let v = self.now in Leaves (panel v.operator v.table.now v.state.now v.words.now) room result }
     {
-        let mut left = room;
-        for part in PARTS {
-            left = self.part_room(part, left)?;
-        }
-        Some(left)
+        let behind_ports = self.part_room(Part::Ports, room)?;
+        let behind_networks = self.part_room(Part::Networks, behind_ports)?;
+        let behind_sources = self.part_room(Part::Sources, behind_networks)?;
+        self.part_room(Part::Trace, behind_sources)
     }
 
     // Lays the line of a part's i-th word, where the word is the operator's.
@@ -240,11 +238,10 @@ impl View<'_> {
         requires { let v = self.now in length (panel v.operator v.table.now v.state.now v.words.now) ≤ length out.old }
         ensures { let v = self.now in PutAt (panel v.operator v.table.now v.state.now v.words.now) out.old 0 result out.new }
     {
-        let mut next = 0;
-        for part in PARTS {
-            next = self.lay_part(out, next, part);
-        }
-        next
+        let behind_ports = self.lay_part(out, 0, Part::Ports);
+        let behind_networks = self.lay_part(out, behind_ports, Part::Networks);
+        let behind_sources = self.lay_part(out, behind_networks, Part::Sources);
+        self.lay_part(out, behind_sources, Part::Trace)
     }
 }
 
@@ -284,12 +281,12 @@ fn is_operator(o: u32) -> bool
     matches!(o, 1..=15)
 }
 
-// The manager's answer on the table and the state.
-fn check_fit(t: &[u32], s: &[u32]) -> Result<(), NotShown>
+// The manager's answer on the table and the state as the panel's, of which nothing is laid yet.
+fn check_fit(t: &[u32], s: &[u32]) -> Result<usize, NotShown>
     ensures { Fitting t.now s.now result }
 {
     let Err(why) = manager::check_state(t, s) else {
-        return Ok(());
+        return Ok(0);
     };
     match why {
         NotAdmitted::BadTable => Err(NotShown::BadTable),
@@ -302,10 +299,13 @@ fn check_fit(t: &[u32], s: &[u32]) -> Result<(), NotShown>
 pub fn show(o: u32, t: &[u32], s: &[u32], ws: &[u32], out: &mut [u8]) -> Result<usize, NotShown>
     ensures { Shows o t.now s.now ws.now out.old result out.new }
 {
-    if !is_operator(o) {
+    let true = is_operator(o) else {
         return Err(NotShown::NoOperator);
-    }
-    check_fit(t, s)?;
+    };
+    let fit = check_fit(t, s);
+    let Ok(_) = fit else {
+        return fit;
+    };
     let view = View {
         operator: o,
         table: t,

@@ -22,7 +22,7 @@ use Rattle.lists.specs.Runs.{Safe}
 use Rattle.std.specs.Prelude.{Result}
 use Rattle.events.specs.declared.Report.{Report}
 use Rattle.events.specs.declared.Refusal.{Refusal}
-use Rattle.events.specs.Answers.{number_of, count_of, visits_of, Reports}
+use Rattle.events.specs.Answers.{number_of, count_of, Reports}
 use Rattle.laws.proofs.Play.{stood-table, stood-state}
 use Rattle.manager.proofs.Steps.{safe}
 use Rattle.session.specs.Printed.{lines, taken, event_lines, most}

@@ -1,7 +1,7 @@
 -- Calls and blocks one after the other print what `printed` says of the whole, and none is ever stuck. Assumes nothing.
 use Prim.Native.Nat.{ℕ, zero, suc, ◌+◌, ◌%◌, ◌<◌, ◌≤◌}
 use mathlib.Core.Path.{◌≡◌, refl, sym, ap, ◌∙◌}
-use mathlib.Core.Bool.{true, false}
+use mathlib.Core.Bool.{true}
 use mathlib.Core.Logic.{◌⊎◌, ⊎_elim}
 use mathlib.Core.List.{List, [], ◌∷◌, ◌++◌, append-nil}
 use native.Mathlib.Nat.{add-zero}
@@ -9,8 +9,8 @@ use native.Mathlib.Omega.{arith}
 use lib.ListN.{length, take, drop, take-append-drop}
 use lib.Seq.{drop-drop, take-add, take-append_seam}
 use lib.Dec.{eqb}
-use borrow.Author.Tests.{eq-eqb, ne_eqb, le-leb}
-use Rattle.rulebook.specs.Reasons.{accepted, check, verdict, bound}
+use borrow.Author.Tests.{eq-eqb, le-leb}
+use Rattle.rulebook.specs.Reasons.{accepted, verdict, bound}
 use Rattle.rulebook.specs.State.{fits, fresh, state_length, fresh_answer, fresh_state}
 use Rattle.rulebook.specs.Step.{refused_call}
 use Rattle.laws.specs.Callable.{Callable}

@@ -1,6 +1,6 @@
 -- Reasons 1 to 4 by themselves, and as the beginning of the check. Assumes nothing.
 use Prim.Native.Nat.{ℕ}
-use mathlib.Core.Path.{◌≡◌, refl, sym, ap, subst, ◌∙◌}
+use mathlib.Core.Path.{◌≡◌, refl, sym, ap, ◌∙◌}
 use mathlib.Core.Bool.{true, false}
 use mathlib.Core.List.{List, [], ◌∷◌}
 use native.Mathlib.Omega.{arith}
@@ -103,7 +103,7 @@ some_of shape.WrongEdition z = omega arith
 some_of shape.WrongCounts z = omega arith
 some_of shape.WrongLength z = omega arith
 
-as_refused : (e : Misshapen) → finding (Err (fault_of e)) ≡ refused (shape_number (Err e)) 0
+pub as_refused : (e : Misshapen) → finding (Err (fault_of e)) ≡ refused (shape_number (Err e)) 0
 as_refused shape.TooShort = refl
 as_refused shape.WrongEdition = refl
 as_refused shape.WrongCounts = refl

@@ -3,7 +3,6 @@
 use Prim.Native.Nat.{ℕ, ◌<◌, ◌≤◌, min}
 use mathlib.Core.Path.{◌≡◌, refl, sym, ◌∙◌}
 use mathlib.Core.List.{List}
-use native.Mathlib.Omega.{arith}
 use lib.ListN.{length}
 use borrow.Author.Tests.{eqb-true}
 use Rattle.rulebook.specs.Listing.{shape_reason}
@@ -11,11 +10,10 @@ use Rattle.rulebook.specs.Table.{table_length, lists, no_list}
 use Rattle.rulebook.specs.Reasons.{exact_length, own_fields, names, nesting, owners, reached, bound, lowest, Link, first_of, check}
 use Rattle.laws.specs.Facts.{Nested}
 use Rattle.laws.proofs.Facts.{counts_of}
-use Rattle.nesting.specs.Depths.{Depths, Searched, Measured}
+use Rattle.nesting.specs.Depths.{Depths}
 use Rattle.reach.specs.Raised.{Judged}
-use Rattle.cost.specs.Costs.{Kept}
 use Rattle.tables.specs.Finding.{refused, promised}
-use Rattle.tables.proofs.Chain.{from_fields, from-names, from-nesting, from-owners, from-reached, from-cost, none_left}
+use Rattle.tables.proofs.Chain.{from-names, from-nesting, from-owners, from-reached, from-cost, none_left}
 use Rattle.tables.proofs.Chain.{kept, broken, kept-by-all, broken-at, refuses, dear, cheap, accepts, kept-everywhere, no-deep-list}
 use Rattle.tables.proofs.Shapes.{kept_of, left-fields}
 

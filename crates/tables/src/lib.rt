@@ -4,7 +4,7 @@
 ghost use Rattle.std.specs.Prelude.{◌≡◌, ◌&&◌, Err};
 ghost use Rattle.rulebook.specs.Reasons.{known_edition, counts_inside};
 ghost use Rattle.rulebook.specs.Listing.{shape_reason};
-ghost use Rattle.tables.specs.Finding.{finding, refused, promised, Says, fault_of, ShapesTable, Shapes};
+ghost use Rattle.tables.specs.Finding.{finding, refused, promised, shape_number, Says, fault_of, ShapesTable, Shapes};
 
 use cost::bound;
 use fields::first_misfit;
@@ -192,10 +192,23 @@ fn check_words(t: &Table) -> Result<u32, Fault>
     Ok(b)
 }
 
+// The answer on a table that one of reasons 1 to 4 refuses.
+fn not_shaped(shape: Result<Table<'_>, Misshapen>) -> Result<u32, Fault>
+    ensures { finding result ≡ refused (shape_number shape.entry) 0 }
+{
+    match shape {
+        Ok(_) => Ok(0),
+        Err(why) => Err(Fault::from(why)),
+    }
+}
+
 // B, or the first reason that holds.
 pub fn check(t: &[u32]) -> Result<u32, Fault>
     ensures { finding result ≡ promised t.now }
 {
-    let table = shaped(t)?;
+    let shape = shaped(t);
+    let Ok(table) = shape else {
+        return not_shaped(shape);
+    };
     check_words(&table)
 }

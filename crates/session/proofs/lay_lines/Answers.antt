@@ -1,6 +1,5 @@
 -- `session::lay_lines` meets its contract. Assumes nothing.
 use Rattle.session.proofs.Lines.{lines-laid}
-use borrow.Author.Rules.{rules}
 use Rattle.session.proofs.lay_lines.Goals as goal
 
 pub returns : goal.returns

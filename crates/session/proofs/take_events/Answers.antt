@@ -1,14 +1,9 @@
 -- `session::take_events` meets its promise. The loop's invariant: what `Along` says of the first i events. The measure is how many are
 -- left. Assumes nothing.
-use borrow.Author.Rules.{rules}
-use Prim.Native.Nat.{◌-◌}
 use mathlib.Core.Path.{◌≡◌, refl, sym, ◌∙◌}
 use native.Mathlib.Omega.{arith}
-use lib.ListN.{length}
-use borrow.Author.Tests.{not-true, not-false, leb-true, leb-false}
-use Rattle.session.specs.Promises.{offered}
 use Rattle.session.proofs.Steps.{ready-from}
-use Rattle.session.proofs.Along.{Along, begin, next, end, none-offered, offered-long, offered-at}
+use Rattle.session.proofs.Along.{begin, next, end, none-offered, offered-long, offered-at}
 use Rattle.session.proofs.take_events.Goals as goal
 
 pub returns-then-not-ready : goal.returns-then-not-ready

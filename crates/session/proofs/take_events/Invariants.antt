@@ -1,14 +1,8 @@
 -- `session::take_events` meets its promise. The loop's invariant: what `Along` says of the first i events. The measure is how many are
 -- left. Assumes nothing.
-use borrow.Author.Rules.{rules}
-use Prim.Native.Nat.{◌-◌}
-use mathlib.Core.Path.{refl, sym, ◌∙◌}
-use native.Mathlib.Omega.{arith}
 use lib.ListN.{length}
-use borrow.Author.Tests.{not-true, not-false, leb-true, leb-false}
 use Rattle.session.specs.Promises.{offered}
-use Rattle.session.proofs.Steps.{ready-from}
-use Rattle.session.proofs.Along.{Along, begin, next, end, none-offered, offered-long, offered-at}
+use Rattle.session.proofs.Along.{Along}
 use Rattle.session.proofs.take_events.Given as goal
 
 abbrev pub invariant-loop-i : goal.invariant-loop-i

@@ -1,6 +1,5 @@
 -- `states::fits` meets its contract. Assumes nothing.
 use Rattle.std.proofs.Common.{refl, sym, ◌∙◌}
-use Rattle.rulebook.specs.State as State
 use Rattle.walks.proofs.Walks.{all-turn, all-fails, all_end}
 use Rattle.states.proofs.Fitting.{wrong-length, right-length, fits-here}
 use Rattle.states.proofs.fits.Goals as goal
