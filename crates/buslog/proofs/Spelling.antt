@@ -10,7 +10,7 @@ use lib.ListN.{length, get_or, drop, get_or-eq_default}
 use lib.Seq.{drop-drop, get_or-drop}
 use lib.Dec.{eqb, ltb, leb}
 use denote.Ref.{Bor}
-use Rattle.std.specs.Prelude.{Option, Some, None, Result, Ok, Err}
+use Rattle.std.specs.Prelude.{Some, None, Result, Ok, Err}
 use Rattle.std.specs.Result.{result_ok}
 use Rattle.std.proofs.lemmas.Option.{same_Some, none-some}
 use Rattle.text.proofs.Digits.{below}
@@ -55,10 +55,13 @@ module _ (p : Piece) (text : List ℕ) (at end : ℕ) (ends : end ≡ at + lengt
         let place : get_or (drop at text) k 0 ≡ get_or text end 0 = get_or-drop at text k 0 ∙ rw ends in
         rw (s, y, l, q, place)
 
-    pub no-piece : sized && eqb b last ≡ false → end ≤ length text → Misses p text at end
-    no-piece e within =
+    pub no-piece : sized && eqb b last ≡ false → stands p (drop at text) ≡ false
+    no-piece e = sym told ∙ e
+
+    pub a-miss : sized && eqb b last ≡ false → end ≤ length text → Misses p text at end
+    a-miss e within =
         record {
-          stood = sym told ∙ e;
+          stood = no-piece e;
           ends = ends;
           bytes = bytes-part;
           next = drop-next text end ∙ bytes-behind;

@@ -1,6 +1,8 @@
 -- The answers of an event call in document 01's numbers, and what a call promises of a result of the rulebook.
 use Rattle.std.specs.Prelude.{ℕ, ◌≡◌, List, ◌++◌, length, drop, Result, Ok, Err}
 use Rattle.rulebook.specs.Step as rulebook
+use Rattle.states.specs.declared.NotAdmitted.{NotAdmitted}
+use Rattle.states.specs.declared.NotAdmitted.TheVariants as admission
 use Rattle.refusals.specs.declared.Unheeded.{Unheeded}
 use Rattle.refusals.specs.declared.Unheeded.TheVariants as unheeded
 use Rattle.events.specs.declared.Report.{Report}
@@ -13,6 +15,11 @@ refusal_of unheeded.Malformed = Malformed
 refusal_of unheeded.BadOutcome = BadOutcome
 refusal_of unheeded.NoSuchThing = NoSuchThing
 refusal_of unheeded.NotItsOwner = NotItsOwner
+
+-- the refusal where a table or a state does not stand
+abbrev pub unadmitted : NotAdmitted → Refusal
+unadmitted admission.BadTable = BadTable
+unadmitted admission.UnfitState = UnfitState
 
 abbrev pub refusal_number : Refusal → ℕ
 refusal_number BadTable = 1

@@ -8,12 +8,13 @@ ghost use Rattle.rulebook.specs.Step.{heeded, handle as handle_of};
 ghost use Rattle.lists.specs.Runs.{Ran};
 ghost use Rattle.arbitration.specs.Asked.{MayArbitrate, MayArbitratePort};
 ghost use Rattle.refusals.specs.Answers.{answer_of};
-ghost use Rattle.events.specs.Answers.{refusal_of, refusal_number, number_of, count_of, visits_of, Reports};
+ghost use Rattle.events.specs.Answers.{refusal_of, unadmitted, refusal_number, number_of, count_of, visits_of, Reports};
 
 use arbitration::{arbitrate_marked, arbitrate_one};
 use lists::Written;
 use refusals::event::Event;
 use refusals::{Unheeded, check_event};
+use states::NotAdmitted;
 use things::ports::request_port;
 use things::{change, tick_things};
 use words::numbers::{EVENT_MODE, EVENT_REQUEST, EVENT_TICK};
@@ -95,6 +96,18 @@ impl From<Unheeded> for Refusal {
             Unheeded::BadOutcome => Refusal::BadOutcome,
             Unheeded::NoSuchThing => Refusal::NoSuchThing,
             Unheeded::NotItsOwner => Refusal::NotItsOwner,
+        }
+    }
+}
+
+// The refusal of whoever has an admission and no event yet; `manager` makes its answers of one by itself.
+impl From<NotAdmitted> for Refusal {
+    ghost from_gives = { λ why refusal. refusal ≡ unadmitted why };
+
+    fn from(why: NotAdmitted) -> Refusal {
+        match why {
+            NotAdmitted::BadTable => Refusal::BadTable,
+            NotAdmitted::UnfitState => Refusal::UnfitState,
         }
     }
 }
@@ -185,4 +198,16 @@ pub fn handle(t: &Table, e: u32, s: &mut [u32], trace: &mut [u32], outcomes: &[u
         count: written.count,
         visits: written.visits,
     })
+}
+
+#[cfg(test)]
+mod tests {
+    use super::*;
+
+    // Document 01's numbers. No program takes a refusal from an admission alone.
+    #[test]
+    fn a_refused_admission_has_its_number(rt: HostRuntime) {
+        assert_eq!(rt; refusal_number(Refusal::from(NotAdmitted::BadTable)), 1);
+        assert_eq!(rt; refusal_number(Refusal::from(NotAdmitted::UnfitState)), 2);
+    }
 }

@@ -1,5 +1,5 @@
 -- The event call: its exits, and what its run needs. Assumes nothing.
-use Rattle.std.proofs.Common.{◌≡◌, ℕ, ◌<◌, ◌≤◌, true, List, length, refl, arith, le-ltb, Err}
+use Rattle.std.proofs.Common.{◌≡◌, ℕ, ◌<◌, ◌≤◌, true, List, length, refl, ◌∙◌, arith, le-ltb, Err}
 use Rattle.rulebook.specs.Reasons.{bound, accepted}
 use Rattle.rulebook.specs.Events.{happen}
 use Rattle.rulebook.specs.Step.{refused_state, first_fault, refused_event, conclude, heeded, step, handle}
@@ -11,7 +11,10 @@ use Rattle.lists.specs.Runs.{Safe}
 use Rattle.arbitration.specs.Asked.{Bounded}
 use Rattle.events.specs.declared.Refusal.{Refusal}
 use Rattle.events.specs.declared.Refusal.TheVariants as refusals
-use Rattle.events.specs.Answers.{Answered, refusal_number, number_of, count_of, visits_of, Reports}
+use Rattle.events.specs.Answers.{Answered, unadmitted, refusal_number, number_of, count_of, visits_of, Reports}
+use Rattle.states.specs.declared.NotAdmitted.{NotAdmitted}
+use Rattle.states.specs.declared.NotAdmitted.TheVariants.{BadTable, UnfitState}
+use Rattle.states.specs.Admission.{Admits, number_of as admission_number}
 use Rattle.manager.specs.Promises.{Admitted}
 
 -- table or state does not stand
@@ -29,6 +32,18 @@ refuses refusals.Malformed z = omega arith
 refuses refusals.NoSuchThing z = omega arith
 refuses refusals.NotItsOwner z = omega arith
 refuses refusals.BadOutcome z = omega arith
+
+-- what a refused admission tells
+module _ {t s : List ℕ} (why : NotAdmitted) (told : Admits t s (Err why)) where
+  pub unadmitted-number : number_of (Err (unadmitted why)) ≡ refused_state t s
+  unadmitted-number = same why ∙ told.number
+    where
+      same : (e : NotAdmitted) → number_of (Err (unadmitted e)) ≡ admission_number (Err e)
+      same BadTable = refl
+      same UnfitState = refl
+
+  pub unadmitted-refused : refused_state t s ≡ 0 → ⊥
+  unadmitted-refused z = refuses (unadmitted why) (unadmitted-number ∙ z)
 
 -- what the run needs: its words fit the trace, and its visits are few
 pub safe : (t s trace os : List ℕ) (e : ℕ) → accepted t ≡ true → bound t ≤ length trace → Safe (happen t e os s) trace

@@ -4,7 +4,7 @@ use mathlib.Core.Path.{subst}
 use native.Mathlib.Omega.{arith}
 use Rattle.buslog.specs.Pieces.{piece_of}
 use Rattle.buslog.specs.Inside.{Misses}
-use Rattle.buslog.proofs.Spelling.{a-piece, no-piece, ends-some}
+use Rattle.buslog.proofs.Spelling.{a-piece, a-miss, ends-some}
 use Rattle.buslog.proofs.pieces.read_piece.Goals as goal
 
 pub returns-then-may_have-byte : goal.returns-then-may_have-byte
@@ -15,5 +15,5 @@ returns-then-may_have-byte c =
 pub returns-else-may_have-byte : goal.returns-else-may_have-byte
 returns-else-may_have-byte c =
     let ends = c.bytes_end-end.ensures in
-    let missed = no-piece (piece_of c.args.p) _ _ _ ends.0 _ _ _ c.may_have.ensures c.byte.ensures c.ending.ensures c.if-may_have-byte.false ends.1 in
+    let missed = a-miss (piece_of c.args.p) _ _ _ ends.0 _ _ _ c.may_have.ensures c.byte.ensures c.ending.ensures c.if-may_have-byte.false ends.1 in
     subst (λ (k : ℕ). Misses (piece_of c.args.p) c.args.text.now c.args.at k) (omega (arith, missed.from)) missed
