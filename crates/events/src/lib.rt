@@ -100,7 +100,7 @@ impl From<Unheeded> for Refusal {
     }
 }
 
-// The refusal of whoever has an admission and no event yet; `manager` makes its answers of one by itself.
+// For a caller that has an admission alone. `manager`, which has a whole answer to give, makes it in `not_admitted`.
 impl From<NotAdmitted> for Refusal {
     ghost from_gives = { λ why refusal. refusal ≡ unadmitted why };
 
